@@ -153,8 +153,8 @@ function parseFloatBits(kind, json) {
     const bits = json.text.startsWith("NaN:") && json.text.length === 4 + width.digits && /^[0-9a-fA-F]+$/.test(json.text.slice(4))
       ? BigInt(`0x${json.text.slice(4)}`) : 0n;
     if (bits % width.sign > width.none) return bits;
-  } else throw new Wrong("a number is wanted");
-  throw new Wrong("a float is out of range, or another text than `NaN`, `Infinity`, `-Infinity`");
+  } else throw new Wrong("expected a number");
+  throw new Wrong("the float is out of range, or the string is none of `NaN`, `Infinity`, `-Infinity`");
 }
 
 // ---- JSON: numbers by their digits, members in their order and as often as they come
@@ -162,7 +162,7 @@ function parseFloatBits(kind, json) {
 /** A text as a value: one of `null`, `truth`, `number` (its digits), `text`, `items`, `members` (pairs). */
 export function parseJson(text, depth = 2 * GREATEST_DEPTH) {
   let at = 0;
-  const fail = () => { throw new Wrong("the line is no JSON", `column ${[...text.slice(0, at)].length + 1}`); };
+  const fail = () => { throw new Wrong("the line isn't JSON", `column ${[...text.slice(0, at)].length + 1}`); };
   const blank = () => { while (at < text.length && " \t\n\r".includes(text[at])) at++; };
   const token = /-?(?:0|[1-9]\d*)(?:\.\d+)?(?:[eE][-+]?\d+)?|"(?:[^"\\\u0000-\u001f]|\\(?:["\\/bfnrt]|u[0-9a-fA-F]{4}))*"|true|false|null/y;
   const sequence = (close, part) => {
@@ -220,8 +220,8 @@ export function parseJson(text, depth = 2 * GREATEST_DEPTH) {
 /** What a number that isn't of the type is told. */
 function rangeOf(integer) {
   const [, sign, width] = INTEGER.exec(integer), bits = Number(width), signed = sign === "i";
-  if (bits <= 32) return `a number from ${signed ? -(2 ** (bits - 1)) : 0} to ${2 ** (bits - (signed ? 1 : 0)) - 1} is wanted`;
-  return signed ? `a number from -2^${bits - 1} to 2^${bits - 1} - 1 is wanted` : `a number from 0 to 2^${bits} - 1 is wanted`;
+  if (bits <= 32) return `expected a number from ${signed ? -(2 ** (bits - 1)) : 0} to ${2 ** (bits - (signed ? 1 : 0)) - 1}`;
+  return signed ? `expected a number from -2^${bits - 1} to 2^${bits - 1} - 1` : `expected a number from 0 to 2^${bits} - 1`;
 }
 function integerOf(integer, digits) {
   const [, sign, width] = INTEGER.exec(integer), bits = Number(width);
@@ -407,10 +407,10 @@ export class Table {
     return Uint8Array.from(out);
   }
   #put(out, place, json, depth) {
-    if (depth === 0) throw new Wrong("the value nests too deep: `depth=` says how deep it may");
+    if (depth === 0) throw new Wrong("the value is nested too deeply: `depth=` sets the limit");
     const node = this.nodes[place];
     switch (node.kind) {
-      case "bool": if (json.truth === undefined) throw new Wrong("true or false is wanted"); out.push(json.truth ? 1 : 0); break;
+      case "bool": if (json.truth === undefined) throw new Wrong("expected true or false"); out.push(json.truth ? 1 : 0); break;
       case "char": case "text": this.#putText(out, node, json); break;
       case "bytes": this.#putBytes(out, json); break;
       case "f32": case "f64": out.push(...bytesOfFixed(parseFloatBits(node.kind, json), 8 * WIDTHS[node.kind].bytes, "little")); break;
@@ -421,15 +421,15 @@ export class Table {
       case "struct": this.#putStruct(out, node, json, depth - 1); break;
       case "tuple": this.#putTuple(out, node, json, depth - 1); break;
       case "enum": this.#putVariant(out, node, json, depth - 1); break;
-      case "unit": case "empty": if (!json.null) throw new Wrong("a struct without fields is wanted"); break;
+      case "unit": case "empty": if (!json.null) throw new Wrong("expected a struct without fields"); break;
       default: this.#putNumber(out, node, json);
     }
   }
   #putNumber(out, node, json) {
-    if (json.number === undefined) throw new Wrong("a number is wanted");
+    if (json.number === undefined) throw new Wrong("expected a number");
     const integer = node.integer ?? node.kind, n = integerOf(integer, json.number);
     if (n !== undefined) return this.#putInteger(out, node, n);
-    throw new Wrong(/[.eE]/.test(json.number) ? "a number without fraction or exponent is wanted" : rangeOf(integer));
+    throw new Wrong(/[.eE]/.test(json.number) ? "expected a number without fraction or exponent" : rangeOf(integer));
   }
   #putInteger(out, node, n) {
     if (node.kind === "fixed") out.push(...bytesOfFixed(n, Number(node.integer.slice(1)), node.order));
@@ -438,28 +438,28 @@ export class Table {
   }
   #putText(out, node, json) {
     const isChar = node.kind === "char";
-    if (json.text === undefined) throw new Wrong(isChar ? "a text of one character is wanted" : "a text is wanted");
+    if (json.text === undefined) throw new Wrong(isChar ? "expected a string of one character" : "expected a string");
     this.#putString(out, node, json.text);
   }
   #putString(out, node, text) {
     const bytes = TEXT.encode(text);
-    if (node.kind === "char" && [...text].length !== 1) throw new Wrong("a text of one character is wanted");
-    if (node.kind === "text" && node.most !== null && bytes.length > node.most) throw new Wrong("a text is too long");
+    if (node.kind === "char" && [...text].length !== 1) throw new Wrong("expected a string of one character");
+    if (node.kind === "text" && node.most !== null && bytes.length > node.most) throw new Wrong("the string is too long");
     putVarint(out, BigInt(bytes.length));
     for (const byte of bytes) out.push(byte);
   }
   #digits(text) {
-    if (text.length % 2 || !/^[0-9a-fA-F]*$/.test(text)) throw new Wrong("the text isn't hexadecimal");
+    if (text.length % 2 || !/^[0-9a-fA-F]*$/.test(text)) throw new Wrong("the string isn't hexadecimal");
     return Array.from(text.matchAll(/../g), ([it]) => parseInt(it, 16));
   }
   #putBytes(out, json) {
     const bytes = json.text !== undefined ? this.#digits(json.text) : json.items?.map((it, i) => inside(`[${i}]`, () => {
-      if (it.number === undefined) throw new Wrong("a byte is wanted");
+      if (it.number === undefined) throw new Wrong("expected a byte");
       const n = integerOf("u8", it.number);
       if (n === undefined) throw new Wrong(rangeOf("u8"));
       return Number(n);
     }));
-    if (!bytes) throw new Wrong("an array of bytes is wanted, or their digits");
+    if (!bytes) throw new Wrong("expected an array of bytes or a string of hexadecimal digits");
     putVarint(out, BigInt(bytes.length));
     for (const byte of bytes) out.push(byte);
   }
@@ -467,7 +467,7 @@ export class Table {
     if (json.null) return void out.push(0);
     let held = json;
     if (this.#mayBeNull(node.node)) {
-      if (json.members?.length !== 1 || json.members[0][0] !== "Some") throw new Wrong('null or {"Some": ..} is wanted');
+      if (json.members?.length !== 1 || json.members[0][0] !== "Some") throw new Wrong('expected null or {"Some": ..}');
       held = json.members[0][1];
     }
     out.push(1);
@@ -481,7 +481,7 @@ export class Table {
       out.push(...bytes);
       return bytes.length;
     }
-    if (!json.items) throw new Wrong(isByte ? "an array of bytes is wanted, or their digits" : "an array is wanted");
+    if (!json.items) throw new Wrong(isByte ? "expected an array of bytes or a string of hexadecimal digits" : "expected an array");
     json.items.forEach((it, i) => inside(`[${i}]`, () => this.#put(out, place, it, depth)));
     return json.items.length;
   }
@@ -491,9 +491,9 @@ export class Table {
     if (node.kind === "list") n = this.#putElements(items, node.node, json, depth);
     else if (json.members && this.#hasTextKeys(node.node)) n = this.#putPairs(items, node.node, json.members, depth);
     else if (json.items) n = this.#putElements(items, node.node, json, depth);
-    else throw new Wrong("an object is wanted, or an array of pairs");
+    else throw new Wrong("expected an object or an array of pairs");
     const most = node.most ?? (this.nodes[node.node].size === 0 ? this.#empty : n);
-    if (n > most) throw new Wrong("the list has more elements than the type takes");
+    if (n > most) throw new Wrong("the list has more elements than the type allows");
     putVarint(out, BigInt(n));
     for (const byte of items) out.push(byte);
   }
@@ -501,7 +501,7 @@ export class Table {
     const [key, held] = this.nodes[pair].nodes;
     for (const [name, json] of members) {
       inside(name, () => {
-        if (depth === 0) throw new Wrong("the value nests too deep: `depth=` says how deep it may");
+        if (depth === 0) throw new Wrong("the value is nested too deeply: `depth=` sets the limit");
         this.#putKey(out, key, name, depth - 1);
         this.#put(out, held, json, depth - 1);
       });
@@ -509,7 +509,7 @@ export class Table {
     return members.length;
   }
   #putKey(out, place, name, depth) {
-    if (depth === 0) throw new Wrong("the value nests too deep: `depth=` says how deep it may");
+    if (depth === 0) throw new Wrong("the value is nested too deeply: `depth=` sets the limit");
     const node = this.nodes[place];
     if (node.kind === "newtype") return this.#putKey(out, node.node, name, depth - 1);
     if (node.kind === "bool") {
@@ -528,13 +528,13 @@ export class Table {
   }
   #putArray(out, node, json, depth) {
     const n = this.#putElements(out, node.node, json, depth);
-    if (n !== node.count) throw new Wrong("the array has another length than the type");
+    if (n !== node.count) throw new Wrong("the array has another length than the type's");
   }
   #putStruct(out, node, json, depth) {
-    if (node.fields.length === 0 && json.members?.length !== 0) throw new Wrong("a struct without fields is wanted");
+    if (node.fields.length === 0 && json.members?.length !== 0) throw new Wrong("expected a struct without fields");
     for (const { name, node: place } of node.fields) {
       inside(name, () => {
-        if (!json.members) throw new Wrong("an object of the fields is wanted");
+        if (!json.members) throw new Wrong("expected an object with the fields");
         const found = json.members.find(([key]) => key === name);
         if (!found) throw new Wrong("a field is missing");
         this.#put(out, place, found[1], depth);
@@ -545,27 +545,27 @@ export class Table {
     const unknown = names.find((key) => !node.fields.some((it) => it.name === key));
     if (unknown !== undefined) throw new Wrong("the type has no such field", shown(unknown));
     const twice = names.find((key, i) => names.indexOf(key, i + 1) >= 0);
-    throw new Wrong("the field stands twice", shown(twice));
+    throw new Wrong("the field appears twice", shown(twice));
   }
   #putTuple(out, node, json, depth) {
-    if (node.nodes.length === 0 && json.items?.length !== 0) throw new Wrong("a struct without fields is wanted");
+    if (node.nodes.length === 0 && json.items?.length !== 0) throw new Wrong("expected a struct without fields");
     node.nodes.forEach((place, i) => inside(`[${i}]`, () => {
-      if (json.items?.length !== node.nodes.length) throw new Wrong("an array of as many elements as the tuple has is wanted");
+      if (json.items?.length !== node.nodes.length) throw new Wrong("expected an array with as many elements as the tuple has");
       this.#put(out, place, json.items[i], depth);
     }));
   }
   #putVariant(out, node, json, depth) {
     const [name, held] = json.text !== undefined ? [json.text] : json.members?.length === 1 ? json.members[0] : [];
-    if (name === undefined) throw new Wrong("a variant is wanted");
+    if (name === undefined) throw new Wrong("expected a variant");
     const index = (node.variants ?? []).findIndex((it) => it.name === name);
     if (index < 0) throw new Wrong("the type has no such variant", shown(name));
     const place = node.variants[index].node, isEmpty = this.nodes[place].kind === "empty";
     putVarint(out, BigInt(index));
     inside(name, () => {
-      if (!held && !isEmpty) throw new Wrong("the variant has fields, so an object of its name is wanted");
-      if (held && isEmpty && !held.null) throw new Wrong("the variant has no fields, so its name alone is wanted");
+      if (!held && !isEmpty) throw new Wrong("the variant has fields: expected an object with its name as the key");
+      if (held && isEmpty && !held.null) throw new Wrong("the variant has no fields: expected its name alone");
       if (!isEmpty) this.#put(out, place, held, depth);
-      else if (depth === 0) throw new Wrong("the value nests too deep: `depth=` says how deep it may");
+      else if (depth === 0) throw new Wrong("the value is nested too deeply: `depth=` sets the limit");
     });
   }
 }

@@ -110,10 +110,10 @@ try {
   assert.deepEqual(await browser.run("written"), [0, ...frameOf(Uint8Array.from([1, 7, ...zigzag(-200), 1, 5])), 0]);
   assert.match(await text("sent"), /^6 bytes: 01 07 8f 03 01 05$/);
   for (const [json, why] of [
-    ['{"Reading":{"sensor":7,"level":99999,"light":"Dark"}}', "Reading.level: a number from -32768 to 32767 is wanted"],
+    ['{"Reading":{"sensor":7,"level":99999,"light":"Dark"}}', "Reading.level: expected a number from -32768 to 32767"],
     ['{"Reading":{"sensor":7,"level":1}}', "Reading.light: a field is missing"],
     ['{"Stop":1}', "Stop: the type has no such variant"],
-    ['{"Log":"x"', "column 11: the line is no JSON"],
+    ['{"Log":"x"', "column 11: the line isn't JSON"],
   ]) {
     await set("json", json);
     await click("send");

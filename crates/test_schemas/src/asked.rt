@@ -7,11 +7,13 @@ use std::alloc::{AllocError, Global};
 use wire_lib::DEPTH;
 use wire_lib::raw::{message_of, put_message};
 use wire_lib::receive::{LinesOfFrames, Reading};
-use wire_lib::send::{Sending, frame_of};
+use wire_lib::send::{FramesOfLines, Sending, frame_of};
 use wire_lib::shown::Shown;
 use wire_lib::summed::add_summed;
 use wire_lib::table_json::table_json;
-use wire_lib::words::{Mode, options_of};
+use wire_lib::watching::picture::{View, picture};
+use wire_lib::watching::viewer::Viewer;
+use wire_lib::words::{Action, options_of};
 
 /// These names.
 fn names(alloc: Global, all: &[&str]) -> Result<Vec<String>, AllocError> {
@@ -245,6 +247,85 @@ fn is_sum_read(alloc: Global, schema: &Schema, place: usize) -> Result<bool, All
     Ok(!is_good && are_equal(&lines, SUMMED_LINES.as_bytes()))
 }
 
+/// What the viewer of both has as lines, and its picture.
+const VIEWED: &str = "message 300\ndamaged at 8, 7 bytes: 07ac02368065ac\n";
+
+const PICTURE: [&str; 4] = [
+    "message              count  last",
+    "message                  1  300",
+    "no message               1",
+    "  damaged at 8, 7 bytes: 07ac02368065ac",
+];
+
+/// Whether a picture has these lines.
+fn has_lines(shown: &[Vec<u8>], wanted: &[&str]) -> bool {
+    if shown.len() != wanted.len() {
+        return false;
+    }
+    for (line, text) in shown.iter().zip(wanted) {
+        if !are_equal(line, text.as_bytes()) {
+            return false;
+        }
+    }
+    true
+}
+
+/// Whether both are viewed so.
+fn is_sum_viewed(alloc: Global, schema: &Schema, place: usize) -> Result<bool, AllocError> {
+    let reading = Reading {
+        alloc,
+        schema,
+        place,
+        hex: false,
+        strict: false,
+        depth: DEPTH,
+        sentinel: 0,
+        summed: true,
+    };
+    let view = View {
+        columns: 80,
+        kinds: 8,
+        window: None,
+    };
+    let mut lines = Vec::new(alloc);
+    let mut viewer = Viewer::new(reading)?;
+    viewer.push(&SUMMED, 0, &mut lines)?;
+    viewer.push(&SPOILT, 0, &mut lines)?;
+    let is_good = viewer.finish(&mut lines)?;
+    let shown = picture(alloc, &viewer.table, view)?;
+    Ok(!is_good && are_equal(&lines, VIEWED.as_bytes()) && has_lines(&shown, &PICTURE))
+}
+
+/// Whether lines become frames: of 300, and of 1 without a line feed; the line between them is refused.
+fn are_frames_made(alloc: Global, schema: &Schema) -> Result<bool, AllocError> {
+    let sending = Sending {
+        alloc,
+        schema,
+        place: 0,
+        depth: DEPTH,
+        sentinel: 0,
+        summed: false,
+    };
+    let mut frames = Vec::new(alloc);
+    let mut wrongs = String::new(alloc);
+    let mut sender = FramesOfLines::new(sending);
+    sender.push(b"300\nnull\n1", &mut frames, &mut wrongs)?;
+    let is_good = sender.finish(&mut frames, &mut wrongs)?;
+    let are_right = are_equal(&frames, &[3, 0xac, 2, 0, 2, 1, 0]);
+    Ok(!is_good && are_right && wrongs.as_str() == "line 2: expected a number\n")
+}
+
+#[test]
+fn lines_as_frames(rt: HostRuntime) {
+    let Some(schema) = schema_of(rt.alloc(), "u16") else {
+        return check(&rt, false);
+    };
+    check(
+        &rt,
+        matches!(are_frames_made(rt.alloc(), &schema), Ok(true)),
+    );
+}
+
 #[test]
 fn sums_behind_messages(rt: HostRuntime) {
     let alloc = rt.alloc();
@@ -256,6 +337,10 @@ fn sums_behind_messages(rt: HostRuntime) {
         return check(&rt, false);
     };
     check(&rt, matches!(is_sum_read(alloc, &schema, place), Ok(true)));
+    check(
+        &rt,
+        matches!(is_sum_viewed(alloc, &schema, place), Ok(true)),
+    );
 }
 
 #[test]
@@ -276,61 +361,72 @@ const LINES: &str = r#"{"value":"Dark"}
 {"cut":{"from":7,"to":9}}
 "#;
 
-// The variant that is shown alone, the time, and what is shown.
-type ShownRow = (Option<&'static str>, Option<u64>, &'static str);
+/// The same with damage in red.
+const RED_LINES: &str = "{\"value\":\"Dark\"}
+{\"value\":{\"Lit\":5}}
+{\"value\":{\"Lits\":{\"Lit\":5}}}
+\u{1b}[31m{\"cut\":{\"from\":7,\"to\":9}}\u{1b}[0m
+";
 
-const SHOWN: [ShownRow; 4] = [
-    (None, None, LINES),
+// The variant that is shown alone, the time, whether damage is red, and what is shown.
+type ShownRow = (Option<&'static str>, Option<u64>, bool, &'static str);
+
+const SHOWN: [ShownRow; 5] = [
+    (None, None, false, LINES),
+    (None, None, true, RED_LINES),
     (
         Some("Dark"),
         None,
+        false,
         "{\"value\":\"Dark\"}\n{\"cut\":{\"from\":7,\"to\":9}}\n",
     ),
     (
         Some("Lit"),
         None,
+        false,
         "{\"value\":{\"Lit\":5}}\n{\"cut\":{\"from\":7,\"to\":9}}\n",
     ),
     (
         Some("Dark"),
         Some(61_007),
+        false,
         "{\"time\":61.007,\"value\":\"Dark\"}\n{\"time\":61.007,\"cut\":{\"from\":7,\"to\":9}}\n",
     ),
 ];
 
 /// Whether this is shown of the lines.
 fn is_shown(alloc: Global, row: ShownRow) -> Result<bool, AllocError> {
-    let (only, time, wanted) = row;
+    let (only, time, colour, wanted) = row;
     let mut out = Vec::new(alloc);
-    Shown::new(alloc, only)?.put(LINES.as_bytes(), time, &mut out)?;
+    Shown::new(alloc, only, colour)?.put(LINES.as_bytes(), time, &mut out)?;
     Ok(are_equal(&out, wanted.as_bytes()))
 }
 
 #[test]
 fn lines_that_are_shown(rt: HostRuntime) {
     for row in SHOWN {
-        check_row(&rt, row.2, matches!(is_shown(rt.alloc(), row), Ok(true)));
+        check_row(&rt, row.3, matches!(is_shown(rt.alloc(), row), Ok(true)));
     }
 }
 
 // A mode, a word, and whether it takes it.
-type WordRow = (Mode, &'static str, bool);
+type WordRow = (Action, &'static str, bool);
 
 const WORDS: [WordRow; 14] = [
-    (Mode::Read, "hex", true),
-    (Mode::Read, "only=Dark", true),
-    (Mode::Read, "sentinel=0a", true),
-    (Mode::Read, "sentinel=a", false),
-    (Mode::Read, "depth=0", false),
-    (Mode::Read, "bytes=text", false),
-    (Mode::Read, "hexx", false),
-    (Mode::Write, "raw", true),
-    (Mode::Write, "strict", false),
-    (Mode::Write, "from=1", false),
-    (Mode::Watch, "strict", true),
-    (Mode::Watch, "hex", false),
-    (Mode::Watch, "raw", false),
-    (Mode::Watch, "time", false),
+    (Action::Read, "hex", true),
+    (Action::Read, "only=Dark", true),
+    (Action::Read, "sentinel=0a", true),
+    (Action::Read, "sentinel=a", false),
+    (Action::Read, "depth=0", false),
+    (Action::Read, "bytes=text", false),
+    (Action::Read, "hexx", false),
+    (Action::Write, "raw", true),
+    (Action::Write, "strict", false),
+    (Action::Write, "from=1", false),
+    (Action::Watch, "strict", true),
+    (Action::Watch, "hex", false),
+    (Action::Watch, "raw", false),
+    (Action::Watch, "time", false),
 ];
 
 /// Whether a word is taken or named as this row says.

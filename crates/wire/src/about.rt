@@ -1,22 +1,22 @@
-//! What the program says of itself.
+//! The text of `--help`.
 use crate::USAGE;
 use help::About;
 
-/// What it answers to `--help` and `--version`.
+/// What `--help` and `--version` print.
 pub const ABOUT: About = About {
     name: "wire",
     text: "a device's messages as lines of JSON, by their declarations in Rust
 
-  read    makes a line of each frame on standard input
-  write   makes a frame of each line of JSON on standard input
-  watch   shows on a terminal the last message of each variant of TYPE, how many came and how many in
-          a second, and the last damage with its bytes; elsewhere a line for each, and this table
-  check   lists the types with their greatest sizes; `json` prints what they are as JSON
+  read    prints a line of JSON for each frame on standard input
+  write   writes a frame for each line of JSON on standard input
+  watch   shows on a terminal the last message of each variant of TYPE, their number and rate, and the
+          last damage with its bytes; elsewhere prints a line for each, and the table at the end
+  check   lists the types with their maximum sizes; `json` prints them as JSON, for other tools
 
-FILES is a file, several with commas between them, or a folder. Lines of `watch` are cut at the
-columns that COLUMNS says, or 80; as many kinds are shown as LINES lets, or 24. Status: 0 where all
-were messages, 1 at damage or a line that isn't of the type, 2 at wrong words or declarations, 3
-where a device or a file failed, 4 out of memory.
+FILES is a file, several separated by commas, or a folder. `watch` cuts lines at the width in COLUMNS,
+or 80, and shows as many kinds as fit into LINES, or 24. Damage is red on a terminal, unless NO_COLOR
+is set. Status: 0 if all were messages, 1 if some were damaged or not of the type, 2 for wrong
+arguments or declarations, 3 if a file or device failed, 4 out of memory.
 ",
     usage: USAGE,
 };

@@ -1,12 +1,12 @@
 //! Standard input and output.
-use crate::stop::{READ_FAULT, Stop, WRITE_FAULT, wrong};
+use crate::failure::{Failure, READ_FAULT, WRITE_FAULT, wrong};
 use std::io::{Read, Write};
 
-/// How many bytes are asked for in one read.
+/// The most bytes of one read.
 pub const ROOM: usize = 65536;
 
-/// Writes bytes to standard output, all of them before it returns.
-pub fn say(rt: &HostRuntime, bytes: &[u8]) -> Result<(), Stop> {
+/// Writes all of these bytes to standard output before it returns.
+pub fn say(rt: &HostRuntime, bytes: &[u8]) -> Result<(), Failure> {
     let mut stdout = rt.stdout();
     if stdout.write_all(bytes).is_err() || stdout.flush().is_err() {
         return Err(WRITE_FAULT);
@@ -14,25 +14,25 @@ pub fn say(rt: &HostRuntime, bytes: &[u8]) -> Result<(), Stop> {
     Ok(())
 }
 
-/// Writes lines to standard error, and forgets them.
-pub fn say_wrongs(rt: &HostRuntime, wrongs: &mut String) -> Result<(), Stop> {
+/// Writes lines to standard error, and clears them.
+pub fn say_wrongs(rt: &HostRuntime, wrongs: &mut String) -> Result<(), Failure> {
     if !wrongs.is_empty() && eprint!(rt; "{wrongs}").is_err() {
-        return Err(Stop::Fault("standard error: write failed"));
+        return Err(Failure::Fault("standard error: write failed"));
     }
     wrongs.clear();
     Ok(())
 }
 
-/// The bytes of standard input.
-pub fn read_some(rt: &HostRuntime, room: &mut [u8]) -> Result<usize, Stop> {
+/// Reads bytes of standard input, and returns how many; 0 at its end.
+pub fn read_some(rt: &HostRuntime, room: &mut [u8]) -> Result<usize, Failure> {
     match rt.stdin().read(room) {
         Ok(count) => Ok(count),
         Err(_) => Err(READ_FAULT),
     }
 }
 
-/// The bytes of standard input to its end.
-pub fn read_whole(rt: &HostRuntime) -> Result<Vec<u8>, Stop> {
+/// Reads standard input to its end.
+pub fn read_whole(rt: &HostRuntime) -> Result<Vec<u8>, Failure> {
     let mut whole = Vec::new(rt.alloc());
     let mut room = [0u8; ROOM];
     for _ in 0..u64::MAX {
@@ -45,8 +45,8 @@ pub fn read_whole(rt: &HostRuntime) -> Result<Vec<u8>, Stop> {
     Ok(whole)
 }
 
-/// The bytes of a text without its blanks and line ends.
-fn without_blanks(rt: &HostRuntime, text: &[u8]) -> Result<Vec<u8>, Stop> {
+/// A text without blanks and line ends.
+fn without_blanks(rt: &HostRuntime, text: &[u8]) -> Result<Vec<u8>, Failure> {
     let mut digits = Vec::new(rt.alloc());
     for byte in text {
         if !byte.is_ascii_whitespace() {
@@ -56,8 +56,8 @@ fn without_blanks(rt: &HostRuntime, text: &[u8]) -> Result<Vec<u8>, Stop> {
     Ok(digits)
 }
 
-/// The bytes that hexadecimal text stands for, blanks and line ends apart.
-pub fn bytes_of_digits(rt: &HostRuntime, text: &[u8]) -> Result<Vec<u8>, Stop> {
+/// Returns the bytes of hexadecimal text; blanks and line ends may be anywhere in it.
+pub fn bytes_of_digits(rt: &HostRuntime, text: &[u8]) -> Result<Vec<u8>, Failure> {
     let digits = without_blanks(rt, text)?;
     let mut bytes = Vec::from_elem(rt.alloc(), 0u8, digits.len() / 2)?;
     if hex::decode_to_slice(&digits, &mut bytes).is_err() {

@@ -1,25 +1,25 @@
-//! Messages of any device as lines of JSON, by the declarations of their types in Rust: `wire read FILES TYPE` makes a line of
-//! each frame that it reads, `wire write FILES TYPE` a frame of each line, `wire watch FILES TYPE` a picture of what comes, and
-//! `wire check FILES` lists the types. FILES is a file, several with commas between them, or a folder.
+//! Messages of any device as lines of JSON, by the Rust declarations of their types: `wire read FILES TYPE` prints a line for each
+//! frame, `wire write FILES TYPE` a frame for each line, `wire watch FILES TYPE` shows a live view, and `wire check FILES` lists the
+//! types. FILES is a file, several separated by commas, or a folder.
 //!
-//! The work is that of `wire_lib`.
+//! `wire_lib` does the work.
 #![tactic(auto)]
 
 ghost use Rattle.std.specs.Prelude.{◌≡◌, ◌≤◌, IfOk, OnErr, if◌then◌else◌};
 
 mod about;
 mod devices;
+mod failure;
 mod reading;
 mod sources;
-mod stop;
 mod types;
 mod watching;
 mod writing;
 
 use crate::about::ABOUT;
 use crate::devices::say;
+use crate::failure::{Failure, WRITE_FAULT, wrong};
 use crate::reading::read;
-use crate::stop::{Stop, WRITE_FAULT, wrong};
 use crate::types::{say_type, schema_of, type_of, types_of};
 use crate::watching::watch;
 use crate::writing::write;
@@ -35,9 +35,9 @@ use wire_lib::shown::has_variant;
 use wire_lib::sizes::bound_lists;
 use wire_lib::summed::add_summed;
 use wire_lib::table_json::table_json;
-use wire_lib::words::{Mode, Options, options_of};
+use wire_lib::words::{Action, Options, options_of};
 
-type Ran = Result<bool, Stop>;
+type Ran = Result<bool, Failure>;
 
 const USAGE: &str =
     "usage: wire read FILES TYPE [hex] [strict] [sentinel=HH] [from=OFFSET] [bytes=hex] [depth=N] [empty=N] [raw] [crc32] [only=VARIANT] [time]
@@ -46,7 +46,7 @@ const USAGE: &str =
        wire check FILES [json]
 ";
 
-/// Lists the types of files, and says why some can't be read.
+/// Lists the types of files, and reports why some can't be read.
 fn list_types(rt: &HostRuntime, files: &str) -> Ran {
     let (types, mut wrong) = types_of(rt, files)?;
     for it in &types {
@@ -55,10 +55,10 @@ fn list_types(rt: &HostRuntime, files: &str) -> Ran {
     if wrong.is_empty() {
         return Ok(true);
     }
-    Err(Stop::Plain(wrong))
+    Err(Failure::Plain(wrong))
 }
 
-/// Says what the types of files are.
+/// Does `check`: lists the types of files, or prints them as JSON.
 fn check(rt: &HostRuntime, files: &str, words: &[String]) -> Ran {
     match words {
         [] => list_types(rt, files),
@@ -68,16 +68,16 @@ fn check(rt: &HostRuntime, files: &str, words: &[String]) -> Ran {
             say(rt, &line)?;
             Ok(true)
         }
-        [word, ..] => Err(wrong_word(rt, word.as_str(), "isn't a word of `check`")),
+        [word, ..] => Err(wrong_word(rt, word.as_str(), "isn't an argument of `check`")),
     }
 }
 
-/// That a word is wrong, and which there are.
-fn wrong_word(rt: &HostRuntime, word: &str, why: &str) -> Stop {
+/// The failure for a wrong argument, with the usage.
+fn wrong_word(rt: &HostRuntime, word: &str, why: &str) -> Failure {
     wrong(rt, &["`", word, "` ", why, "\n", USAGE])
 }
 
-/// The type of the messages, and how deep they may nest: with their checksum, if one is asked for.
+/// The index of the messages' type, and their limit of nested nodes: with a checksum, if one is asked for.
 fn of_messages(
     alloc: Global,
     schema: &mut Schema,
@@ -92,7 +92,7 @@ fn of_messages(
 }
 
 /// Reads, writes or watches messages of a type.
-fn work(rt: &HostRuntime, mode: Mode, files: &str, name: &str, words: &[String]) -> Ran {
+fn work(rt: &HostRuntime, mode: Action, files: &str, name: &str, words: &[String]) -> Ran {
     let options = match options_of(mode, words) {
         Ok(options) => options,
         Err(it) => return Err(wrong_word(rt, it.word, it.why)),
@@ -108,7 +108,7 @@ fn work(rt: &HostRuntime, mode: Mode, files: &str, name: &str, words: &[String])
             &["`only=", variant, "`: the type has no such variant\n"],
         ));
     }
-    if mode == Mode::Write {
+    if mode == Action::Write {
         let sending = Sending {
             alloc,
             schema: &schema,
@@ -130,39 +130,39 @@ fn work(rt: &HostRuntime, mode: Mode, files: &str, name: &str, words: &[String])
         sentinel: options.sentinel,
         summed: options.summed,
     };
-    if mode == Mode::Watch {
+    if mode == Action::Watch {
         return watch(rt, reading);
     }
     read(rt, reading, options)
 }
 
-/// The mode of that name.
-fn mode_of(name: &str) -> Option<Mode> {
+/// The mode with this name.
+fn mode_of(name: &str) -> Option<Action> {
     match name {
-        "read" => Some(Mode::Read),
-        "write" => Some(Mode::Write),
-        "watch" => Some(Mode::Watch),
+        "read" => Some(Action::Read),
+        "write" => Some(Action::Write),
+        "watch" => Some(Action::Watch),
         _ => None,
     }
 }
 
-/// Does what the words behind a mode say: files, a type and options.
-fn of_type(rt: &HostRuntime, mode: Mode, words: &[String]) -> Ran {
+/// Does what the arguments after a mode ask for: files, a type and options.
+fn of_type(rt: &HostRuntime, mode: Action, words: &[String]) -> Ran {
     match words {
         [files, name, words @ ..] => work(rt, mode, files.as_str(), name.as_str(), words),
-        _ => Err(wrong(rt, &["files and a type are wanted\n", USAGE])),
+        _ => Err(wrong(rt, &["FILES and TYPE are missing\n", USAGE])),
     }
 }
 
-/// Does what the words behind the program's name say.
+/// Does what the program's arguments ask for.
 fn run(rt: &HostRuntime, words: &[String]) -> Ran {
     let [first, rest @ ..] = words else {
-        return Err(Stop::Plain(String::from_str(rt.alloc(), USAGE)?));
+        return Err(Failure::Plain(String::from_str(rt.alloc(), USAGE)?));
     };
     if first.as_str() == "check" {
         return match rest {
             [files, words @ ..] => check(rt, files.as_str(), words),
-            _ => Err(wrong(rt, &["`check` wants files\n", USAGE])),
+            _ => Err(wrong(rt, &["FILES is missing\n", USAGE])),
         };
     }
     match mode_of(first.as_str()) {
@@ -170,19 +170,19 @@ fn run(rt: &HostRuntime, words: &[String]) -> Ran {
         None => Err(wrong_word(
             rt,
             first.as_str(),
-            "is no mode: `read`, `write`, `watch` or `check`",
+            "isn't a mode: `read`, `write`, `watch` or `check`",
         )),
     }
 }
 
-/// The name that the program was called by, and the words behind it.
+/// The name that the program was called by, and its arguments.
 #[derive(Drop)]
 struct Call {
     name: String,
     words: Vec<String>,
 }
 
-/// What stands behind the last slash of a path.
+/// The part of a path after its last slash.
 fn last_of(path: &str) -> &str {
     match path.rsplit_once('/') {
         Some((_, last)) => last,
@@ -190,15 +190,15 @@ fn last_of(path: &str) -> &str {
     }
 }
 
-/// The words of the call.
-fn call_of(rt: &HostRuntime) -> Result<Call, Stop> {
+/// The name and arguments of this call.
+fn call_of(rt: &HostRuntime) -> Result<Call, Failure> {
     let alloc = rt.alloc();
     let mut args = match env::args(rt) {
         Ok(args) => args,
         Err(error) if error.kind() == ErrorKind::InvalidData => {
-            return Err(wrong(rt, &["a word isn't text in UTF-8\n"]));
+            return Err(wrong(rt, &["an argument isn't UTF-8\n"]));
         }
-        Err(_) => return Err(Stop::NoMemory),
+        Err(_) => return Err(Failure::NoMemory),
     };
     let name = match args.next() {
         Some(path) => String::from_str(alloc, last_of(path.as_str()))?,
@@ -211,32 +211,32 @@ fn call_of(rt: &HostRuntime) -> Result<Call, Stop> {
     Ok(Call { name, words })
 }
 
-/// Says why a run ended, and gives its status.
+/// Reports why the program stopped, if it did, and returns its status.
 fn report(rt: &HostRuntime, name: &str, ran: Ran) -> u8
     ensures told { IfOk ran (λ good. result ≡ (if good then 0 else 1)) }
     ensures failed { OnErr ran (2 ≤ result) }
 {
     let (said, status) = match ran {
         Ok(is_good) => return if is_good { 0 } else { 1 },
-        Err(Stop::Wrong(lines)) => (eprint!(rt; "{name}: {lines}"), 2),
-        Err(Stop::Plain(lines)) => (eprint!(rt; "{lines}"), 2),
-        Err(Stop::NoFile(line)) => (eprint!(rt; "{name}: {line}"), 3),
-        Err(Stop::Fault(what)) => (eprintln!(rt; "{name}: {what}"), 3),
-        Err(Stop::NoMemory) => (eprintln!(rt; "{name}: no memory"), 4),
+        Err(Failure::Wrong(lines)) => (eprint!(rt; "{name}: {lines}"), 2),
+        Err(Failure::Plain(lines)) => (eprint!(rt; "{lines}"), 2),
+        Err(Failure::NoFile(line)) => (eprint!(rt; "{name}: {line}"), 3),
+        Err(Failure::Fault(what)) => (eprintln!(rt; "{name}: {what}"), 3),
+        Err(Failure::NoMemory) => (eprintln!(rt; "{name}: no memory"), 4),
     };
     if said.is_ok() { status } else { 3 }
 }
 
-/// How the name of a program ends that watches without a word for it.
+/// If the program's name ends so, its mode is `watch` without an argument for it.
 const WATCH: &str = "watch";
 
-/// Answers words about the program, or does what they say; the status.
+/// Prints help or the version, or does what the arguments ask for; returns the status.
 fn status_of(rt: &HostRuntime, call: Call) -> u8 {
     if let Some(status) = answer(&mut rt.stdout(), ABOUT, &call.words) {
         return status;
     }
     let ran = if call.name.ends_with(WATCH) {
-        of_type(rt, Mode::Watch, &call.words)
+        of_type(rt, Action::Watch, &call.words)
     } else {
         run(rt, &call.words)
     };
@@ -246,6 +246,6 @@ fn status_of(rt: &HostRuntime, call: Call) -> u8 {
 fn main(rt: HostRuntime) -> ExitCode {
     ExitCode::from(match call_of(&rt) {
         Ok(call) => status_of(&rt, call),
-        Err(stop) => report(&rt, "wire", Err(stop)),
+        Err(failure) => report(&rt, "wire", Err(failure)),
     })
 }

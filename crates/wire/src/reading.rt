@@ -1,28 +1,29 @@
-//! Frames or messages as lines.
+//! The mode `read`: frames or messages as lines.
 use crate::devices::{ROOM, bytes_of_digits, read_some, read_whole, say};
-use crate::stop::{CLOCK_FAULT, Stop, wrong};
+use crate::failure::{CLOCK_FAULT, Failure, wrong};
+use help::{Progress, wants_colour};
 use std::time::Instant;
 use wire_lib::raw::put_message;
 use wire_lib::receive::{LinesOfFrames, Reading};
 use wire_lib::shown::Shown;
 use wire_lib::words::Options;
 
-/// Lines that are written, and what of them is shown.
+/// Lines to be written, and which of them are shown.
 #[derive(Drop)]
 struct Lines {
     shown: Shown,
-    /// Whether all is shown as it is.
+    /// Whether all lines are shown unchanged.
     is_plain: bool,
     /// When the program began, if lines have the time.
     begin: Option<Instant>,
-    /// Lines that aren't written yet, and what is shown of them.
+    /// Lines that aren't written yet, and a buffer for those that are shown.
     lines: Vec<u8>,
     out: Vec<u8>,
 }
 
 impl Lines {
-    /// No lines yet.
-    fn new(rt: &HostRuntime, options: Options<'_>) -> Result<Lines, Stop> {
+    /// No lines. The time begins now.
+    fn new(rt: &HostRuntime, options: Options<'_>) -> Result<Lines, Failure> {
         let begin = if options.time {
             match Instant::now(rt) {
                 Ok(begin) => Some(begin),
@@ -31,17 +32,18 @@ impl Lines {
         } else {
             None
         };
+        let colour = wants_colour(rt);
         Ok(Lines {
-            shown: Shown::new(rt.alloc(), options.only)?,
-            is_plain: !options.time && options.only.is_none(),
+            shown: Shown::new(rt.alloc(), options.only, colour)?,
+            is_plain: !options.time && options.only.is_none() && !colour,
             begin,
             lines: Vec::new(rt.alloc()),
             out: Vec::new(rt.alloc()),
         })
     }
 
-    /// The time, in milliseconds.
-    fn time(&self, rt: &HostRuntime) -> Result<Option<u64>, Stop> {
+    /// The time in milliseconds, if lines have it.
+    fn time(&self, rt: &HostRuntime) -> Result<Option<u64>, Failure> {
         let Some(begin) = &self.begin else {
             return Ok(None);
         };
@@ -51,8 +53,8 @@ impl Lines {
         }
     }
 
-    /// Writes the lines, and forgets them.
-    fn write(&mut self, rt: &HostRuntime) -> Result<(), Stop> {
+    /// Writes the lines, and clears them.
+    fn write(&mut self, rt: &HostRuntime) -> Result<(), Failure> {
         if self.is_plain {
             say(rt, &self.lines)?;
         } else {
@@ -66,12 +68,13 @@ impl Lines {
     }
 }
 
-/// Hands bytes on as they come, and writes the lines of each read at its end.
+/// Passes bytes on as they come, writes the lines of each read at its end, and counts the bytes as progress.
 fn receive_bytes(
     rt: &HostRuntime,
     receiver: &mut LinesOfFrames<'_>,
     lines: &mut Lines,
-) -> Result<(), Stop> {
+    progress: &mut Progress,
+) -> Result<(), Failure> {
     let mut room = [0u8; ROOM];
     for _ in 0..u64::MAX {
         let count = read_some(rt, &mut room)?;
@@ -80,40 +83,44 @@ fn receive_bytes(
         }
         receiver.push(room.get(..count).unwrap_or(&[]), &mut lines.lines)?;
         lines.write(rt)?;
+        progress.step(rt, count as u64);
     }
     Ok(())
 }
 
-/// Hands the bytes of hexadecimal text on.
+/// Passes the bytes of hexadecimal text on.
 fn receive_digits(
     rt: &HostRuntime,
     receiver: &mut LinesOfFrames<'_>,
     lines: &mut Lines,
-) -> Result<(), Stop> {
+) -> Result<(), Failure> {
     let bytes = bytes_of_digits(rt, &read_whole(rt)?)?;
     Ok(receiver.push(&bytes, &mut lines.lines)?)
 }
 
-/// Makes a line of each frame.
+/// Writes a line for each frame.
 fn read_frames(
     rt: &HostRuntime,
     reading: Reading<'_>,
     options: Options<'_>,
     lines: &mut Lines,
-) -> Result<bool, Stop> {
+) -> Result<bool, Failure> {
     let mut receiver = LinesOfFrames::new(reading, options.from)?;
     if options.hex {
         receive_digits(rt, &mut receiver, lines)?;
     } else {
-        receive_bytes(rt, &mut receiver, lines)?;
+        let mut progress = Progress::new(rt);
+        let received = receive_bytes(rt, &mut receiver, lines, &mut progress);
+        progress.end(rt);
+        received?;
     }
     let is_good = receiver.finish(&mut lines.lines)?;
     lines.write(rt)?;
     Ok(is_good)
 }
 
-/// Makes a line of each message that a line of hexadecimal text is.
-fn read_lines(rt: &HostRuntime, reading: Reading<'_>, lines: &mut Lines) -> Result<bool, Stop> {
+/// Writes a line for each message; each line of hexadecimal text is one.
+fn read_lines(rt: &HostRuntime, reading: Reading<'_>, lines: &mut Lines) -> Result<bool, Failure> {
     let whole = read_whole(rt)?;
     let Ok(text) = str::from_utf8(&whole) else {
         return Err(wrong(rt, &["standard input isn't hexadecimal text\n"]));
@@ -128,13 +135,13 @@ fn read_lines(rt: &HostRuntime, reading: Reading<'_>, lines: &mut Lines) -> Resu
     Ok(is_good)
 }
 
-/// Makes a line of the message that standard input is, or of each that its lines are.
+/// Writes a line for the message that standard input is, or with `hex` for each of its lines.
 fn read_messages(
     rt: &HostRuntime,
     reading: Reading<'_>,
     hex: bool,
     lines: &mut Lines,
-) -> Result<bool, Stop> {
+) -> Result<bool, Failure> {
     if hex {
         return read_lines(rt, reading, lines);
     }
@@ -145,8 +152,8 @@ fn read_messages(
     Ok(is_good)
 }
 
-/// Makes a line of each frame, or of each message, and says whether all were values.
-pub fn read(rt: &HostRuntime, reading: Reading<'_>, options: Options<'_>) -> Result<bool, Stop> {
+/// Writes a line for each frame or message, and returns whether all were values.
+pub fn read(rt: &HostRuntime, reading: Reading<'_>, options: Options<'_>) -> Result<bool, Failure> {
     let mut lines = Lines::new(rt, options)?;
     if options.raw {
         return read_messages(rt, reading, options.hex, &mut lines);

@@ -1,14 +1,14 @@
-//! The files of declarations that a word names: one, several with commas between them, and all that folders have.
-use crate::stop::{Stop, no_file};
+//! The files of declarations that FILES names: one, several separated by commas, and all in folders.
+use crate::failure::{Failure, no_file};
 use declarations::Source;
 use std::fs;
 use std::io::{self, ErrorKind};
 use std::path::AsPath;
 
-/// How the names of files end that are taken from folders.
+/// The ending of the files that are read in folders.
 const ENDING: &str = ".rs";
 
-/// Whether a path is that of a folder.
+/// Whether a path names a folder.
 fn is_folder(rt: &HostRuntime, path: &str) -> bool {
     match fs::metadata(rt, path) {
         Ok(metadata) => metadata.is_dir(),
@@ -16,18 +16,18 @@ fn is_folder(rt: &HostRuntime, path: &str) -> bool {
     }
 }
 
-/// Whether a name is one of those that builds and tools make.
+/// Whether a name is one that builds and tools make, which is skipped in folders.
 fn is_made(name: &str) -> bool {
     name.starts_with('.') || name == "target"
 }
 
-/// Adds the files that a folder has by itself to the files, and the folders in it to the folders.
+/// Adds a folder's own files to `files`, and its folders to `folders`.
 fn add_entries(
     rt: &HostRuntime,
     folder: &str,
     folders: &mut Vec<String>,
     files: &mut Vec<String>,
-) -> Result<(), Stop> {
+) -> Result<(), Failure> {
     let Ok(entries) = fs::read_dir(rt, folder) else {
         return Err(no_file(rt, folder, "can't be listed"));
     };
@@ -48,8 +48,8 @@ fn add_entries(
     Ok(())
 }
 
-/// Adds the files that a folder has, and those of the folders in it.
-fn add_folder(rt: &HostRuntime, folder: &str, files: &mut Vec<String>) -> Result<(), Stop> {
+/// Adds the files of a folder and of all folders in it.
+fn add_folder(rt: &HostRuntime, folder: &str, files: &mut Vec<String>) -> Result<(), Failure> {
     let mut folders = Vec::new(rt.alloc());
     folders.push(String::from_str(rt.alloc(), folder)?)?;
     for _ in 0..u64::MAX {
@@ -62,33 +62,33 @@ fn add_folder(rt: &HostRuntime, folder: &str, files: &mut Vec<String>) -> Result
 }
 
 /// Adds the files that a path names.
-fn add(rt: &HostRuntime, path: &str, files: &mut Vec<String>) -> Result<(), Stop> {
+fn add(rt: &HostRuntime, path: &str, files: &mut Vec<String>) -> Result<(), Failure> {
     if is_folder(rt, path) {
         return add_folder(rt, path, files);
     }
     Ok(files.push(String::from_str(rt.alloc(), path)?)?)
 }
 
-/// What is said of a file that can't be read.
+/// Why a file can't be read.
 fn why_not(error: &io::Error) -> &'static str {
     match error.kind() {
         ErrorKind::NotFound => "isn't there",
-        ErrorKind::PermissionDenied => "may not be read",
-        ErrorKind::InvalidData => "isn't text in UTF-8",
+        ErrorKind::PermissionDenied => "can't be read: permission denied",
+        ErrorKind::InvalidData => "isn't UTF-8",
         _ => "can't be read",
     }
 }
 
-/// The text of a file.
-fn read(rt: &HostRuntime, file: String) -> Result<Source, Stop> {
+/// Reads a file.
+fn read(rt: &HostRuntime, file: String) -> Result<Source, Failure> {
     match fs::read_to_string(rt, file.as_str()) {
         Ok(text) => Ok(Source { file, text }),
         Err(error) => Err(no_file(rt, file.as_str(), why_not(&error))),
     }
 }
 
-/// The files that a word names, in the order of their names.
-pub fn sources_of(rt: &HostRuntime, word: &str) -> Result<Vec<Source>, Stop> {
+/// Returns the files that FILES names, in the order of their names. A path with a comma is first tried as one path.
+pub fn sources_of(rt: &HostRuntime, word: &str) -> Result<Vec<Source>, Failure> {
     let mut files = Vec::new(rt.alloc());
     if fs::metadata(rt, word).is_ok() {
         add(rt, word, &mut files)?;

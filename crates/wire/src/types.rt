@@ -1,29 +1,29 @@
 //! The types that files declare.
+use crate::failure::{Failure, WRITE_FAULT};
 use crate::sources::sources_of;
-use crate::stop::{Stop, WRITE_FAULT};
 use declarations::{
     CheckedType, Error, Outcome, Schema, Source, check_sources, read_sources, read_type,
 };
 use wire_lib::sizes::greatest_sizes;
 
-/// How a run ends at what is wrong with declarations.
-fn stop_of(error: Error) -> Stop {
+/// The failure for an error in declarations.
+fn failure_of(error: Error) -> Failure {
     match error {
-        Error::Wrong(lines) => Stop::Plain(lines),
-        Error::OutOfMemory => Stop::NoMemory,
+        Error::Wrong(lines) => Failure::Plain(lines),
+        Error::OutOfMemory => Failure::NoMemory,
     }
 }
 
-/// The table of all types of files.
-pub fn schema_of(rt: &HostRuntime, files: &str) -> Result<Schema, Stop> {
+/// Returns the table of all types of these files.
+pub fn schema_of(rt: &HostRuntime, files: &str) -> Result<Schema, Failure> {
     let sources = sources_of(rt, files)?;
     match read_sources(rt.alloc(), &sources) {
         Ok(schema) => Ok(schema),
-        Err(error) => Err(stop_of(error)),
+        Err(error) => Err(failure_of(error)),
     }
 }
 
-/// Whether lines are about a file, and not about the words that name a type.
+/// Whether an error is about a file, and not about TYPE.
 fn begins_with_file(sources: &[Source], lines: &str) -> bool {
     for it in sources {
         if lines.starts_with(it.file.as_str()) {
@@ -33,40 +33,40 @@ fn begins_with_file(sources: &[Source], lines: &str) -> bool {
     false
 }
 
-/// As [`stop_of`], where the words that name a type may be what is wrong.
-fn stop_at_type(sources: &[Source], error: Error) -> Stop {
+/// As [`failure_of`], if TYPE can be what is wrong.
+fn failure_at_type(sources: &[Source], error: Error) -> Failure {
     match error {
         Error::Wrong(lines) => {
             if begins_with_file(sources, lines.as_str()) {
-                Stop::Plain(lines)
+                Failure::Plain(lines)
             } else {
-                Stop::Wrong(lines)
+                Failure::Wrong(lines)
             }
         }
-        Error::OutOfMemory => Stop::NoMemory,
+        Error::OutOfMemory => Failure::NoMemory,
     }
 }
 
-/// The table of a type of files, by its words, and its place there.
-pub fn type_of(rt: &HostRuntime, files: &str, words: &str) -> Result<(Schema, usize), Stop> {
+/// Returns the table of the type that `words` name, and its index there.
+pub fn type_of(rt: &HostRuntime, files: &str, words: &str) -> Result<(Schema, usize), Failure> {
     let sources = sources_of(rt, files)?;
     match read_type(rt.alloc(), &sources, words) {
         Ok(it) => Ok(it),
-        Err(error) => Err(stop_at_type(&sources, error)),
+        Err(error) => Err(failure_at_type(&sources, error)),
     }
 }
 
-/// The declared types of files, and what is wrong with the files themselves.
-pub fn types_of(rt: &HostRuntime, files: &str) -> Result<(Vec<CheckedType>, String), Stop> {
+/// Returns the declared types of these files, and what is wrong with the files themselves.
+pub fn types_of(rt: &HostRuntime, files: &str) -> Result<(Vec<CheckedType>, String), Failure> {
     let sources = sources_of(rt, files)?;
     match check_sources(rt.alloc(), &sources) {
         Ok(types) => Ok(types),
-        Err(error) => Err(stop_of(error)),
+        Err(error) => Err(failure_of(error)),
     }
 }
 
-/// Says the greatest size of a declared type, or that it can't be read; appends why, once for each cause.
-pub fn say_type(rt: &HostRuntime, it: &CheckedType, wrong: &mut String) -> Result<(), Stop> {
+/// Prints the maximum size of a declared type, or that it can't be read; appends the reason to `wrong`, each once.
+pub fn say_type(rt: &HostRuntime, it: &CheckedType, wrong: &mut String) -> Result<(), Failure> {
     let name = it.name.as_str();
     let said = match &it.outcome {
         Outcome::Readable(schema, place) => {

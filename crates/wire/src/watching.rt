@@ -1,40 +1,46 @@
-//! Showing what comes: on a terminal pictures, each over the last; elsewhere lines.
+//! The mode `watch`: on a terminal pictures, each drawn over the last; elsewhere lines.
 use crate::devices::{read_some, say};
-use crate::stop::{CLOCK_FAULT, Stop};
+use crate::failure::{CLOCK_FAULT, Failure};
+use help::wants_colour;
 use std::env;
 use std::io::IsTerminal;
 use std::thread::sleep;
 use std::time::{Duration, Instant};
 use wire_lib::receive::Reading;
-use wire_lib::watching::picture::{View, picture};
+use wire_lib::watching::picture::{View, damage_lines, picture};
 use wire_lib::watching::rate::WINDOW;
 use wire_lib::watching::screen::Screen;
 use wire_lib::watching::table::{DAMAGES, Table};
 use wire_lib::watching::viewer::Viewer;
 
-/// How many bytes are asked for in one read. Where fewer come, the next read may wait.
+/// The most bytes of one read. After fewer the next read may block.
 const ROOM: usize = 4096;
 
-/// A read of fewer bytes shows that the line is in no hurry. A terminal gives less than `ROOM` of a line in a hurry too.
+/// After a read of fewer bytes the line isn't busy. A terminal returns less than `ROOM` on a busy line too: it buffers 4095 bytes.
 const FEW: usize = 1024;
 
-/// How many milliseconds a picture stands at least, but for the last.
+// std can't tell whether more bytes are there, so after a picture the program waits. Ten a second are enough for a person, and a line
+// buffers more than comes in a tenth of a second.
+/// How many milliseconds a picture stays at least, except for the last one.
 const STANDS: u64 = 100;
 
-/// What was shown, and when.
+/// What was shown, how, and when.
 #[derive(Drop)]
 struct Showing {
     begin: Instant,
     /// When the last picture was drawn, in milliseconds.
     drawn: u64,
     is_terminal: bool,
+    /// Whether damage is red.
+    colour: bool,
     screen: Screen,
     view: View,
     /// Lines that aren't written yet.
     lines: Vec<u8>,
 }
 
-/// A number that a variable of the environment has, or what stands where it has none.
+// std can tell whether standard output is a terminal, but not its size.
+/// The number in a variable of the environment, or `otherwise`.
 fn number_of(rt: &HostRuntime, name: &str, otherwise: usize) -> usize {
     match env::var(rt, name) {
         Ok(digits) => digits.as_str().parse::<usize>().unwrap_or(otherwise),
@@ -43,17 +49,18 @@ fn number_of(rt: &HostRuntime, name: &str, otherwise: usize) -> usize {
 }
 
 impl Showing {
-    /// Nothing was shown.
-    fn new(rt: &HostRuntime) -> Result<Showing, Stop> {
+    /// Nothing was shown yet.
+    fn new(rt: &HostRuntime) -> Result<Showing, Failure> {
         let Ok(begin) = Instant::now(rt) else {
             return Err(CLOCK_FAULT);
         };
-        // above the kinds stands a line, below them one for more, one for the damages, these, and the cursor's
+        // beside the kinds: the first line, `..`, the number of damages, the damages, and the cursor's line
         let others = DAMAGES + 4;
         Ok(Showing {
             begin,
             drawn: 0,
             is_terminal: rt.stdout().is_terminal(),
+            colour: wants_colour(rt),
             screen: Screen::new(),
             view: View {
                 columns: number_of(rt, "COLUMNS", 80),
@@ -64,21 +71,21 @@ impl Showing {
         })
     }
 
-    /// How many milliseconds it runs.
-    fn now(&self, rt: &HostRuntime) -> Result<u64, Stop> {
+    /// The time since the beginning, in milliseconds.
+    fn now(&self, rt: &HostRuntime) -> Result<u64, Failure> {
         match self.begin.elapsed(rt) {
             Ok(time) => Ok(u64::try_from(time.as_millis()).unwrap_or(u64::MAX)),
             Err(_) => Err(CLOCK_FAULT),
         }
     }
 
-    /// The window of time that is on.
-    fn window(&self, rt: &HostRuntime) -> Result<u64, Stop> {
+    /// The current window of time.
+    fn window(&self, rt: &HostRuntime) -> Result<u64, Failure> {
         Ok(self.now(rt)? / WINDOW)
     }
 
     /// Draws a picture.
-    fn draw(&mut self, rt: &HostRuntime, table: &Table) -> Result<(), Stop> {
+    fn draw(&mut self, rt: &HostRuntime, table: &Table) -> Result<(), Failure> {
         self.drawn = self.now(rt)?;
         let view = View {
             window: Some(self.drawn / WINDOW),
@@ -86,20 +93,22 @@ impl Showing {
         };
         let lines = picture(rt.alloc(), table, view)?;
         self.lines.clear();
-        self.screen.draw(&lines, &mut self.lines)?;
+        let red = if self.colour { damage_lines(table) } else { 0 };
+        let plain = lines.len().saturating_sub(red);
+        self.screen.draw(&lines, plain, &mut self.lines)?;
         self.write(rt)
     }
 
-    /// Writes the lines.
-    fn write(&mut self, rt: &HostRuntime) -> Result<(), Stop> {
+    /// Writes the lines, and clears them.
+    fn write(&mut self, rt: &HostRuntime) -> Result<(), Failure> {
         say(rt, &self.lines)?;
         self.lines.clear();
         Ok(())
     }
 
-    /// Shows what a read of so many bytes has brought. A picture is drawn where the next read may wait, or the last one stood for a
-    /// while; after a few bytes it stands for that while, in which more come.
-    fn show(&mut self, rt: &HostRuntime, table: &Table, count: usize) -> Result<(), Stop> {
+    /// Shows the result of a read of `count` bytes. A picture is drawn if the next read may block, or the last picture has stayed long
+    /// enough; after a few bytes it stays that long, while more come.
+    fn show(&mut self, rt: &HostRuntime, table: &Table, count: usize) -> Result<(), Failure> {
         if !self.is_terminal {
             return self.write(rt);
         }
@@ -113,8 +122,8 @@ impl Showing {
         Ok(())
     }
 
-    /// Shows what the end has brought: on a terminal the last picture, elsewhere the table.
-    fn end(&mut self, rt: &HostRuntime, table: &Table) -> Result<(), Stop> {
+    /// Shows the end: on a terminal the last picture, elsewhere the table.
+    fn end(&mut self, rt: &HostRuntime, table: &Table) -> Result<(), Failure> {
         if self.is_terminal {
             return self.draw(rt, table);
         }
@@ -126,8 +135,8 @@ impl Showing {
     }
 }
 
-/// Watches standard input to its end, and says whether all were messages.
-pub fn watch(rt: &HostRuntime, reading: Reading<'_>) -> Result<bool, Stop> {
+/// Watches standard input to its end, and returns whether all were messages.
+pub fn watch(rt: &HostRuntime, reading: Reading<'_>) -> Result<bool, Failure> {
     let mut viewer = Viewer::new(reading)?;
     let mut shown = Showing::new(rt)?;
     let mut room = [0u8; ROOM];

@@ -1,13 +1,13 @@
-//! Lines as frames or messages.
+//! The mode `write`: lines as frames or messages.
 use crate::devices::{ROOM, read_some, read_whole, say, say_wrongs};
-use crate::stop::{Stop, wrong};
+use crate::failure::{Failure, wrong};
 use wire_lib::raw::message_of;
 use wire_lib::send::{FramesOfLines, Sending};
 use wire_lib::words::Options;
 use wire_lib::wrong::{ParseError, put_wrong};
 
-/// Writes bytes, as they are or as hexadecimal text, and forgets them.
-fn put(rt: &HostRuntime, hex: bool, bytes: &mut Vec<u8>) -> Result<(), Stop> {
+/// Writes bytes, unchanged or as hexadecimal text, and clears them.
+fn put(rt: &HostRuntime, hex: bool, bytes: &mut Vec<u8>) -> Result<(), Failure> {
     if hex {
         let digits = hex::encode(rt.alloc(), bytes.as_slice())?;
         say(rt, digits.as_bytes())?;
@@ -18,14 +18,14 @@ fn put(rt: &HostRuntime, hex: bool, bytes: &mut Vec<u8>) -> Result<(), Stop> {
     Ok(())
 }
 
-/// Makes frames of lines as they come. Those of each read are written at its end.
+/// Writes frames of lines as they come, those of each read at its end.
 fn send_reads(
     rt: &HostRuntime,
     sender: &mut FramesOfLines<'_>,
     hex: bool,
     frames: &mut Vec<u8>,
     wrongs: &mut String,
-) -> Result<(), Stop> {
+) -> Result<(), Failure> {
     let mut room = [0u8; ROOM];
     for _ in 0..u64::MAX {
         let count = read_some(rt, &mut room)?;
@@ -40,8 +40,8 @@ fn send_reads(
     Ok(())
 }
 
-/// Makes a frame of each line, and says whether all were values. The first has a sentinel before it.
-fn write_frames(rt: &HostRuntime, sending: Sending<'_>, hex: bool) -> Result<bool, Stop> {
+/// Writes a frame for each line, a sentinel first, and returns whether all lines were values.
+fn write_frames(rt: &HostRuntime, sending: Sending<'_>, hex: bool) -> Result<bool, Failure> {
     let mut frames = Vec::from_elem(rt.alloc(), sending.sentinel, 1)?;
     let mut wrongs = String::new(rt.alloc());
     put(rt, hex, &mut frames)?;
@@ -57,14 +57,14 @@ fn write_frames(rt: &HostRuntime, sending: Sending<'_>, hex: bool) -> Result<boo
     Ok(is_good)
 }
 
-/// Writes the message of a line, with a line feed behind its digits, or says what is wrong with the line; and whether it is one.
+/// Writes the message of a line, or what is wrong with the line, and returns whether it is a value. After digits a line feed follows.
 fn write_message(
     rt: &HostRuntime,
     sending: Sending<'_>,
     hex: bool,
     number: u64,
     line: &str,
-) -> Result<bool, Stop> {
+) -> Result<bool, Failure> {
     let mut wrongs = String::new(rt.alloc());
     match message_of(sending, line.as_bytes()) {
         Ok(mut message) => {
@@ -79,20 +79,20 @@ fn write_message(
             say_wrongs(rt, &mut wrongs)?;
             Ok(false)
         }
-        Err(ParseError::OutOfMemory) => Err(Stop::NoMemory),
+        Err(ParseError::OutOfMemory) => Err(Failure::NoMemory),
     }
 }
 
-/// Makes a message of each line: one alone, unless they are digits.
-fn write_messages(rt: &HostRuntime, sending: Sending<'_>, hex: bool) -> Result<bool, Stop> {
+/// Writes a message for each line; without `hex` only one line is allowed.
+fn write_messages(rt: &HostRuntime, sending: Sending<'_>, hex: bool) -> Result<bool, Failure> {
     let whole = read_whole(rt)?;
     let Ok(text) = str::from_utf8(&whole) else {
-        return Err(wrong(rt, &["standard input isn't text in UTF-8\n"]));
+        return Err(wrong(rt, &["standard input isn't UTF-8\n"]));
     };
     if !hex && text.lines().count() != 1 {
         return Err(wrong(
             rt,
-            &["`raw` without `hex` makes one message: standard input is to be one line\n"],
+            &["`raw` without `hex` makes one message: standard input has to be one line\n"],
         ));
     }
     let mut is_good = true;
@@ -104,8 +104,12 @@ fn write_messages(rt: &HostRuntime, sending: Sending<'_>, hex: bool) -> Result<b
     Ok(is_good)
 }
 
-/// Makes a frame or a message of each line, and says whether all were values.
-pub fn write(rt: &HostRuntime, sending: Sending<'_>, options: Options<'_>) -> Result<bool, Stop> {
+/// Writes a frame or a message for each line, and returns whether all were values.
+pub fn write(
+    rt: &HostRuntime,
+    sending: Sending<'_>,
+    options: Options<'_>,
+) -> Result<bool, Failure> {
     if options.raw {
         return write_messages(rt, sending, options.hex);
     }

@@ -1,5 +1,5 @@
 -- What a table has counted, answer by answer.
-use Rattle.std.proofs.Common.{◌≡◌, ◌≢◌, ◌⊎◌, inl, inr, ◌<◌, ◌≤◌, ◌+◌, ◌==◌, ℕ, eqb, leb, true, false, List, [], ◌∷◌, ◌++◌, length, String, Global, EachIndex, slice_index_or, slice_set, length-set, refl, sym, ap, ◌∙◌, subst, arith, Result, Ok, Err, OnOk, append-nil, append_assoc, take, drop, take-append-drop}
+use Rattle.std.proofs.Common.{◌≡◌, ◌≢◌, ◌⊎◌, inl, inr, ◌<◌, ◌≤◌, ◌+◌, ◌==◌, ℕ, eqb, leb, true, false, List, [], ◌∷◌, ◌++◌, length, String, string_bytes, Global, EachIndex, slice_index_or, slice_set, length-set, refl, sym, ap, ◌∙◌, subst, arith, Result, Ok, Err, OnOk, append-nil, append_assoc, take, drop, take-append-drop}
 use Rattle.std.proofs.lemmas.List.{get_or-set_same, get_or-set_other}
 use Rattle.std.proofs.lemmas.Bool.{ne_eqb}
 use Rattle.std.proofs.lemmas.Bool.Decides.{eqb_tells, leb_tells, nat_tests}
@@ -11,8 +11,9 @@ use Rattle.link.specs.declared.receiver.Answer.TheVariants as answer
 use Rattle.wire_lib.specs.Received.{are_all_values, as_list}
 use Rattle.wire_lib.specs.Rates.{capped}
 use Rattle.wire_lib.specs.Kinds.{kind_in}
-use Rattle.wire_lib.specs.Seen.{damages_among, messages_among, HaveCounted, HasCounted, CountsToo, HasSeen, as_answer}
-use Rattle.wire_lib.specs.Tables.{IsNoted}
+use Rattle.wire_lib.specs.Seen.{damages_among, messages_among, HaveCounted, HasCounted, CountsToo, KeepsDamage, HasSeen, as_answer}
+use Rattle.wire_lib.specs.Fronts.{damage_said}
+use Rattle.wire_lib.specs.Tables.{IsNoted, last_of}
 use Rattle.wire_lib.specs.declared.watching.table.Row.{Row}
 use Rattle.wire_lib.specs.declared.watching.table.Table.{Table}
 use Rattle.wire_lib.specs.declared.watching.viewer.Viewer.{Viewer}
@@ -148,6 +149,14 @@ pub damage_told : {A E : Type 0} (r : Result A E) (old new : Table) (a : Answer 
     → OnOk r (new.damaged ≡ capped (old.damaged + 1)) → new.rows ≡ old.rows → OnOk r (CountsToo a old new)
 damage_told (Ok x) old new a one none damaged rows = damage_counts old new a one none damaged rows
 damage_told (Err e) old new a one none damaged rows = tt
+
+-- the text of a damage was kept, if there was memory
+pub damage_kept : {A E : Type 0} (r : Result A E) (what : List ℕ) (from place count : ℕ) (front bytes : List ℕ) (old new : Table) (text : String Global)
+    → from ≡ place → front ≡ bytes → string_bytes text ≡ damage_said what from count front
+    → OnOk r (new.damages.items ≡ last_of 3 (old.damages.items ++ text ∷ [])) → OnOk r (KeepsDamage what place count bytes old new)
+damage_kept (Ok x) what from place count front bytes old new text at is said holds =
+    (text, said ∙ ap (λ n. damage_said what n count front) at ∙ ap (λ b. damage_said what place count b) is, holds)
+damage_kept (Err e) what from place count front bytes old new text at is said holds = tt
 
 -- an end in a stretch is no value
 pub cut_is_bad : (xs : List (Answer Value)) → false ≡ are_all_values (xs ++ answer.Cut ∷ [])

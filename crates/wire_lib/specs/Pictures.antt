@@ -1,13 +1,13 @@
--- What lines a picture has.
+-- The lines of a picture.
 use Rattle.std.specs.Prelude.{ℕ, ◌≤◌, List, length, Vec}
 use Rattle.std.specs.List.{All}
 use Rattle.std.specs.Global.{Global}
 use Rattle.wire_lib.specs.Printable.{ArePrintable}
 
--- a line that can be shown in so many columns
+-- a printable line of at most so many columns
 abbrev pub FitsInColumns : ℕ → Vec ℕ Global → Type 0
 FitsInColumns columns line = ArePrintable line.items × (length line.items ≤ columns)
 
--- all of them are such
+-- all lines are
 abbrev pub Fits : ℕ → List (Vec ℕ Global) → Type 0
 Fits columns lines = All (FitsInColumns columns) lines

@@ -13,17 +13,26 @@ use Rattle.wire_lib.specs.Said.{value_line}
 use Rattle.wire_lib.specs.Sent.{LacksFeed}
 use Rattle.wire_lib.specs.Summed.{message_with}
 
--- The value that the type reads from the whole of a message was appended as a line.
+-- The line of the value that the type reads from a whole message was appended.
 pub record ShowsWhole (r : Reading) (message lines lines' : List ℕ) : Type 0 where
+  -- the value
   pub value : Value
+  -- the type reads it from the message, and no bytes are left
   pub read : ReadsFront (read_by r) message [] value
+  -- the text of its JSON
   pub text : List ℕ
+  -- it has no line feed
   pub one_line : LacksFeed text
+  -- and nothing else was appended
   pub appended : lines' ≡ lines ++ value_line text
 
--- The message of a value of the type: its shortest spelling, and its sum where one is wanted.
+-- The message of a value of the type: its shortest encoding, followed by its checksum if one is asked for.
 pub record IsMessageToSend (s : Sending) (message : List ℕ) : Type 0 where
+  -- the value
   pub value : Value
+  -- it is of the type
   pub of_type : IsOfType s.depth s.schema.now.nodes.items s.place value
+  -- its tree is one that can be encoded
   pub is_tree : IsTree (tree_of value)
+  -- the bytes are its shortest encoding
   pub spelled : message ≡ message_with s.summed (short (tree_of value))

@@ -1,4 +1,4 @@
--- The lines of answers.
+-- The lines of results.
 use Rattle.std.specs.Prelude.{◌≡◌, ℕ, ◌+◌, ◌-◌, ◌^◌, ◌⊎◌, min, List, ◌++◌, length, codes, decimal}
 use Rattle.cobs.specs.InPlace.{stretch}
 use Rattle.cobs.specs.Sentinel.{masked}
@@ -7,18 +7,17 @@ use Rattle.link.specs.declared.receiver.Answer.{Answer}
 use Rattle.link.specs.declared.receiver.Answer.TheVariants as answer
 use Rattle.wire_lib.specs.Sent.{LacksFeed}
 
--- The line of a value, by its text.
+-- The line of a value, by the text of its JSON.
 abbrev pub value_line : List ℕ → List ℕ
 value_line text = codes "{\"value\":" ++ (text ++ codes "}\n")
 
--- The line of a stretch that is no value: what it is, and which bytes of the stream it has, by the place of the first, and the
--- place behind the last.
+-- The line of a stretch that isn't a value: its word, the position of its first byte in the stream, and the position after its
+-- last.
 abbrev pub stretch_line : List ℕ → ℕ → ℕ → List ℕ
 stretch_line what from to = codes "{\"" ++ (what ++ (codes "\":{\"from\":"
     ++ (decimal from ++ (codes ",\"to\":" ++ (decimal to ++ codes "}}\n")))))
 
--- This is the line of an answer, with these two places where it is no value. Of a value's text it is stated that it has no line
--- feed.
+-- This is the line of a result, with these two positions if it isn't a value. Of a value's text only that it has no line feed.
 abbrev pub IsLineOf : Answer Value → ℕ → ℕ → List ℕ → Type 0
 IsLineOf (answer.Value v) from to line = (text : List ℕ) × LacksFeed text × (line ≡ value_line text)
 IsLineOf answer.Damaged from to line = (line ≡ stretch_line (codes "damaged") from to)
@@ -26,17 +25,20 @@ IsLineOf answer.Damaged from to line = (line ≡ stretch_line (codes "damaged") 
 IsLineOf answer.TooLong from to line = line ≡ stretch_line (codes "too_long") from to
 IsLineOf answer.Cut from to line = line ≡ stretch_line (codes "cut") from to
 
--- Such a line was appended to others.
+-- The line of a result was appended to others.
 pub record SaysLine (a : Answer Value) (from to : ℕ) (lines lines' : List ℕ) : Type 0 where
+  -- the line
   pub line : List ℕ
+  -- it is the line of this result
   pub is : IsLineOf a from to line
+  -- and nothing else was appended
   pub appended : lines' ≡ lines ++ line
 
--- up to where a stretch that is too long is known: all that came, and what is left of the piece before the next sentinel
+-- the end of what is known of a stretch that is too long: all that came, and the rest of the chunk before the next sentinel
 abbrev pub known_to : ℕ → ℕ → List ℕ → ℕ
 known_to came sentinel left = min (came + length (stretch (masked sentinel left))) (2 ^ 64 - 1)
 
--- the second place that is said of an answer: of a stretch that is too long, up to where it is known
+-- the second position in a result's line: of a stretch that is too long, the end of what is known of it
 abbrev pub end_said : Answer Value → ℕ → ℕ → ℕ
 end_said answer.TooLong last known = known
 end_said _ last known = last

@@ -1,5 +1,6 @@
--- What a viewer has seen of a stream: each answer is counted once.
-use Rattle.std.specs.Prelude.{◌≡◌, ◌==◌, ◌<◌, ℕ, ◌+◌, List, [], ◌∷◌, ◌++◌, length, slice_index_or, if◌then◌else◌}
+-- What a viewer has seen of a stream: each result is counted once.
+use Rattle.std.specs.Prelude.{◌≡◌, ◌==◌, ◌<◌, ℕ, ◌+◌, List, [], ◌∷◌, ◌++◌, length, slice_index_or, String, string_bytes, if◌then◌else◌}
+use Rattle.std.specs.Global.{Global}
 use Rattle.schemas.specs.declared.value.Value.{Value}
 use Rattle.link.specs.Stream.{begun}
 use Rattle.link.specs.Pushes.{finished}
@@ -11,17 +12,19 @@ use Rattle.wire_lib.specs.Received.{held_by, read_by, as_list}
 use Rattle.wire_lib.specs.declared.receive.Reading.{Reading}
 use Rattle.wire_lib.specs.Kinds.{kind_in}
 use Rattle.wire_lib.specs.Rates.{capped}
+use Rattle.wire_lib.specs.Fronts.{damage_said}
+use Rattle.wire_lib.specs.Tables.{last_of}
 use Rattle.wire_lib.specs.declared.watching.table.Row.{Row}
 use Rattle.wire_lib.specs.declared.watching.table.Table.{Table}
 use Rattle.wire_lib.specs.declared.watching.viewer.Viewer.{Viewer}
 
--- how many of these answers are no message
+-- how many of these results aren't messages
 abbrev pub damages_among : List (Answer Value) → ℕ
 damages_among [] = 0
 damages_among (answer.Value v ∷ answers) = damages_among answers
 damages_among (_ ∷ answers) = damages_among answers + 1
 
--- how many are a message of that kind
+-- how many are messages of that kind
 abbrev pub messages_among : ℕ → List (Answer Value) → ℕ
 messages_among kind [] = 0
 messages_among kind (answer.Value v ∷ answers) =
@@ -33,39 +36,51 @@ abbrev pub HaveCounted : List Row → List (Answer Value) → Type 0
 HaveCounted rows answers = (kind : ℕ) (row : Row) → kind < length rows
     → (slice_index_or rows kind row).count ≡ capped (messages_among kind answers)
 
--- A table has counted these answers, each once.
+-- A table has counted these results, each once.
 pub record HasCounted (table : Table) (answers : List (Answer Value)) : Type 0 where
+  -- those that aren't messages
   pub damaged : table.damaged ≡ capped (damages_among answers)
+  -- the messages, each in the row of its kind
   pub rows : HaveCounted table.rows.items answers
 
--- whatever the table has counted, it counts this answer too
+-- whatever the table has counted before, it has counted this result too
 abbrev pub CountsToo : Answer Value → Table → Table → Type 0
 CountsToo a old new = (answers : List (Answer Value)) → HasCounted old answers
     → HasCounted new (answers ++ a ∷ [])
 
--- a message as an answer
+-- a message as a result
 abbrev pub as_answer : Value → Answer Value
 as_answer v = answer.Value v
 
--- whatever the table has counted, it counts this message too
+-- whatever the table has counted before, it has counted this message too
 abbrev pub CountsMessage : Value → Table → Table → Type 0
 CountsMessage v old new = CountsToo (as_answer v) old new
 
--- what frames are read as
+-- the text of a damage was kept: what it is, the position of its first byte, how many bytes it has, and the first of them
+abbrev pub KeepsDamage : List ℕ → ℕ → ℕ → List ℕ → Table → Table → Type 0
+KeepsDamage what from count bytes old new = (text : String Global)
+    × (string_bytes text ≡ damage_said what from count bytes)
+    × (new.damages.items ≡ last_of 3 (old.damages.items ++ text ∷ []))
+
+-- how frames are read
 abbrev pub reading_of : Viewer → Reading
 reading_of v = v.reading
 
--- The line is read as it was, and the viewer stands where it stood.
+-- The viewer's type, limits and receiver are unchanged.
 pub record StandsStill (old new : Viewer) : Type 0 where
+  -- how frames are read
   pub reading : new.reading ≡ old.reading
+  -- the receiver of the stream
   pub receiver : new.receiver ≡ old.receiver
 
--- The viewer was given this stream, these were its answers, and its table has counted them.
+-- The viewer got this stream, these were its results, and its table has counted them.
 pub record HasSeen (v : Viewer) (stream : List ℕ) (answers : List (Answer Value)) : Type 0 where
+  -- these are the results of the stream
   pub hears : Hears in_owner (held_by v.reading) (read_by v.reading)
       65536 v.reading.sentinel v.receiver answers stream
+  -- the table has counted them
   pub counted : HasCounted v.table answers
 
--- what the end of such a stream adds
+-- the results that the end of such a stream adds
 abbrev pub added_by_end : Viewer → List ℕ → List (Answer Value)
 added_by_end v stream = as_list (finished (begun 65536 v.reading.sentinel stream))

@@ -1,4 +1,4 @@
--- What a sender has made of a text: of each line a frame or a refusal.
+-- What the lines of a text became: each a frame or a refusal.
 use Rattle.std.specs.Prelude.{◌≡◌, ◌≢◌, ℕ, ◌+◌, ◌-◌, ◌^◌, ◌<◌, ◌≤◌, ◌&&◌, Bool, true, false, min, List, [], ◌∷◌, ◌++◌, length, slice_index, All, flat_map, codes, decimal}
 use Rattle.cobs.specs.Sentinel.{frame_for}
 use Rattle.postcard_tree.specs.Tree.{IsTree}
@@ -10,26 +10,31 @@ use Rattle.wire_lib.specs.Summed.{message_with}
 use Rattle.wire_lib.specs.declared.send.Sending.{Sending}
 use Rattle.wire_lib.specs.declared.send.FramesOfLines.{FramesOfLines}
 
--- The frame of a value of the type, for the sentinel, which ends it. It is the shortest of its message, of at most 65536 bytes
--- before that. The message has its sum behind it where one is wanted.
+-- The frame of a value of the type, followed by its sentinel: the shortest of its message, of at most 65536 bytes before the
+-- sentinel. The message is followed by its checksum if one is asked for.
 pub record IsFrameToSend (s : Sending) (frame : List ℕ) : Type 0 where
+  -- the value
   pub value : Value
+  -- it is of the type
   pub of_type : IsOfType s.depth s.schema.now.nodes.items s.place value
+  -- its tree is one that can be encoded
   pub is_tree : IsTree (tree_of value)
+  -- the bytes are its shortest frame and the sentinel
   pub framed : frame ≡ frame_for s.sentinel (message_with s.summed (short (tree_of value))) ++ s.sentinel ∷ []
+  -- the limit
   pub within : length frame ≤ 65536 + 1
 
--- What a line becomes: the bytes of its frame, or what is said of it.
+-- What a line becomes: the bytes of its frame, or of the line that refuses it.
 pub data LineMade : Type 0 where
   framed : List ℕ → LineMade
   refused : List ℕ → LineMade
 
--- what is said of the line of that number, with what is wrong
+-- the line that refuses the line of that number, with what is wrong
 abbrev pub refusal_text : ℕ → List ℕ → List ℕ
 refusal_text number why =
     codes "line " ++ (decimal number ++ (codes ": " ++ (why ++ 10 ∷ [])))
 
--- The line of that number became this: the frame of a value, or a refusal by that number.
+-- The line of that number became this: the frame of a value, or a refusal with that number.
 abbrev pub IsLineMade : Sending → ℕ → LineMade → Type 0
 IsLineMade s number (framed bytes) = IsFrameToSend s bytes
 IsLineMade s number (refused bytes) = (why : List ℕ) × (bytes ≡ refusal_text number why)
@@ -54,11 +59,11 @@ abbrev pub are_all_framed : List LineMade → Bool
 are_all_framed [] = true
 are_all_framed (m ∷ ms) = is_framed m && are_all_framed ms
 
--- the number of a line before which so many stand; there is none past 64 bits
+-- the number of a line after `before` others; at most the greatest of 64 bits
 abbrev pub number_behind : ℕ → ℕ
 number_behind before = min (before + 1) (2 ^ 64 - 1)
 
--- lines behind so many others became these, one each
+-- the lines after `before` others became these, one each
 abbrev pub AreLinesMade : Sending → ℕ → List LineMade → Type 0
 AreLinesMade s before [] = Unit {0}
 AreLinesMade s before (m ∷ ms) = IsLineMade s (number_behind before) m × AreLinesMade s (before + 1) ms
@@ -71,35 +76,46 @@ LacksFeed bytes = (k : ℕ) → k < length bytes → slice_index bytes k ≢ 10
 abbrev pub with_feed : List ℕ → List ℕ
 with_feed line = line ++ 10 ∷ []
 
--- A text of lines, each ended by a line feed, and behind them this.
+-- A text of lines, each ended by a line feed, and the begun line after them.
 pub record IsTextOf (text : List ℕ) (lines : List (List ℕ)) (begun : List ℕ) : Type 0 where
+  -- the parts of the text
   pub whole : text ≡ flat_map with_feed lines ++ begun
+  -- no line has a line feed inside
   pub apart : All LacksFeed lines
+  -- nor has the begun one
   pub begun_apart : LacksFeed begun
 
--- What was made of a text's lines, by what is begun of the next one, how many came, and whether all became frames.
+-- What the lines of a text became, with the begun line, the number of lines, and whether all became frames.
 pub record HasMadeBy (s : Sending) (begun : List ℕ) (number : ℕ) (good : Bool)
     (text : List ℕ) (made : List LineMade) : Type 0 where
+  -- the lines
   pub lines : List (List ℕ)
+  -- they are the text's
   pub parts : IsTextOf text lines begun
+  -- each became one
   pub each : length made ≡ length lines
+  -- its frame, or its refusal
   pub are : AreLinesMade s 0 made
+  -- the number of lines, at most the greatest of 64 bits
   pub counted : number ≡ min (length made) (2 ^ 64 - 1)
+  -- whether all became frames
   pub good_is : good ≡ are_all_framed made
 
--- what lines are sent as
+-- how lines are sent
 abbrev pub sending_of : FramesOfLines → Sending
 sending_of r = r.sending
 
--- what came of the line that isn't ended
+-- the begun line
 abbrev pub begun_line : FramesOfLines → List ℕ
 begun_line r = r.line.items
 
--- Of this text the sender has made these, one of each line that a line feed ended.
+-- The lines of this text that a line feed ended became these, one each.
 abbrev pub HasMade : FramesOfLines → List ℕ → List LineMade → Type 0
 HasMade r = HasMadeBy r.sending r.line.items r.number r.is_good
 
--- The bytes of what was made were appended: of a frame to the frames alone, of a refusal to the refusals alone.
+-- The bytes of what lines became were appended: a frame's to the frames alone, a refusal's to the refusals alone.
 pub record AppendedApart (frames frames' wrongs wrongs' : List ℕ) (made : List LineMade) : Type 0 where
+  -- to the frames
   pub to_frames : frames' ≡ frames ++ flat_map framed_bytes made
+  -- to the refusals
   pub to_wrongs : wrongs' ≡ wrongs ++ flat_map refused_bytes made

@@ -1,4 +1,4 @@
--- How many bytes a value of a type takes at most.
+-- The maximum sizes of types, in bytes.
 use Rattle.std.specs.Prelude.{◌≡◌, ℕ, zero, suc, ◌+◌, ◌*◌, ◌≤◌, List, [], ◌∷◌, length, map, Option, Some, None}
 use Rattle.std.specs.List.{slice_get}
 use Rattle.postcard_tree.specs.Tree.{Tree}
@@ -9,51 +9,51 @@ use Rattle.schema_table.specs.declared.node.Node.TheVariants as node
 use Rattle.schemas.specs.Integers.{width_of}
 use Rattle.schemas.specs.Schemas.{SchemaTakes}
 
--- each tree that is taken has a shortest spelling of at most so many bytes
+-- each tree that is accepted has a shortest encoding of at most n bytes
 abbrev pub IsAtMost : (Tree → Type 0) → ℕ → Type 0
 IsAtMost takes n = (t : Tree) → takes t → length (short t) ≤ n
 
--- the size in a list of them, or none
+-- the size at a place of a list, if the place and the size are there
 abbrev pub size_in : Option (Option ℕ) → Option ℕ
 size_in None = None
 size_in (Some size) = size
 
--- the size at that place, where it is known
+-- the size at that index, if it is known
 abbrev pub known_size : List (Option ℕ) → ℕ → Option ℕ
 known_size sizes place = size_in (slice_get sizes place)
 
--- each size that is known bounds what is taken at its place
+-- each size that is known bounds what the type at its index accepts
 abbrev pub KnowsSizes : (ℕ → Tree → Type 0) → List (Option ℕ) → Type 0
 KnowsSizes takes sizes = (place n : ℕ) → known_size sizes place ≡ Some n → IsAtMost (takes place) n
 
--- each size that is known bounds what the type at its place takes, however deep it nests
+-- each size that is known bounds what the type at its index accepts, however deep it nests
 abbrev pub AreSizesOf : List Node → List (Option ℕ) → Type 0
 AreSizesOf nodes sizes = (depth : ℕ) → KnowsSizes (SchemaTakes depth nodes) sizes
 
--- the sum of two sizes; none where one has none
+-- the sum of two sizes; none if one isn't known
 abbrev pub both : Option ℕ → Option ℕ → Option ℕ
 both None b = None
 both (Some a) None = None
 both (Some a) (Some b) = Some (a + b)
 
--- so many of this size
+-- n of this size
 abbrev pub so_many : ℕ → Option ℕ → Option ℕ
 so_many zero size = Some 0
 so_many (suc n) None = None
 so_many (suc n) (Some size) = Some (size * suc n)
 
--- the sum of the sizes at these places
+-- the sum of the sizes at these indices
 abbrev pub sum_size : List (Option ℕ) → List ℕ → Option ℕ
 sum_size sizes [] = Some 0
 sum_size sizes (i ∷ is) = both (known_size sizes i) (sum_size sizes is)
 
--- the greatest of the sizes at these places, each behind the index of its variant, which are counted from this one on
+-- the greatest of the sizes at these indices, each with the index of its variant, counted from this one on
 abbrev pub variant_size : List (Option ℕ) → ℕ → List ℕ → Option ℕ
 variant_size sizes index [] = Some 0
 variant_size sizes index (i ∷ is) =
     greater_of (both (Some (length (varint index))) (known_size sizes i)) (variant_size sizes (index + 1) is)
 
--- as many elements as may be, behind their count
+-- the size of n elements and their count
 abbrev pub counted_size : ℕ → Option ℕ → Option ℕ
 counted_size n element = both (so_many n element) (Some (length (varint n)))
 
@@ -83,19 +83,22 @@ node_size sizes (node.Array n i) = so_many n (known_size sizes i)
 node_size sizes (node.Struct is) = sum_size sizes is.items
 node_size sizes (node.Enum is) = variant_size sizes 0 is.items
 
--- a list whose elements are known to take no bytes has so many at most; any other stays
+-- a list whose elements are known to have no bytes gets this maximum length; any other is unchanged
 abbrev pub list_bounded : Option ℕ → ℕ → ℕ → Node
 list_bounded None most i = node.List i
 list_bounded (Some zero) most i = node.ListUpTo most i
 list_bounded (Some (suc n)) most i = node.List i
 
--- so is a node that is a list; any other stays
+-- the same for a node; one that isn't a list is unchanged
 abbrev pub node_bounded : List (Option ℕ) → ℕ → Node → Node
 node_bounded sizes most (node.List i) = list_bounded (known_size sizes i) most i
 node_bounded sizes most n = n
 
--- of these nodes, the lists whose elements take no bytes, as far as that is known, have so many at most, and all others stay
+-- Among these nodes each list whose elements are known to have no bytes got this maximum length, and every other is unchanged.
 pub record AreListsBounded (most : ℕ) (nodes nodes' : List Node) : Type 0 where
+  -- sizes of the types
   pub sizes : List (Option ℕ)
+  -- they are upper bounds
   pub right : AreSizesOf nodes sizes
+  -- the lists that they bound by 0 are changed
   pub changed : nodes' ≡ map (node_bounded sizes most) nodes

@@ -1,4 +1,4 @@
--- Messages with a checksum behind the value.
+-- Messages with a checksum after the value.
 use Rattle.std.specs.Prelude.{◌≡◌, ℕ, ◌-◌, Bool, true, false, List, ◌++◌, length, take, drop}
 use Rattle.postcard_tree.specs.Tree.{Tree}
 use Rattle.postcard_tree.specs.Spelling.{short}
@@ -6,7 +6,7 @@ use Rattle.postcard_tree.specs.Fixed.{little_endian}
 use Rattle.link.specs.Judged.{FrontLaws}
 use Rattle.sealed.specs.Checksum.{sum_of_bytes}
 
--- bytes with their CRC-32 behind them, the lowest byte first
+-- bytes followed by their CRC-32, in little-endian order
 abbrev pub with_sum : List ℕ → List ℕ
 with_sum bytes = bytes ++ little_endian 4 (sum_of_bytes bytes)
 
@@ -14,12 +14,12 @@ with_sum bytes = bytes ++ little_endian 4 (sum_of_bytes bytes)
 abbrev pub EndsInSum : List ℕ → Type 0
 EndsInSum bytes = drop (length bytes - 4) bytes ≡ little_endian 4 (sum_of_bytes (take (length bytes - 4) bytes))
 
--- a tree whose shortest spelling ends so, where a sum is wanted
+-- a tree whose shortest encoding ends so, if a checksum is asked for
 abbrev pub IsSummed : Bool → Tree → Type 0
 IsSummed false t = Unit {0}
 IsSummed true t = EndsInSum (short t)
 
--- a tree that is taken, and ends so
+-- a tree that is accepted, and ends so
 abbrev pub TakesSummed : Bool → (Tree → Type 0) → Tree → Type 0
 TakesSummed summed takes t = takes t × IsSummed summed t
 
@@ -27,7 +27,7 @@ TakesSummed summed takes t = takes t × IsSummed summed t
 abbrev pub ReadsSummed : {V : Type 0} → Bool → (Tree → V → Type 0) → Tree → V → Type 0
 ReadsSummed summed reads t v = reads t v × IsSummed summed t
 
--- its laws
+-- the laws of reading such trees
 pub summed_laws : {V : Type 0} {takes : Tree → Type 0} {reads : Tree → V → Type 0} (summed : Bool)
     → FrontLaws takes reads → FrontLaws (TakesSummed summed takes) (ReadsSummed summed reads)
 summed_laws summed laws = record {
@@ -36,7 +36,7 @@ summed_laws summed laws = record {
   once = λ t u a b x y p q. laws.once t u a b x y p.0 q.0;
 }
 
--- a message, with its sum where one is wanted
+-- a message, followed by its checksum if one is asked for
 abbrev pub message_with : Bool → List ℕ → List ℕ
 message_with false bytes = bytes
 message_with true bytes = with_sum bytes

@@ -1,17 +1,21 @@
--- What a table keeps.
+-- What a table of messages keeps.
 use Rattle.std.specs.Prelude.{◌≡◌, ℕ, ◌+◌, ◌-◌, List, ◌∷◌, length, drop, max, String}
 use Rattle.std.specs.Global.{Global}
 use Rattle.wire_lib.specs.Rates.{capped, HasTimed, newest}
 use Rattle.wire_lib.specs.declared.watching.table.Row.{Row}
 
--- a message with this text came in that window
+-- A message with this text was counted in a row, in this window of time.
 pub record IsNoted (text : String Global) (window : ℕ) (old new : Row) : Type 0 where
+  -- the kind keeps its name
   pub name : new.name ≡ old.name
+  -- one message more
   pub count : new.count ≡ capped (old.count + 1)
+  -- its text is the last one's
   pub last : new.last ≡ text
+  -- the rate has it too, in its window or the latest
   pub rate : (times : List ℕ) → HasTimed old.rate times
       → HasTimed new.rate (max window (newest times) ∷ times)
 
--- the last of these, so many at most
+-- the last n of these, or all if there are fewer
 abbrev pub last_of : {A : Type 0} → ℕ → List A → List A
 last_of n xs = drop (length xs - n) xs

@@ -1,22 +1,22 @@
-//! Floats that are no numbers as texts, and floats of JSON by their bits.
+//! Floats by their bits, from JSON numbers and strings, and the strings for those that JSON has no number for.
 use schemas::{Integer, IntegerType};
 use std::alloc::{AllocError, Global};
 use std::fmt::Write;
 
-/// How each text of a NaN begins that isn't the usual one; its bits stand behind.
+/// The prefix of the string for a NaN other than the usual one; its bits follow in hexadecimal.
 const BITS: &str = "NaN:";
 
-/// The sign of a float of 32 bits, and its exponent where it is no number.
+/// The sign bit of an `f32`, and the exponent bits of an infinity; greater without the sign is a NaN.
 const SIGN: u32 = 0x8000_0000;
 
 const EXPONENT: u32 = 0x7f80_0000;
 
-/// The same of 64 bits.
+/// The same for an `f64`.
 const DOUBLE_SIGN: u64 = 0x8000_0000_0000_0000;
 
 const DOUBLE_EXPONENT: u64 = 0x7ff0_0000_0000_0000;
 
-/// The float of these bits, unless they are a NaN's.
+/// Returns the `f32` with these bits, or `None` for a NaN.
 pub fn single(bits: u32) -> Option<f32> {
     if bits % SIGN > EXPONENT {
         None
@@ -25,7 +25,7 @@ pub fn single(bits: u32) -> Option<f32> {
     }
 }
 
-/// The same of 64 bits.
+/// Returns the `f64` with these bits, or `None` for a NaN.
 pub fn double(bits: u64) -> Option<f64> {
     if bits % DOUBLE_SIGN > DOUBLE_EXPONENT {
         None
@@ -34,7 +34,7 @@ pub fn double(bits: u64) -> Option<f64> {
     }
 }
 
-/// The text of a float of 32 bits that is no number: `Infinity`, `-Infinity`, `NaN`, or with its bits `NaN:7fc00001`.
+/// Returns the string for an `f32` that isn't finite: `Infinity`, `-Infinity`, `NaN`, or with its bits `NaN:7fc00001`.
 pub fn word_of(alloc: Global, bits: u32) -> Result<String, AllocError> {
     match bits {
         0x7f80_0000 => String::from_str(alloc, "Infinity"),
@@ -50,7 +50,7 @@ pub fn word_of(alloc: Global, bits: u32) -> Result<String, AllocError> {
     }
 }
 
-/// The same of 64 bits.
+/// Returns the string for an `f64` that isn't finite, as [`word_of`] does.
 pub fn word_of_double(alloc: Global, bits: u64) -> Result<String, AllocError> {
     match bits {
         0x7ff0_0000_0000_0000 => String::from_str(alloc, "Infinity"),
@@ -66,7 +66,7 @@ pub fn word_of_double(alloc: Global, bits: u64) -> Result<String, AllocError> {
     }
 }
 
-/// The bits that stand as so many hexadecimal digits behind the word for a NaN.
+/// The bits after `NaN:`, if exactly `digits` hexadecimal digits follow.
 fn bits_of_nan(word: &str, digits: usize) -> Option<u64> {
     let text = word.strip_prefix(BITS)?;
     if text.len() != digits {
@@ -81,7 +81,7 @@ fn bits_of_nan(word: &str, digits: usize) -> Option<u64> {
     Some(bits)
 }
 
-/// The bits of a float of 32 bits by a text.
+/// The bits of an `f32` from its string.
 fn bits_of_word(word: &str) -> Option<u32> {
     match word {
         "Infinity" => return Some(0x7f80_0000),
@@ -96,7 +96,7 @@ fn bits_of_word(word: &str) -> Option<u32> {
     u32::try_from(bits).ok()
 }
 
-/// The same of 64 bits.
+/// The bits of an `f64` from its string.
 fn bits_of_word_of_double(word: &str) -> Option<u64> {
     match word {
         "Infinity" => return Some(0x7ff0_0000_0000_0000),
@@ -111,7 +111,7 @@ fn bits_of_word_of_double(word: &str) -> Option<u64> {
     Some(bits)
 }
 
-/// The bits of the float of 32 bits that is nearest to a number, unless that is an infinity.
+/// The bits of the `f32` nearest to a number, or `None` if that is an infinity.
 fn bits_of_number(text: &str) -> Option<u32> {
     let number: f32 = fast_float::parse(text).ok()?;
     if !number.is_finite() {
@@ -120,7 +120,7 @@ fn bits_of_number(text: &str) -> Option<u32> {
     Some(number.to_bits())
 }
 
-/// The same of 64 bits.
+/// The bits of the `f64` nearest to a number, or `None` if that is an infinity.
 fn bits_of_double(text: &str) -> Option<u64> {
     let number: f64 = fast_float::parse(text).ok()?;
     if !number.is_finite() {
@@ -129,7 +129,9 @@ fn bits_of_double(text: &str) -> Option<u64> {
     Some(number.to_bits())
 }
 
-/// The bits of a float of a width, by a number of JSON.
+/// Returns the bits of the float nearest to a JSON number, in the width of `of`: `U32` for `f32`, `U64` for `f64`.
+///
+/// Returns `None` if the nearest float is an infinity, or for another width.
 pub fn float_of_number(of: IntegerType, text: &str) -> Option<Integer> {
     match of {
         IntegerType::U32 => Some(Integer::U32(bits_of_number(text)?)),
@@ -138,7 +140,7 @@ pub fn float_of_number(of: IntegerType, text: &str) -> Option<Integer> {
     }
 }
 
-/// The same by a text that stands for what is no number.
+/// Returns the bits of a float from its string, such as `NaN` or `-Infinity`; `None` if it is no such string.
 pub fn float_of_word(of: IntegerType, word: &str) -> Option<Integer> {
     match of {
         IntegerType::U32 => Some(Integer::U32(bits_of_word(word)?)),

@@ -1,5 +1,5 @@
-//! Messages of any device as lines of JSON: a value by its schema as JSON and back, frames as lines and lines as frames, and the
-//! words of the program `wire`.
+//! The library of the program `wire`: messages of any device as lines of JSON. Values as JSON by their schema and back, frames as
+//! lines, lines as frames, a live view of a stream, and the program's arguments.
 #![tactic(auto)]
 
 mod floats;
@@ -18,5 +18,5 @@ pub mod watching;
 pub mod words;
 pub mod wrong;
 
-/// How many nodes a value may nest in, unless a word says otherwise.
+/// The default limit of nested nodes of a value; `depth=N` sets another.
 pub const DEPTH: u32 = 60;

@@ -1,11 +1,11 @@
-//! How a type's values look, where printing and parsing have to agree.
+//! What printing and parsing have to agree on about the JSON of a type.
 use schema_table::{Names, Schema};
 use schemas::Node;
 
-/// The name of a value that is there, where the value itself may look as if none were.
+/// The key of a present optional value whose own JSON could be `null`.
 pub const PRESENT: &str = "Some";
 
-/// Whether a value of the type at that place may look as `null`: an option, `()`, or what a newtype of such holds.
+/// Returns whether a value of the type at index `place` can have the JSON `null`: an option, `()`, or a newtype of one of these.
 pub fn may_be_null(schema: &Schema, place: usize) -> bool {
     let mut at = place;
     for _ in 0..schema.nodes.len() {
@@ -22,7 +22,7 @@ pub fn may_be_null(schema: &Schema, place: usize) -> bool {
     true
 }
 
-/// Whether a node's values can be keys of an object by themselves.
+/// Whether a node's values can be the keys of an object, newtypes and enums apart.
 fn is_plain_key(node: &Node) -> bool {
     !matches!(
         node,
@@ -36,7 +36,7 @@ fn is_plain_key(node: &Node) -> bool {
     )
 }
 
-/// Whether no variant holds anything, by the places of what they would hold.
+/// Whether no variant has fields, by the indices of their payloads.
 fn are_empty(schema: &Schema, payloads: &[usize]) -> bool {
     for payload in payloads {
         if !is_empty(schema, *payload) {
@@ -46,8 +46,8 @@ fn are_empty(schema: &Schema, payloads: &[usize]) -> bool {
     true
 }
 
-/// Whether the values of the type at that place can be keys of an object: texts, characters, truth values, integers, variants
-/// that hold nothing, and newtypes of such.
+/// Whether the values of the type at index `place` can be keys of an object: texts, characters, booleans, integers, variants
+/// without fields, and newtypes of these.
 fn is_key(schema: &Schema, place: usize) -> bool {
     let mut at = place;
     for _ in 0..schema.nodes.len() {
@@ -65,7 +65,7 @@ fn is_key(schema: &Schema, place: usize) -> bool {
     false
 }
 
-/// Whether the pairs of a map at that place have keys that can be those of an object.
+/// Returns whether a map with these pairs, the struct at index `pair`, is an object in JSON: its keys can be texts.
 pub fn has_text_keys(schema: &Schema, pair: usize) -> bool {
     match schema.nodes.get(pair) {
         Some(Node::Struct(fields)) => match fields.as_slice() {
@@ -76,17 +76,17 @@ pub fn has_text_keys(schema: &Schema, pair: usize) -> bool {
     }
 }
 
-/// Whether the values of the type at that place are bytes.
+/// Returns whether the type at index `place` is `u8`.
 pub fn is_byte(schema: &Schema, place: usize) -> bool {
     matches!(schema.nodes.get(place), Some(Node::U8))
 }
 
-/// Whether the bytes of the integer at that place are those of a float.
+/// Returns whether the integer at index `place` holds the bits of a float.
 pub fn is_float(schema: &Schema, place: usize) -> bool {
     matches!(schema.names.get(place), Some(Names::Float))
 }
 
-/// Whether a variant holds nothing, by the place of what it would hold.
+/// Returns whether a variant has no fields, by the index of its payload.
 pub fn is_empty(schema: &Schema, payload: usize) -> bool {
     matches!(schema.names.get(payload), Some(Names::Empty))
 }

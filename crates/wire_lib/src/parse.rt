@@ -1,4 +1,4 @@
-//! JSON as values.
+//! Values from JSON.
 ghost use Rattle.std.specs.Prelude.{IfOk};
 ghost use Rattle.wire_lib.specs.Parsed.{IsOfType};
 
@@ -14,71 +14,71 @@ use std::str::from_utf8;
 
 type Parsed = Result<Value, ParseError>;
 
-/// What is said of nodes that nest too deep.
-const TOO_DEEP: &str = "the value nests too deep: `depth=` says how deep it may";
+/// The error for more nested nodes than allowed.
+const TOO_DEEP: &str = "the value is nested too deeply: `depth=` sets the limit";
 
-/// What is said of a type that isn't there.
+/// The error for an index that the table hasn't.
 const NO_TYPE: &str = "the schema has no such type";
 
 fn boolean(json: &Json<'_>) -> Parsed {
     match json {
         Json::Bool(b) => Ok(Value::Bool(*b)),
-        _ => Err(refusal("true or false is wanted")),
+        _ => Err(refusal("expected true or false")),
     }
 }
 
-/// A text of one character.
+/// A character from a string of one character.
 fn character(json: &Json<'_>) -> Parsed {
     match json {
         Json::String(text) => char_of(text),
-        _ => Err(refusal("a text of one character is wanted")),
+        _ => Err(refusal("expected a string of one character")),
     }
 }
 
-/// The character that a text is.
+/// The only character of a text.
 fn char_of(text: &str) -> Parsed {
     let mut characters = text.chars();
     match (characters.next(), characters.next()) {
         (Some(c), None) => Ok(Value::Char(c)),
-        _ => Err(refusal("a text of one character is wanted")),
+        _ => Err(refusal("expected a string of one character")),
     }
 }
 
 fn text(alloc: Global, json: &Json<'_>) -> Parsed {
     match json {
         Json::String(text) => Ok(Value::Text(String::from_str(alloc, text)?)),
-        _ => Err(refusal("a text is wanted")),
+        _ => Err(refusal("expected a string")),
     }
 }
 
-/// A text of at most so many bytes.
+/// A text of at most `most` bytes.
 fn text_up_to(alloc: Global, most: u64, held: &str) -> Parsed {
     if held.len() as u64 > most {
-        return Err(refusal("a text is too long"));
+        return Err(refusal("the string is too long"));
     }
     Ok(Value::Text(String::from_str(alloc, held)?))
 }
 
-/// The same of what stands for it.
+/// The same from JSON.
 fn short_text(alloc: Global, most: u64, json: &Json<'_>) -> Parsed {
     match json {
         Json::String(held) => text_up_to(alloc, most, held),
-        _ => Err(refusal("a text is wanted")),
+        _ => Err(refusal("expected a string")),
     }
 }
 
-/// A byte, by its number.
+/// A byte from a number.
 fn byte(json: &Json<'_>) -> Result<u8, ParseError> {
     match json {
         Json::Number(text) => match text.parse::<u8>() {
             Ok(byte) => Ok(byte),
-            Err(_) => Err(refusal("a number from 0 to 255 is wanted")),
+            Err(_) => Err(refusal("expected a number from 0 to 255")),
         },
-        _ => Err(refusal("a byte is wanted")),
+        _ => Err(refusal("expected a byte")),
     }
 }
 
-/// Bytes of an array of numbers.
+/// Bytes from an array of numbers.
 fn bytes_of_numbers(alloc: Global, elements: &[Json<'_>]) -> Result<Vec<u8>, ParseError> {
     let mut bytes = Vec::new(alloc);
     for element in elements {
@@ -90,12 +90,12 @@ fn bytes_of_numbers(alloc: Global, elements: &[Json<'_>]) -> Result<Vec<u8>, Par
     Ok(bytes)
 }
 
-/// Bytes of hexadecimal digits.
+/// Bytes from hexadecimal digits.
 fn bytes_of_digits(alloc: Global, digits: &str) -> Result<Vec<u8>, ParseError> {
     let mut bytes = Vec::from_elem(alloc, 0, digits.len() / 2)?;
     match hex::decode_to_slice(digits.as_bytes(), &mut bytes) {
         Ok(()) => Ok(bytes),
-        Err(_) => Err(refusal("the text isn't hexadecimal")),
+        Err(_) => Err(refusal("the string isn't hexadecimal")),
     }
 }
 
@@ -103,11 +103,11 @@ fn bytes(alloc: Global, json: &Json<'_>) -> Parsed {
     match json {
         Json::Array(elements) => Ok(Value::Bytes(bytes_of_numbers(alloc, elements)?)),
         Json::String(digits) => Ok(Value::Bytes(bytes_of_digits(alloc, digits)?)),
-        _ => Err(refusal("an array of bytes is wanted, or their digits")),
+        _ => Err(refusal("expected an array of bytes or a string of hexadecimal digits")),
     }
 }
 
-/// An integer of the type, if it is in its range.
+/// An integer, if it is in the range of the type.
 fn integer_of(of: IntegerType, text: &str) -> Option<Integer> {
     Some(match of {
         IntegerType::U16 => Integer::U16(text.parse().ok()?),
@@ -121,7 +121,7 @@ fn integer_of(of: IntegerType, text: &str) -> Option<Integer> {
     })
 }
 
-/// A number of the type, if it is in its range.
+/// A number, if it is in the range of the type.
 fn number_of(node: &Node, text: &str) -> Option<Value> {
     Some(match node {
         Node::U8 => Value::U8(text.parse().ok()?),
@@ -140,26 +140,26 @@ fn number_of(node: &Node, text: &str) -> Option<Value> {
     })
 }
 
-/// What is said of a number that isn't of the type.
+/// The error for a number out of the range of the type.
 fn range_of(node: &Node) -> &'static str {
     match node {
-        Node::U8 => "a number from 0 to 255 is wanted",
-        Node::I8 => "a number from -128 to 127 is wanted",
+        Node::U8 => "expected a number from 0 to 255",
+        Node::I8 => "expected a number from -128 to 127",
         Node::U16 | Node::LE(IntegerType::U16) | Node::BE(IntegerType::U16) =>
-            "a number from 0 to 65535 is wanted",
+            "expected a number from 0 to 65535",
         Node::I16 | Node::LE(IntegerType::I16) | Node::BE(IntegerType::I16) =>
-            "a number from -32768 to 32767 is wanted",
+            "expected a number from -32768 to 32767",
         Node::U32 | Node::LE(IntegerType::U32) | Node::BE(IntegerType::U32) =>
-            "a number from 0 to 4294967295 is wanted",
+            "expected a number from 0 to 4294967295",
         Node::I32 | Node::LE(IntegerType::I32) | Node::BE(IntegerType::I32) =>
-            "a number from -2147483648 to 2147483647 is wanted",
+            "expected a number from -2147483648 to 2147483647",
         Node::U64 | Node::LE(IntegerType::U64) | Node::BE(IntegerType::U64) =>
-            "a number from 0 to 2^64 - 1 is wanted",
+            "expected a number from 0 to 2^64 - 1",
         Node::I64 | Node::LE(IntegerType::I64) | Node::BE(IntegerType::I64) =>
-            "a number from -2^63 to 2^63 - 1 is wanted",
+            "expected a number from -2^63 to 2^63 - 1",
         Node::U128 | Node::LE(IntegerType::U128) | Node::BE(IntegerType::U128) =>
-            "a number from 0 to 2^128 - 1 is wanted",
-        _ => "a number from -2^127 to 2^127 - 1 is wanted",
+            "expected a number from 0 to 2^128 - 1",
+        _ => "expected a number from -2^127 to 2^127 - 1",
     }
 }
 
@@ -175,33 +175,33 @@ fn is_of_fraction(c: char) -> bool {
 
 fn number(node: &Node, json: &Json<'_>) -> Parsed {
     let Json::Number(text) = json else {
-        return Err(refusal("a number is wanted"));
+        return Err(refusal("expected a number"));
     };
     match number_of(node, text) {
         Some(value) => Ok(value),
         None if has_fraction(text) => {
-            Err(refusal("a number without fraction or exponent is wanted"))
+            Err(refusal("expected a number without fraction or exponent"))
         }
         None => Err(refusal(range_of(node))),
     }
 }
 
-/// A float of a width, by its bits: of a number, or of a text for what is none.
+/// The bits of a float: from a number, or from the string of one that isn't finite.
 fn float(of: IntegerType, json: &Json<'_>) -> Parsed {
     let bits = match json {
         Json::Number(text) => float_of_number(of, text),
         Json::String(word) => float_of_word(of, word),
-        _ => return Err(refusal("a number is wanted")),
+        _ => return Err(refusal("expected a number")),
     };
     match bits {
         Some(bits) => Ok(Value::LE(bits)),
         None => Err(refusal(
-            "a float is out of range, or another text than `NaN`, `Infinity`, `-Infinity`",
+            "the float is out of range, or the string is none of `NaN`, `Infinity`, `-Infinity`",
         )),
     }
 }
 
-/// What is there of an optional value, which isn't `null`.
+/// The JSON of a present optional value, which isn't `null`.
 fn present<'a, 'b>(
     schema: &Schema,
     place: usize,
@@ -216,7 +216,7 @@ fn present<'a, 'b>(
     {
         return Ok(held);
     }
-    Err(refusal("null or {\"Some\": ..} is wanted"))
+    Err(refusal("expected null or {\"Some\": ..}"))
 }
 
 #[cycle(parse)]
@@ -257,7 +257,7 @@ fn byte_values(alloc: Global, bytes: &[u8]) -> Result<Vec<Value>, ParseError> {
     Ok(items)
 }
 
-/// Values of one type: of an array, or of hexadecimal digits where they are bytes.
+/// Values of one type: from an array, or from hexadecimal digits if the type is `u8`.
 #[cycle(parse)]
 fn elements(
     alloc: Global,
@@ -273,13 +273,13 @@ fn elements(
             byte_values(alloc, &bytes)
         }
         _ if is_byte(schema, place) => {
-            Err(refusal("an array of bytes is wanted, or their digits"))
+            Err(refusal("expected an array of bytes or a string of hexadecimal digits"))
         }
-        _ => Err(refusal("an array is wanted")),
+        _ => Err(refusal("expected an array")),
     }
 }
 
-/// A truth value by its name.
+/// A boolean from a key.
 fn truth_of(key: &str) -> Parsed {
     match key {
         "true" => Ok(Value::Bool(true)),
@@ -288,7 +288,7 @@ fn truth_of(key: &str) -> Parsed {
     }
 }
 
-/// A number by its digits.
+/// A number from a key.
 fn number_key(node: &Node, key: &str) -> Parsed {
     match number_of(node, key) {
         Some(value) => Ok(value),
@@ -296,7 +296,7 @@ fn number_key(node: &Node, key: &str) -> Parsed {
     }
 }
 
-/// A text as a key that isn't inside another type.
+/// A value from a key, newtypes and enums apart.
 fn plain_key(alloc: Global, node: &Node, key: &str) -> Parsed {
     match node {
         Node::Bool => truth_of(key),
@@ -307,7 +307,7 @@ fn plain_key(alloc: Global, node: &Node, key: &str) -> Parsed {
     }
 }
 
-/// A variant that holds nothing, by its name.
+/// A variant without fields from a key.
 #[cycle(parse)]
 fn variant_key(
     alloc: Global,
@@ -327,7 +327,7 @@ fn variant_key(
     Ok(Value::Variant(index, Box::new(alloc, held)?))
 }
 
-/// A text as the key of a map, if its keys can be texts.
+/// The key of a map from a member's name.
 #[cycle(parse)]
 fn key_of(alloc: Global, schema: &Schema, place: usize, depth: u32, key: &str) -> Parsed {
     if depth == 0 {
@@ -356,7 +356,7 @@ fn one_part(alloc: Global, held: Value) -> Parsed {
     Ok(Value::Group(parts))
 }
 
-/// A pair of a key and what it stands for.
+/// A pair of a map from a member: its name and its value.
 #[cycle(parse)]
 fn pair(
     alloc: Global,
@@ -377,7 +377,7 @@ fn pair(
     Ok(Value::Group(parts))
 }
 
-/// A member of a map as a pair of the type at that place.
+/// A pair of the type at index `place` from a member.
 #[cycle(parse)]
 fn member(
     alloc: Global,
@@ -396,7 +396,7 @@ fn member(
     }
 }
 
-/// The pairs of a map.
+/// The pairs of a map from an object.
 #[cycle(parse)]
 fn pairs(
     alloc: Global,
@@ -415,7 +415,7 @@ fn pairs(
     Ok(items)
 }
 
-/// Values of one type: of an object where they are the pairs of a map whose keys can be texts, or as `elements`.
+/// Values of one type: from an object if they are the pairs of a map whose keys can be texts, else as `elements` does.
 #[cycle(parse)]
 fn list(
     alloc: Global,
@@ -430,12 +430,12 @@ fn list(
             pairs(alloc, schema, place, depth, members)
         }
         (Names::Map, Json::Array(elements)) => items(alloc, schema, place, depth, elements),
-        (Names::Map, _) => Err(refusal("an object is wanted, or an array of pairs")),
+        (Names::Map, _) => Err(refusal("expected an object or an array of pairs")),
         _ => elements(alloc, schema, place, depth, json),
     }
 }
 
-/// A list of at most so many elements.
+/// A list of at most `most` elements.
 #[cycle(parse)]
 fn list_up_to(
     alloc: Global,
@@ -447,7 +447,7 @@ fn list_up_to(
 ) -> Parsed {
     let items = list(alloc, schema, names, place, depth, json)?;
     if items.len() as u64 > most {
-        return Err(refusal("the list has more elements than the type takes"));
+        return Err(refusal("the list has more elements than the type allows"));
     }
     Ok(Value::List(items))
 }
@@ -462,12 +462,12 @@ fn array(
 ) -> Parsed {
     let items = elements(alloc, schema, place, depth, json)?;
     if items.len() as u64 != count {
-        return Err(refusal("the array has another length than the type"));
+        return Err(refusal("the array has another length than the type's"));
     }
     Ok(Value::Group(items))
 }
 
-/// The member of that name.
+/// The value of the first member with this name.
 fn named<'a, 'b>(members: &'b [(&'a str, Json<'a>)], name: &str) -> Option<&'b Json<'a>> {
     for (key, json) in members {
         if *key == name {
@@ -477,7 +477,7 @@ fn named<'a, 'b>(members: &'b [(&'a str, Json<'a>)], name: &str) -> Option<&'b J
     None
 }
 
-/// What stands for the field at that place among so many.
+/// The JSON of field `i` of `count`.
 fn part<'a, 'b>(
     names: &Names,
     count: usize,
@@ -490,17 +490,17 @@ fn part<'a, 'b>(
             Some(held) => Ok(held),
             None => Err(NO_TYPE),
         },
-        (Names::Tuple, _) => Err("an array of as many elements as the tuple has is wanted"),
+        (Names::Tuple, _) => Err("expected an array with as many elements as the tuple has"),
         (Names::Fields(names), Json::Object(members)) => match names.get(i) {
             Some(name) => named(members, name.as_str()).ok_or("a field is missing"),
             None => Err(NO_TYPE),
         },
-        (Names::Fields(_), _) => Err("an object of the fields is wanted"),
+        (Names::Fields(_), _) => Err("expected an object with the fields"),
         _ => Err(NO_TYPE),
     }
 }
 
-/// The name of a field, if it has one.
+/// The name of a field; empty if it has none.
 fn field_name(names: &Names, i: usize) -> &str {
     match names {
         Names::Fields(names) => match names.get(i) {
@@ -511,7 +511,7 @@ fn field_name(names: &Names, i: usize) -> &str {
     }
 }
 
-/// An error in a field, or of one that is missing.
+/// An error with the field where it is.
 fn inside_field(alloc: Global, names: &Names, i: usize, error: ParseError) -> ParseError {
     match names {
         Names::Newtype => error,
@@ -520,7 +520,7 @@ fn inside_field(alloc: Global, names: &Names, i: usize, error: ParseError) -> Pa
     }
 }
 
-/// Whether one of these names is this one.
+/// Whether `wanted` is one of these names.
 fn has_name(names: &[String], wanted: &str) -> bool {
     for name in names {
         if name.as_str() == wanted {
@@ -530,7 +530,7 @@ fn has_name(names: &[String], wanted: &str) -> bool {
     false
 }
 
-/// The first name that stands twice.
+/// The first name that appears twice.
 fn doubled<'a>(members: &[(&'a str, Json<'a>)]) -> Option<&'a str> {
     let mut rest = members;
     for _ in 0..members.len() {
@@ -545,7 +545,7 @@ fn doubled<'a>(members: &[(&'a str, Json<'a>)]) -> Option<&'a str> {
     None
 }
 
-/// Refuses a member that is none of the fields, or stands twice.
+/// Refuses a member that is none of the fields, or that appears twice.
 fn check_members(alloc: Global, names: &Names, json: &Json<'_>) -> Result<(), ParseError> {
     let (Names::Fields(names), Json::Object(members)) = (names, json) else {
         return Ok(());
@@ -559,12 +559,12 @@ fn check_members(alloc: Global, names: &Names, json: &Json<'_>) -> Result<(), Pa
         }
     }
     match doubled(members) {
-        Some(name) => Err(inside(alloc, name, refusal("the field stands twice"))),
+        Some(name) => Err(inside(alloc, name, refusal("the field appears twice"))),
         None => Ok(()),
     }
 }
 
-/// Whether what stands for a struct without fields is right.
+/// Whether this is the JSON of a struct without fields.
 fn is_right_without_fields(names: &Names, json: &Json<'_>) -> bool {
     match (names, json) {
         (Names::Unit | Names::Empty, Json::Null) => true,
@@ -585,7 +585,7 @@ fn group(
     json: &Json<'_>,
 ) -> Parsed {
     if fields.is_empty() && !is_right_without_fields(names, json) {
-        return Err(refusal("a struct without fields is wanted"));
+        return Err(refusal("expected a struct without fields"));
     }
     let mut items = Vec::new(alloc);
     for i in 0..fields.len() {
@@ -598,7 +598,7 @@ fn group(
     Ok(Value::Group(items))
 }
 
-/// The value of the field at that place.
+/// The value of field `i`.
 #[cycle(parse)]
 fn field(
     alloc: Global,
@@ -618,7 +618,7 @@ fn field(
     }
 }
 
-/// The name of a variant, and what stands for what it holds, if anything does.
+/// The name of a variant, and the JSON of its payload, if there is any.
 fn choice<'a, 'b>(json: &'b Json<'a>) -> Option<(&'a str, Option<&'b Json<'a>>)> {
     match json {
         Json::String(name) => Some((name, None)),
@@ -630,7 +630,7 @@ fn choice<'a, 'b>(json: &'b Json<'a>) -> Option<(&'a str, Option<&'b Json<'a>>)>
     }
 }
 
-/// The index of the variant of that name.
+/// The index of the variant with this name.
 fn index_of(names: &Names, wanted: &str) -> Option<u32> {
     let Names::Variants(names) = names else {
         return None;
@@ -655,7 +655,7 @@ fn variant(
     json: &Json<'_>,
 ) -> Parsed {
     let Some((name, held)) = choice(json) else {
-        return Err(refusal("a variant is wanted"));
+        return Err(refusal("expected a variant"));
     };
     let Some(index) = index_of(names, name) else {
         return Err(inside(alloc, name, refusal("the type has no such variant")));
@@ -669,7 +669,7 @@ fn variant(
     }
 }
 
-/// What a variant holds, by what stands for it: nothing or `null` where it has no fields.
+/// The payload of a variant; without fields it has no JSON, or `null`.
 #[cycle(parse)]
 fn payload(
     alloc: Global,
@@ -681,15 +681,15 @@ fn payload(
     let is_empty = is_empty(schema, place);
     match held {
         None if is_empty => value(alloc, schema, place, depth, &Json::Null),
-        None => Err(refusal("the variant has fields, so an object of its name is wanted")),
+        None => Err(refusal("the variant has fields: expected an object with its name as the key")),
         Some(json) if is_empty && !json.is_null() => {
-            Err(refusal("the variant has no fields, so its name alone is wanted"))
+            Err(refusal("the variant has no fields: expected its name alone"))
         }
         Some(json) => value(alloc, schema, place, depth, json),
     }
 }
 
-/// A value of a node, whose values are called so.
+/// A value of a node, with the names of its parts.
 #[cycle(parse)]
 fn of_node(
     alloc: Global,
@@ -718,7 +718,7 @@ fn of_node(
     }
 }
 
-/// The value of the type at that place of the schema, nesting in at most so many nodes.
+/// The value of the type at index `place`, with at most `depth` nested nodes.
 #[cycle(parse)]
 fn value(alloc: Global, schema: &Schema, place: usize, depth: u32, json: &Json<'_>) -> Parsed {
     if depth == 0 {
@@ -730,7 +730,7 @@ fn value(alloc: Global, schema: &Schema, place: usize, depth: u32, json: &Json<'
     }
 }
 
-/// What stands under `value` in an object that has nothing else.
+/// The value of an object whose only member is `value`.
 fn value_in<'a, 'b>(json: &'b Json<'a>) -> Option<&'b Json<'a>> {
     match json {
         Json::Object(members) => match members.as_slice() {
@@ -741,7 +741,7 @@ fn value_in<'a, 'b>(json: &'b Json<'a>) -> Option<&'b Json<'a>> {
     }
 }
 
-/// A value by itself, or as `{"value": ..}`: where both would do, as the latter.
+/// A value by itself, or as `{"value": ..}`; if the line could be both it is the latter.
 fn value_of_line(
     alloc: Global,
     schema: &Schema,
@@ -761,12 +761,12 @@ fn value_of_line(
     }
 }
 
-/// How deep the JSON of a value may nest that nests in so many nodes: each has a bracket or two, and the line one.
+/// How deep the JSON of a value with at most `depth` nested nodes can nest: each node has up to two brackets, and the line one.
 fn json_depth(depth: u32) -> usize {
     (depth as usize).saturating_mul(2).saturating_add(2)
 }
 
-/// The JSON that a text is, which nests so deep at most; nothing where it is none, and then the reader stands where that shows.
+/// The JSON of a text, or `None` if it isn't JSON; the reader's offset is then where that shows.
 fn json_of<'a>(
     alloc: Global,
     depth: u32,
@@ -779,19 +779,22 @@ fn json_of<'a>(
     }
 }
 
-/// That a text is no JSON, from so many bytes on.
+/// The error for a text that isn't JSON from byte `offset` on.
 fn no_json(alloc: Global, text: &str, offset: usize) -> ParseError {
     let before = text.get(..offset).unwrap_or(text).chars().count();
     at_column(alloc, before.saturating_add(1))
 }
 
-/// The value of the type at that place of the schema that a line of JSON is, as [`print`](crate::print::print) writes it, by
-/// itself or as `{"value": ..}`, nesting in at most so many nodes. The fields of a struct may stand in any order, bytes may be
-/// an array or a text of hexadecimal digits, a map whose keys can be texts an object or an array of pairs, and a variant
-/// without fields its name or an object with `null`.
+/// Returns the value of the type at index `place` that a line of JSON contains, with at most `depth` nested nodes.
 ///
-/// A number out of its type's range, a field too many, twice or too few, and another number of elements are refused, with
-/// the way to them. What is answered was read by the type from what is written of it.
+/// The line is a value as [`print`](crate::print::print) writes it, or `{"value": ..}`. The fields of a struct can have any order.
+/// Bytes can be an array or a string of hexadecimal digits, a map whose keys can be texts an object or an array of pairs, and a
+/// variant without fields its name or an object with `null`.
+///
+/// # Errors
+/// - `Wrong`: the line isn't UTF-8 or JSON, or isn't of the type, such as a number out of range, an unknown, repeated or missing
+///   field, or another number of elements. It has the path to the fault.
+/// - `OutOfMemory`.
 pub fn parse(alloc: Global, schema: &Schema, place: usize, depth: u32, line: &[u8]) -> Parsed
     ensures { IfOk result (λ v. IsOfType depth schema.now.nodes.items place v) }
 {

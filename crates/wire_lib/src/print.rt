@@ -6,10 +6,10 @@ use schema_table::{Names, Schema};
 use schemas::{Integer, Node, Value};
 use std::alloc::{AllocError, Global};
 
-/// Printing fails if memory is wanting, and for no other reason: what isn't of the type has a form too, by the value alone.
+/// Printing fails only if out of memory: what isn't of the type is printed by the value alone.
 type Printed = Result<(), AllocError>;
 
-/// A schema, whether bytes look as hexadecimal text, and how many nodes a value may still nest in.
+/// The table, whether bytes are printed as hexadecimal text, and how many more nested nodes are allowed.
 #[derive(Clone, Copy, Drop)]
 struct Style<'a> {
     alloc: Global,
@@ -18,8 +18,8 @@ struct Style<'a> {
     depth: u32,
 }
 
-/// Appends a number by its digits. That the digits of every number are one for the writer is tested here, since no clause
-/// says it past 64 bits.
+/// Appends a number by its digits. They are tested here, since no clause says that the digits of each number past 64 bits are a
+/// JSON number.
 fn put_digits(out: &mut Writer, digits: &str) -> Printed {
     if !is_number(digits) {
         return put_text(out, digits);
@@ -49,7 +49,7 @@ fn put_i64(out: &mut Writer, n: i64) -> Printed {
     out.i64(n)
 }
 
-/// Appends an integer whose bytes stand as they are.
+/// Appends an integer of fixed width.
 fn put_integer(out: &mut Writer, n: Integer) -> Printed {
     match n {
         Integer::U16(n) => put_u64(out, u64::from(n)),
@@ -63,7 +63,7 @@ fn put_integer(out: &mut Writer, n: Integer) -> Printed {
     }
 }
 
-/// Appends a float of 32 bits: the shortest number that reads back as it, or a text where it is none.
+/// Appends an `f32`: the shortest number that reads back as it, or a string if it isn't finite.
 fn put_single(out: &mut Writer, alloc: Global, bits: u32) -> Printed {
     match single(bits) {
         Some(float) if float.is_finite() => {
@@ -77,7 +77,7 @@ fn put_single(out: &mut Writer, alloc: Global, bits: u32) -> Printed {
     }
 }
 
-/// The same of 64 bits.
+/// The same for an `f64`.
 fn put_double(out: &mut Writer, alloc: Global, bits: u64) -> Printed {
     match double(bits) {
         Some(float) if float.is_finite() => {
@@ -91,7 +91,7 @@ fn put_double(out: &mut Writer, alloc: Global, bits: u64) -> Printed {
     }
 }
 
-/// Appends a float by its bits.
+/// Appends a float from its bits.
 fn put_float(out: &mut Writer, alloc: Global, bits: Integer) -> Printed {
     match bits {
         Integer::U32(bits) => put_single(out, alloc, bits),
@@ -130,7 +130,7 @@ fn put_bytes(out: &mut Writer, style: Style<'_>, bytes: &[u8]) -> Printed {
     put_text(out, digits.as_str())
 }
 
-/// Appends what looks the same whatever holds it; `null` for what holds others.
+/// Appends a value without parts; `null` for one with parts.
 fn put_plain(out: &mut Writer, style: Style<'_>, value: &Value) -> Printed {
     match value {
         Value::Bool(b) => out.boolean(*b),
@@ -152,7 +152,7 @@ fn put_plain(out: &mut Writer, style: Style<'_>, value: &Value) -> Printed {
     }
 }
 
-/// Appends a value of the type at that place; of one that nests in more nodes than it may the outer ones.
+/// Appends a value of the type at index `place`; parts nested too deeply become `null`.
 #[cycle(print)]
 fn put(out: &mut Writer, style: Style<'_>, place: usize, value: &Value) -> Printed {
     if style.depth == 0 {
@@ -185,7 +185,7 @@ fn put(out: &mut Writer, style: Style<'_>, place: usize, value: &Value) -> Print
     }
 }
 
-/// Appends a value that may be absent and isn't.
+/// Appends a present optional value.
 #[cycle(print)]
 fn put_present(out: &mut Writer, style: Style<'_>, inner: usize, held: &Value) -> Printed {
     if may_be_null(style.schema, inner) {
@@ -194,7 +194,7 @@ fn put_present(out: &mut Writer, style: Style<'_>, inner: usize, held: &Value) -
     put(out, style, inner, held)
 }
 
-/// Appends a value as the one member of an object.
+/// Appends a value as the only member of an object.
 #[cycle(print)]
 fn put_under(
     out: &mut Writer,
@@ -209,7 +209,7 @@ fn put_under(
     out.end_object()
 }
 
-/// Appends a list: a map with texts as keys as an object.
+/// Appends a list; a map whose keys can be texts as an object.
 #[cycle(print)]
 fn put_list(
     out: &mut Writer,
@@ -278,7 +278,7 @@ fn put_i128_key(out: &mut Writer, n: i128) -> Printed {
     out.key(buffer.format(n))
 }
 
-/// Appends an integer whose bytes stand as they are as a key.
+/// Appends an integer of fixed width as a key.
 fn put_integer_key(out: &mut Writer, n: Integer) -> Printed {
     match n {
         Integer::U16(n) => put_u128_key(out, u128::from(n)),
@@ -299,7 +299,7 @@ fn put_char_key(out: &mut Writer, alloc: Global, c: char) -> Printed {
     out.key(text.as_str())
 }
 
-/// Appends what looks the same whatever holds it as a key; an empty one for what is no key.
+/// Appends a value without parts as a key; an empty key for what can't be one.
 fn put_plain_key(out: &mut Writer, alloc: Global, value: &Value) -> Printed {
     match value {
         Value::Bool(b) => out.key(if *b { "true" } else { "false" }),
@@ -320,7 +320,7 @@ fn put_plain_key(out: &mut Writer, alloc: Global, value: &Value) -> Printed {
     }
 }
 
-/// The name of a variant of the type at that place.
+/// The name of a variant of the type at index `place`.
 fn variant_name<'a>(schema: &'a Schema, place: usize, index: u32) -> Option<&'a str> {
     match schema.names.get(place) {
         Some(Names::Variants(names)) => match names.get(index as usize) {
@@ -331,7 +331,7 @@ fn variant_name<'a>(schema: &'a Schema, place: usize, index: u32) -> Option<&'a 
     }
 }
 
-/// What newtypes round a key hold, and the place of its type.
+/// The value inside the newtypes around a key, and the index of its type.
 fn inside_newtypes<'a>(schema: &Schema, place: usize, value: &'a Value) -> (usize, &'a Value) {
     let mut at = place;
     let mut held = value;
@@ -348,7 +348,7 @@ fn inside_newtypes<'a>(schema: &Schema, place: usize, value: &'a Value) -> (usiz
     (at, held)
 }
 
-/// Appends a key of the type at that place: its text, its digits, or the name of a variant.
+/// Appends a key of the type at index `place`: its text, its digits, or the name of a variant.
 fn put_key(out: &mut Writer, style: Style<'_>, place: usize, value: &Value) -> Printed {
     let (at, held) = inside_newtypes(style.schema, place, value);
     let Value::Variant(index, _) = held else {
@@ -360,7 +360,7 @@ fn put_key(out: &mut Writer, style: Style<'_>, place: usize, value: &Value) -> P
     }
 }
 
-/// The places of the types of a pair.
+/// The indices of the types of a pair.
 fn pair_of(schema: &Schema, pair: usize) -> Option<(usize, usize)> {
     match schema.nodes.get(pair) {
         Some(Node::Struct(fields)) => match fields.as_slice() {
@@ -371,7 +371,7 @@ fn pair_of(schema: &Schema, pair: usize) -> Option<(usize, usize)> {
     }
 }
 
-/// Appends a pair as a member; an empty one for what is no pair.
+/// Appends a pair as a member; an empty one for what isn't a pair.
 #[cycle(print)]
 fn put_pair(out: &mut Writer, style: Style<'_>, pair: usize, item: &Value) -> Printed {
     match (pair_of(style.schema, pair), item) {
@@ -386,7 +386,7 @@ fn put_pair(out: &mut Writer, style: Style<'_>, pair: usize, item: &Value) -> Pr
     }
 }
 
-/// Appends what stands in the place of a pair.
+/// Appends an empty member for what isn't a pair.
 fn put_no_pair(out: &mut Writer) -> Printed {
     out.key("")?;
     out.null()
@@ -413,7 +413,7 @@ fn put_struct(
     }
 }
 
-/// Appends what a struct of one field holds; of one with a sum behind it, what stands before that.
+/// Appends the value of a struct's only field; if a checksum follows, the value before it.
 #[cycle(print)]
 fn put_newtype(out: &mut Writer, style: Style<'_>, fields: &[usize], items: &[Value]) -> Printed {
     match (fields, items) {
@@ -431,7 +431,7 @@ fn put_fields(out: &mut Writer, style: Style<'_>, fields: &[usize], items: &[Val
     Ok(())
 }
 
-/// Appends values of these types as an object, by their names; one without a name has an empty one.
+/// Appends values of these types as an object; a value without a name gets an empty one.
 #[cycle(print)]
 fn put_members(
     out: &mut Writer,
@@ -448,7 +448,7 @@ fn put_members(
     out.end_object()
 }
 
-/// The name at that place.
+/// The name of field `i`.
 fn name_in(names: &[String], i: usize) -> &str {
     match names.get(i) {
         Some(name) => name.as_str(),
@@ -456,7 +456,7 @@ fn name_in(names: &[String], i: usize) -> &str {
     }
 }
 
-/// Appends a variant: its name, or an object of its name and what it holds; its index if it has no name.
+/// Appends a variant: its name, or an object of its name and its payload; its index if it has no name.
 #[cycle(print)]
 fn put_variant(
     out: &mut Writer,
@@ -478,17 +478,20 @@ fn put_variant(
     put_under(out, style, name, *payload, held)
 }
 
-/// How values look.
+/// How values are printed.
 #[derive(Clone, Copy, Drop)]
 pub struct Look {
-    /// Whether bytes are hexadecimal texts in lower case, else arrays of numbers.
+    /// Whether bytes are strings of hexadecimal digits in lower case, else arrays of numbers.
     pub hex: bool,
-    /// How many nodes a value may nest in.
+    /// The limit of nested nodes of a value.
     pub depth: u32,
 }
 
-/// Appends a value of the type at that place of the schema. It fails only if memory is wanting: of a value that isn't of the type,
-/// or nests too deep, what doesn't fit is written as `null`, by its index, or under an empty name.
+/// Appends a value of the type at index `place` as JSON, as [`print`] does.
+///
+/// # Errors
+/// Out of memory, and nothing else: what doesn't fit the type, or is nested too deeply, is written as `null`, by its index, or under
+/// an empty name.
 pub fn print_into(
     out: &mut Writer,
     alloc: Global,
@@ -506,13 +509,16 @@ pub fn print_into(
     put(out, style, place, value)
 }
 
-/// The JSON of a value of the type at that place of the schema, in one line without a line feed.
+/// Returns the JSON of a value of the type at index `place`, in one line without a line feed.
 ///
-/// It is what `serde_json` writes for the same Rust type: a variant without fields as its name, another as an object of its
-/// name and what it holds; a struct as an object in the order of its fields, by Rust's names; a newtype as what it holds, a
-/// tuple as an array, and what has no fields as `null`. Every number is exact. Bytes are an array of numbers, or with `hex` a
-/// text; a map whose keys can be texts is an object, another one an array of pairs, which `serde_json` refuses. An absent value
-/// is `null`; one that is there and might look as `null` itself is `{"Some": ..}`, where `serde_json` has `null` again.
+/// It is what `serde_json` writes for the same Rust type: a variant without fields as its name, another as an object of its name and
+/// its payload; a struct as an object in the order of its fields, by Rust's names; a newtype as the value inside; a tuple as an
+/// array; `null` for what has no fields. Every number is exact. Bytes are an array of numbers, or with `hex` a string. A map whose
+/// keys can be texts is an object. Two things differ from `serde_json`: another map is an array of pairs, which it refuses, and a
+/// present optional value whose own JSON could be `null` is `{"Some": ..}`, where it writes `null` again.
+///
+/// # Errors
+/// Out of memory, and nothing else: see [`print_into`].
 pub fn print(
     alloc: Global,
     schema: &Schema,

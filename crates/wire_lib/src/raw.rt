@@ -15,7 +15,7 @@ use schemas::{Value, take_from_bytes};
 use std::alloc::AllocError;
 use std::cell::Cell;
 
-/// Whether a message is what is written of a value.
+/// Whether a message is the encoding of a value.
 fn is_written(reading: Reading<'_>, value: &Value, message: &[u8]) -> Result<bool, AllocError> {
     match to_allocvec(reading.alloc, value) {
         Ok(written) => Ok(*written == *message),
@@ -23,7 +23,7 @@ fn is_written(reading: Reading<'_>, value: &Value, message: &[u8]) -> Result<boo
     }
 }
 
-/// What a message is that isn't read.
+/// The word for a message that isn't a value: `damaged` or `too_deep`.
 fn what_of(reading: Reading<'_>, error: Error, message: &[u8]) -> &'static str {
     let is_deep = Cell::new(false);
     let table = TableReader {
@@ -39,7 +39,7 @@ fn what_of(reading: Reading<'_>, error: Error, message: &[u8]) -> &'static str {
     if is_deep.get() { "too_deep" } else { "damaged" }
 }
 
-/// The value in front of a message, and what is left of that.
+/// The value at the start of a message, and the bytes after it.
 fn take_kept<'a>(reading: Reading<'_>, message: &'a [u8]) -> postcard::Result<(Value, &'a [u8])>
     ensures { IfOk result (λ p. ReadsFront (read_by reading.entry) message.now p.1.now p.0) }
 {
@@ -58,13 +58,14 @@ fn take_kept<'a>(reading: Reading<'_>, message: &'a [u8]) -> postcard::Result<(V
     }
 }
 
-/// Appends the line of a message that stands by itself, and answers whether it is a value of the type to its last byte:
-/// `{"value": ..}`, and behind it `{"rest": {"from": .., "to": ..}}` if bytes are left; else `damaged` or `too_deep`, with all bytes
-/// of the message. With `strict` a message is damaged that isn't what is written of its value.
+/// Appends the line of a message without a frame, and returns whether the whole message is a value of the type.
+///
+/// The line is `{"value": ..}`, followed by `{"rest": {"from": .., "to": ..}}` if bytes are left over; else `damaged` or `too_deep`
+/// with the positions of the whole message. With `strict` a message that isn't the encoding of its value is damaged. `text` is a
+/// buffer for the value's text, which is reused.
 ///
 /// # Errors
-///
-/// Out of memory.
+/// Out of memory; a part of the line may have been appended.
 pub fn put_message(
     reading: Reading<'_>,
     message: &[u8],
@@ -98,11 +99,10 @@ pub fn put_message(
     }
 }
 
-/// The message of the value of the type that a line of JSON is, without a frame.
+/// Returns the encoding of the value that a line of JSON contains, without a frame; with its checksum if there is one.
 ///
 /// # Errors
-///
-/// That of [`parse`], or out of memory.
+/// Those of [`parse`](crate::parse::parse).
 pub fn message_of(sending: Sending<'_>, line: &[u8]) -> Result<Vec<u8>, ParseError>
     ensures { IfOk result (λ message. IsMessageToSend sending.entry message.items) }
 {

@@ -1,4 +1,4 @@
-//! Frames as lines of JSON.
+//! A stream of frames as lines of JSON.
 ghost use Rattle.std.specs.Prelude.{◌≡◌, ℕ, ◌<◌, ◌≤◌, ◌-◌, List, [], ◌++◌, length, take, drop, IfOk, OnOk};
 ghost use Rattle.link.specs.Decoding.{in_owner};
 ghost use Rattle.link.specs.Receivers.{IsBehind, SameTerms};
@@ -20,49 +20,76 @@ use std::alloc::{AllocError, Global};
 use std::cell::Cell;
 use std::mem;
 
-/// How many bytes a stretch between sentinels may have.
+/// The most bytes between two sentinels; more are too long.
 pub const LIMIT: usize = 65536;
 
-/// What frames are read as.
+/// How frames are read and their values printed: the type, the limits, the delimiter.
 #[derive(Clone, Copy, Drop)]
 pub struct Reading<'a> {
-    /// Where memory is taken.
+    /// The allocator.
     pub alloc: Global,
-    /// The types.
+    /// The table of types.
     pub schema: &'a Schema,
-    /// The place of the type of the messages.
+    /// The index of the messages' type in the table.
     pub place: usize,
-    /// Whether bytes look as hexadecimal text.
+    /// Whether bytes are printed as hexadecimal text, else as an array of numbers.
     pub hex: bool,
-    /// Whether only the frame that sending the value makes is taken.
+    /// Whether only the frame that sending the value makes is accepted.
     pub strict: bool,
-    /// How many nodes a value may nest in.
+    /// The limit of nested nodes of a value.
     pub depth: u32,
-    /// The byte that stands round each frame, with which its bytes are XORed.
+    /// The sentinel: the delimiter before and after each frame, with which the frame's bytes are XORed.
     pub sentinel: u8,
-    /// Whether a message is a value only if its last four bytes are the CRC-32 of the others.
+    /// Whether a message is a value only if its last four bytes are the CRC-32 of the others; see
+    /// [`add_summed`](crate::summed::add_summed).
     pub summed: bool,
 }
 
-/// Reads a stream of frames in pieces, and makes a line of each answer.
+/// Reads a stream of frames, in chunks, and appends one line of JSON for each result.
+///
+/// | Line | The bytes between two sentinels |
+/// |---|---|
+/// | `{"value": ..}` | are a value of the type |
+/// | `{"damaged": {"from": .., "to": ..}}` | aren't |
+/// | `{"too_deep": ..}` | are one with more nested nodes than allowed |
+/// | `{"too_long": ..}` | exceed [`LIMIT`]; reported once, in the chunk in which they do |
+/// | `{"cut": ..}` | haven't ended when the stream ends |
+///
+/// `from` and `to` count the bytes of the stream from 0; `to` is exclusive.
+///
+/// # Example
+/// ```rust
+/// let mut lines = Vec::new(alloc);
+/// let mut receiver = LinesOfFrames::new(reading, 0)?;
+/// receiver.push(&SUMMED, &mut lines)?;
+/// receiver.push(&SPOILT, &mut lines)?;
+/// let is_good = receiver.finish(&mut lines)?;
+/// ```
 #[derive(Drop)]
 pub struct LinesOfFrames<'a> {
     reading: Reading<'a>,
+    // its buffer has as many bytes as the limit; positions follow from the bytes that a push used, and its `stretch`
     receiver: OwnedReceiver,
-    /// Whether the message that is looked at nests deeper than it may.
+    /// Whether the last message that was refused is only nested too deeply.
     is_deep: Cell<bool>,
-    /// How many bytes are still to be passed over.
+    /// How many more bytes are skipped.
     skip: u64,
-    /// How many bytes of the stream came, those that were passed over too, and how many stand before what is begun of a stretch.
+    /// How many bytes of the stream came, with those that are skipped.
     at: u64,
-    /// Whether all answers were values.
+    /// Whether all results were values.
     is_good: bool,
-    /// The text of the value that is said, in memory that is kept from one to the next.
+    /// A buffer for a value's text, which is reused.
     text: Vec<u8>,
 }
 
 impl<'a> LinesOfFrames<'a> {
-    /// A receiver of a stream of which so many bytes are passed over.
+    /// Returns a receiver that skips the first `from` bytes of the stream; positions count them.
+    ///
+    /// # Errors
+    /// Out of memory.
+    ///
+    /// # Allocates
+    /// A buffer of [`LIMIT`] bytes.
     pub fn new(reading: Reading<'a>, from: u64) -> Result<LinesOfFrames<'a>, AllocError>
         ensures told { IfOk result (λ r. HasTold r from [] []) }
         ensures reading { IfOk result (λ r. reading_of r ≡ reading.entry) }
@@ -82,8 +109,7 @@ impl<'a> LinesOfFrames<'a> {
         }
     }
 
-    /// Appends the line of an answer, whose stretch has so many bytes before the last one that came. Behind that one stands what is
-    /// left of the piece.
+    /// Appends the line of a result. Its stretch is the last `stretch` bytes before the newest one; `left` is the rest of the chunk.
     fn say(
         &mut self,
         answer: &Answer<Value>,
@@ -117,7 +143,7 @@ impl<'a> LinesOfFrames<'a> {
         }
     }
 
-    /// Takes bytes of a piece up to the first answer, and appends its line. How many bytes it took.
+    /// Processes bytes up to the first result, appends its line, and returns how many were processed.
     fn push_one(&mut self, rest: &[u8], lines: &mut Vec<u8>) -> Result<usize, AllocError>
         ensures told { IfOk result (λ used. (passed : ℕ) (stream : List ℕ)
             (answers : List (Answers Values)) → HasTold self.old passed stream answers
@@ -148,7 +174,7 @@ impl<'a> LinesOfFrames<'a> {
         }
     }
 
-    /// Takes bytes that aren't passed over.
+    /// Processes bytes that aren't skipped.
     fn push_all(&mut self, piece: &[u8], lines: &mut Vec<u8>) -> Result<(), AllocError>
         ensures told { OnOk result ((passed : ℕ) (stream : List ℕ) (answers : List (Answers Values))
             → HasTold self.old passed stream answers → (more : List (Answers Values))
@@ -167,7 +193,7 @@ impl<'a> LinesOfFrames<'a> {
         Ok(())
     }
 
-    /// What is left of a piece behind the bytes that are to be passed over.
+    /// The rest of a chunk after the bytes that are skipped.
     fn behind_skipped<'b>(&mut self, piece: &'b [u8]) -> &'b [u8]
         ensures rest { result.now ≡ drop (skip_of self.old) piece.now }
         ensures told { (passed : ℕ) (stream : List ℕ) (answers : List (Answers Values))
@@ -181,10 +207,13 @@ impl<'a> LinesOfFrames<'a> {
         rest
     }
 
-    /// Takes the next bytes of the stream, and appends the line of each answer that they end:
-    /// `{"value": ..}`; `{"damaged": {"from": .., "to": ..}}` with the bytes of the stream that the stretch has, counted from 0, the
-    /// last one not counted in; `too_deep` likewise, of a message that nests in more nodes than it may; or `too_long`, with those
-    /// that the piece in which the stretch grew past [`LIMIT`] has of it.
+    /// Processes the next bytes of the stream, and appends one line for each result that they complete, in order.
+    ///
+    /// Chunk boundaries don't matter. The caller writes the lines of a chunk at once, so that each appears at the end of the read that
+    /// brought its last byte. `too_long` has the position up to which the chunk shows the bytes.
+    ///
+    /// # Errors
+    /// Out of memory; the lines before that have been appended.
     pub fn push(&mut self, piece: &[u8], lines: &mut Vec<u8>) -> Result<(), AllocError>
         ensures told { OnOk result ((passed : ℕ) (stream : List ℕ) (answers : List (Answers Values))
             → HasTold self.old passed stream answers → (more : List (Answers Values))
@@ -198,8 +227,10 @@ impl<'a> LinesOfFrames<'a> {
         self.push_all(rest, lines)
     }
 
-    /// Ends the stream: appends a line `{"cut": {"from": .., "to": ..}}` if it ended in a stretch, and says whether all answers
-    /// were values.
+    /// Ends the stream: appends a line `cut` if a frame was begun, and returns whether all results were values.
+    ///
+    /// # Errors
+    /// Out of memory.
     pub fn finish(self, lines: &mut Vec<u8>) -> Result<bool, AllocError>
         ensures good { IfOk result (λ good. (passed : ℕ) (stream : List ℕ)
             (answers : List (Answers Values)) → HasTold self.entry passed stream answers
@@ -219,7 +250,7 @@ impl<'a> LinesOfFrames<'a> {
     }
 }
 
-/// Takes bytes up to the first answer.
+/// Processes bytes up to the first result.
 pub(crate) fn push_next(
     reading: Reading<'_>,
     is_deep: &Cell<bool>,
@@ -252,14 +283,14 @@ pub(crate) fn push_next(
     receiver.push_with(reading.alloc, &Ordinary(table), rest)
 }
 
-/// Whether an answer is a value.
+/// Whether a result is a value.
 fn is_value(answer: &Answer<Value>) -> bool
     ensures { result ≡ is_a_value answer.now }
 {
     matches!(answer, Answer::Value(_))
 }
 
-/// Appends the line of a value, whose text is put together in `text`.
+/// Appends the line of a value; `text` is a buffer for its JSON.
 pub(crate) fn put_value_line(
     reading: Reading<'_>,
     value: &Value,
@@ -276,8 +307,8 @@ pub(crate) fn put_value_line(
     lines.extend_from_slice(b"}\n")
 }
 
-/// Makes one line of JSON. A line feed in it stands between its tokens, where a space says the same. The kit's writer puts none
-/// there, which no contract of it says.
+/// Makes one line of JSON. A line feed could only be between tokens, where a space means the same. The kit's writer puts none there,
+/// which none of its contracts states.
 fn join_lines(text: &mut [u8])
     ensures { LacksFeed text.new }
 {
@@ -286,7 +317,7 @@ fn join_lines(text: &mut [u8])
     }
 }
 
-/// Puts a space in the place of each line feed.
+/// Replaces each line feed by a space.
 #[cold]
 fn put_spaces(text: &mut [u8])
     ensures { LacksFeed text.new }
@@ -300,7 +331,7 @@ fn put_spaces(text: &mut [u8])
     }
 }
 
-/// Appends the line of a stretch that is no value: what it is, and which bytes of the stream it has.
+/// Appends the line of a stretch that isn't a value: a word, and its positions in the stream.
 pub(crate) fn put_stretch_line(
     alloc: Global,
     what: &str,
@@ -314,7 +345,10 @@ pub(crate) fn put_stretch_line(
     lines.extend_from_slice(line.as_bytes())
 }
 
-/// Writes a value in the place of what the text was.
+// A value is printed into a buffer of its own and then appended to its line, because what precedes it in the lines stays unchanged so.
+// And a writer of `json` clears as many bytes ahead as precede it, up to 16 KiB, which cost a tenth of a message's instructions.
+// Rejected: printing in place, where each function of `print` would have to state that it leaves what precedes unchanged.
+/// Replaces the text by a value's JSON.
 fn write_value(reading: Reading<'_>, value: &Value, text: &mut Vec<u8>) -> Result<(), AllocError> {
     let Reading {
         alloc,

@@ -1,4 +1,4 @@
-//! Lines of JSON as frames.
+//! Lines of JSON as a stream of frames.
 ghost use Rattle.std.specs.Prelude.{◌≡◌, ℕ, ◌<◌, ◌≤◌, ◌&&◌, false, List, [], ◌∷◌, ◌++◌, length, take, string_bytes, IfOk, OnOk};
 ghost use Rattle.wire_lib.specs.Sent.{IsFrameToSend, LineMade, refusal_text, IsLineMade, AreLinesMade, is_framed, are_all_framed, number_behind, sending_of, begun_line, HasMade, AppendedApart};
 
@@ -10,20 +10,20 @@ use schema_table::Schema;
 use std::alloc::{AllocError, Global};
 use std::mem;
 
-/// What lines are sent as.
+/// How lines are sent: the type, the limits, the delimiter.
 #[derive(Clone, Copy, Drop)]
 pub struct Sending<'a> {
-    /// Where memory is taken.
+    /// The allocator.
     pub alloc: Global,
-    /// The types.
+    /// The table of types.
     pub schema: &'a Schema,
-    /// The place of the type of the messages.
+    /// The index of the messages' type in the table.
     pub place: usize,
-    /// How many nodes a value may nest in.
+    /// The limit of nested nodes of a value.
     pub depth: u32,
-    /// The byte that stands round each frame, with which its bytes are XORed.
+    /// The sentinel: the delimiter after each frame, with which the frame's bytes are XORed.
     pub sentinel: u8,
-    /// Whether the CRC-32 of a message stands behind it.
+    /// Whether each message is followed by its CRC-32, in little-endian order.
     pub summed: bool,
 }
 
@@ -36,10 +36,10 @@ fn append(to: &mut Vec<u8>, bytes: &[u8]) -> Sent
     to.extend_from_slice(bytes)
 }
 
-/// The shortest frame of the value of the type at that place which a line of JSON is, with the sentinel that ends it.
+/// Returns the shortest frame of the value that a line of JSON contains, followed by its sentinel.
 ///
-/// An error is that of [`parse`], or of a frame of more bytes than a [`LinesOfFrames`](crate::receive::LinesOfFrames) takes, or out of
-/// memory.
+/// # Errors
+/// Those of [`parse`](crate::parse::parse); `Wrong` too if the frame has more than [`LIMIT`] bytes.
 pub fn frame_of(sending: Sending<'_>, line: &[u8]) -> Result<Vec<u8>, ParseError>
     ensures { IfOk result (λ frame. IsFrameToSend sending.entry frame.items) }
 {
@@ -51,17 +51,26 @@ pub fn frame_of(sending: Sending<'_>, line: &[u8]) -> Result<Vec<u8>, ParseError
     } = sending;
     let mut frame = encode_vec_with_sentinel(alloc, &message, sentinel)?;
     if frame.len() > LIMIT {
-        return Err(refusal("the frame has more than 65536 bytes, which `read` doesn't take"));
+        return Err(refusal("the frame has more than 65536 bytes, the limit of `read`"));
     }
     frame.push(sentinel)?;
     Ok(frame)
 }
 
-/// Reads lines in pieces, and makes a frame of each.
+/// Reads lines of JSON, in chunks, and appends a frame for each, or what is wrong with it.
+///
+/// # Example
+/// ```rust
+/// let mut frames = Vec::new(alloc);
+/// let mut wrongs = String::new(alloc);
+/// let mut sender = FramesOfLines::new(sending);
+/// sender.push(b"300\nnull\n1", &mut frames, &mut wrongs)?;
+/// let is_good = sender.finish(&mut frames, &mut wrongs)?;
+/// ```
 #[derive(Drop)]
 pub struct FramesOfLines<'a> {
     sending: Sending<'a>,
-    /// What earlier pieces had of the line, and how many lines stand before it.
+    /// The begun line, and how many lines precede it.
     line: Vec<u8>,
     number: u64,
     /// Whether all lines were values.
@@ -69,7 +78,7 @@ pub struct FramesOfLines<'a> {
 }
 
 impl<'a> FramesOfLines<'a> {
-    /// A sender of lines.
+    /// Returns a sender of which no line came. Doesn't allocate.
     pub fn new(sending: Sending<'a>) -> FramesOfLines<'a>
         ensures made { HasMade result [] [] }
         ensures sending { sending_of result ≡ sending.entry }
@@ -100,7 +109,7 @@ impl<'a> FramesOfLines<'a> {
         }
     }
 
-    /// Says why a line isn't sent.
+    /// Appends why a line isn't sent.
     fn refuse(&mut self, why: &Wrong, wrongs: &mut String) -> Sent
         ensures said { OnOk result ((text : List ℕ) × (string_bytes wrongs.new
             ≡ string_bytes wrongs.old ++ refusal_text self.old.number text)) }
@@ -110,7 +119,7 @@ impl<'a> FramesOfLines<'a> {
         put_wrong(wrongs, self.number, why)
     }
 
-    /// Sends a line of which this is the last part. One that lies whole in the piece is read from there.
+    /// Sends a line of which this is the last part. If the chunk has the whole line it isn't copied.
     fn end(&mut self, part: &[u8], frames: &mut Vec<u8>, wrongs: &mut String) -> Sent
         ensures made { OnOk result ((m : LineMade) × IsLineMade self.old.sending self.new.number m
             × AppendedApart frames.old.items frames.new.items (string_bytes wrongs.old)
@@ -131,7 +140,7 @@ impl<'a> FramesOfLines<'a> {
         sent
     }
 
-    /// Takes bytes of a piece to the end of the line, or all where it doesn't end there. How many bytes it took.
+    /// Processes bytes up to the end of the line, or all of them if it doesn't end, and returns how many.
     fn push_line(
         &mut self,
         rest: &[u8],
@@ -157,10 +166,13 @@ impl<'a> FramesOfLines<'a> {
         Ok(at + 1)
     }
 
-    /// Takes the next bytes, and appends the frame of each line that they end; of a line that isn't of the type a line
-    /// `line K: ..` to `wrongs`, counted from 1, with the way to what is wrong.
+    /// Processes the next bytes, and appends a frame to `frames` for each line that they complete.
     ///
-    /// After an error the lines before that one have been appended.
+    /// If a line isn't a value of the type, `line K: PATH: WHY` is appended to `wrongs` instead; lines count from 1. Chunk boundaries
+    /// don't matter.
+    ///
+    /// # Errors
+    /// Out of memory; what the lines before that became has been appended.
     pub fn push(&mut self, piece: &[u8], frames: &mut Vec<u8>, wrongs: &mut String) -> Sent
         ensures made { OnOk result ((text : List ℕ) (made : List LineMade)
             → HasMade self.old text made → (more : List LineMade)
@@ -178,7 +190,7 @@ impl<'a> FramesOfLines<'a> {
         Ok(())
     }
 
-    /// Sends what is left as a last line.
+    /// Sends what is left as the last line.
     fn send_rest(&mut self, frames: &mut Vec<u8>, wrongs: &mut String) -> Sent
         ensures { OnOk result ((text : List ℕ) (made : List LineMade)
             → HasMade self.old text made → (last : List LineMade)
@@ -195,7 +207,10 @@ impl<'a> FramesOfLines<'a> {
         self.send(&line, frames, wrongs)
     }
 
-    /// Ends the text: as `push` for a last line without a line feed; and says whether all lines were values.
+    /// Ends the text: sends a last line without a line feed, and returns whether all lines became frames.
+    ///
+    /// # Errors
+    /// Out of memory.
     pub fn finish(mut self, frames: &mut Vec<u8>, wrongs: &mut String) -> Result<bool, AllocError>
         ensures { IfOk result (λ good. (text : List ℕ) (made : List LineMade)
             → HasMade self.entry text made → (last : List LineMade)

@@ -1,4 +1,5 @@
-//! Which lines of a stream are shown, and with what before them.
+//! Which lines of a stream are shown, with their time, and in which colour.
+use crate::watching::screen::{PLAIN, RED};
 use cobs::before_sentinel;
 use schema_table::{Names, Schema};
 use std::alloc::{AllocError, Global};
@@ -6,15 +7,17 @@ use std::alloc::{AllocError, Global};
 /// How the line of each value begins.
 const VALUE: &[u8] = b"{\"value\":";
 
-/// What is shown of lines.
+/// Selects lines that [`LinesOfFrames`](crate::receive::LinesOfFrames) appended, and puts a time or a colour to them.
 #[derive(Drop)]
 pub struct Shown {
     alloc: Global,
-    /// How the line of a value begins that is shown: if it holds nothing, and if it holds something. Without them all are.
+    /// How the lines of the shown variant begin, without and with a payload; without them all values are shown.
     only: Option<(Vec<u8>, Vec<u8>)>,
+    /// Whether damage is red.
+    colour: bool,
 }
 
-/// The bytes of these, one behind another.
+/// How a value's line begins, if its JSON begins with these.
 fn joined(alloc: Global, pieces: &[&str]) -> Result<Vec<u8>, AllocError> {
     let mut bytes = Vec::new(alloc);
     bytes.extend_from_slice(VALUE)?;
@@ -24,7 +27,7 @@ fn joined(alloc: Global, pieces: &[&str]) -> Result<Vec<u8>, AllocError> {
     Ok(bytes)
 }
 
-/// Whether the type at that place is an enum with a variant of this name.
+/// Returns whether the type at index `place` is an enum with a variant of this name.
 pub fn has_variant(schema: &Schema, place: usize, name: &str) -> bool {
     match schema.names.get(place) {
         Some(Names::Variants(names)) => is_among(names, name),
@@ -32,7 +35,7 @@ pub fn has_variant(schema: &Schema, place: usize, name: &str) -> bool {
     }
 }
 
-/// Whether one of the names is this one.
+/// Whether `wanted` is one of the names.
 fn is_among(names: &[String], wanted: &str) -> bool {
     for name in names {
         if name.as_str() == wanted {
@@ -43,8 +46,11 @@ fn is_among(names: &[String], wanted: &str) -> bool {
 }
 
 impl Shown {
-    /// All lines, or of the values those of this variant alone.
-    pub fn new(alloc: Global, only: Option<&str>) -> Result<Shown, AllocError> {
+    /// Returns what shows all lines, or of the values only those of the variant `only`; with `colour`, damage is red.
+    ///
+    /// # Errors
+    /// Out of memory.
+    pub fn new(alloc: Global, only: Option<&str>, colour: bool) -> Result<Shown, AllocError> {
         Ok(Shown {
             alloc,
             only: match only {
@@ -54,10 +60,11 @@ impl Shown {
                 )),
                 None => None,
             },
+            colour,
         })
     }
 
-    /// Whether a line is shown: what is no value always is.
+    /// Whether a line is shown; one that isn't a value always is.
     fn is_shown(&self, line: &[u8]) -> bool {
         match &self.only {
             Some((name, holds)) => {
@@ -67,7 +74,7 @@ impl Shown {
         }
     }
 
-    /// Appends a line, if it is shown, with this time in it.
+    /// Appends a line, if it is shown.
     fn put_line(
         &self,
         line: &[u8],
@@ -77,14 +84,24 @@ impl Shown {
         if !self.is_shown(line) {
             return Ok(());
         }
+        let is_red = self.colour && !line.starts_with(VALUE);
+        if is_red {
+            out.extend_from_slice(RED)?;
+        }
         match time {
             Some(time) => put_timed(self.alloc, line, time, out)?,
             None => out.extend_from_slice(line)?,
         }
+        if is_red {
+            out.extend_from_slice(PLAIN)?;
+        }
         Ok(out.push(b'\n')?)
     }
 
-    /// Appends those of the lines that are shown, with this time, in milliseconds, in each.
+    /// Appends those of the lines that are shown. With a `time` in milliseconds each line begins with the member `"time"`, in seconds.
+    ///
+    /// # Errors
+    /// Out of memory; the lines before that have been appended.
     pub fn put(
         &self,
         lines: &[u8],
@@ -104,7 +121,7 @@ impl Shown {
     }
 }
 
-/// Appends an object with the seconds as its first member.
+/// Appends an object with the time in seconds as its first member.
 fn put_timed(alloc: Global, line: &[u8], time: u64, out: &mut Vec<u8>) -> Result<(), AllocError> {
     let [_, members @ ..] = line else {
         return Ok(());

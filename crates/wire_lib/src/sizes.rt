@@ -1,4 +1,4 @@
-//! Greatest sizes.
+//! The maximum sizes of types, in bytes.
 ghost use Rattle.std.specs.Prelude.{◌≡◌, ℕ, length, None, Some, IfSome, IfOk, IsErr, IsTrue, ◌↔◌, MatchOption};
 ghost use Rattle.postcard_tree.specs.Spelling.{varint};
 ghost use Rattle.schemas.specs.Integers.{width_of as width_in_tree};
@@ -8,7 +8,7 @@ use postcard_tree::varint::varint_u64;
 use schemas::{IntegerType, Node};
 use std::alloc::{AllocError, Global};
 
-/// How many bytes a number takes as a varint.
+/// How many bytes a number has as a varint.
 fn varint_size(number: u64) -> u64
     ensures { result ≡ length (varint number) }
 {
@@ -16,7 +16,7 @@ fn varint_size(number: u64) -> u64
     varint_u64(number, &mut groups).len() as u64
 }
 
-/// The size at that place, where it is known.
+/// The size at that index, if it is known.
 fn size_at(sizes: &[Option<u64>], place: usize) -> Option<u64>
     ensures { result ≡ known_size sizes.now place }
 {
@@ -26,7 +26,7 @@ fn size_at(sizes: &[Option<u64>], place: usize) -> Option<u64>
     }
 }
 
-/// The sum of the greatest sizes of fields.
+/// The sum of the maximum sizes of fields.
 fn sum(sizes: &[Option<u64>], fields: &[usize]) -> Option<u64>
     ensures { IfSome result (λ n. sum_size sizes.now fields.now ≡ Some n) }
 {
@@ -37,7 +37,7 @@ fn sum(sizes: &[Option<u64>], fields: &[usize]) -> Option<u64>
     Some(total)
 }
 
-/// The greatest size of a variant.
+/// The maximum size of the variants, each with its index.
 fn greatest(sizes: &[Option<u64>], payloads: &[usize]) -> Option<u64>
     ensures { IfSome result (λ n. variant_size sizes.now 0 payloads.now ≡ Some n) }
 {
@@ -49,7 +49,7 @@ fn greatest(sizes: &[Option<u64>], payloads: &[usize]) -> Option<u64>
     Some(most)
 }
 
-/// How many bytes an integer takes as its bytes.
+/// How many bytes an integer of fixed width has.
 fn width_of(of: IntegerType) -> u64
     ensures { result ≡ width_in_tree of }
 {
@@ -61,7 +61,7 @@ fn width_of(of: IntegerType) -> u64
     }
 }
 
-/// The greatest size of as many elements as may be, behind their count.
+/// The maximum size of a list of at most `most` elements: its count and its elements.
 fn counted(most: u64, element: Option<u64>) -> Option<u64>
     ensures { IfSome result (λ n. counted_size most element ≡ Some n) }
 {
@@ -71,7 +71,7 @@ fn counted(most: u64, element: Option<u64>) -> Option<u64>
     element?.checked_mul(most)?.checked_add(varint_size(most))
 }
 
-/// The greatest size of a node's values, by those of the types inside.
+/// The maximum size of a node's values, by those of the types inside.
 fn size_of_node(sizes: &[Option<u64>], node: &Node) -> Option<u64>
     ensures { IfSome result (λ n. node_size sizes.now node.now ≡ Some n) }
 {
@@ -93,7 +93,7 @@ fn size_of_node(sizes: &[Option<u64>], node: &Node) -> Option<u64>
     }
 }
 
-/// The place of the part of a node behind so many others, of those on whose sizes its own depends.
+/// The index of the next part of a node after `before` others, of the parts on which its size depends.
 fn part_of(node: &Node, before: usize) -> Option<usize> {
     match node {
         Node::Struct(parts) | Node::Enum(parts) => match parts.get(before) {
@@ -108,14 +108,14 @@ fn part_of(node: &Node, before: usize) -> Option<usize> {
     }
 }
 
-/// A node whose parts are gone into, and how many of them were.
+/// A node whose parts are visited, and how many of them were.
 #[derive(Clone, Copy, Drop)]
 struct Begun {
     place: usize,
     parts: usize,
 }
 
-/// The sizes that are known, and which nodes were gone into.
+/// The sizes that are known, and which nodes were visited.
 #[derive(Drop)]
 struct Sizes {
     known: Vec<Option<u64>>,
@@ -123,7 +123,7 @@ struct Sizes {
 }
 
 impl Sizes {
-    /// Nothing is known of so many nodes.
+    /// No sizes of `count` nodes.
     fn new(alloc: Global, count: usize) -> Result<Sizes, AllocError>
         ensures many { IfOk result (λ sizes. length sizes.known.items ≡ count) }
         ensures none { IfOk result (λ sizes. (place : ℕ) → known_size sizes.known.items place ≡ None) }
@@ -137,7 +137,7 @@ impl Sizes {
         Ok(Sizes { known, met })
     }
 
-    /// Begins a node, unless it was met.
+    /// Begins a node, unless it was visited.
     fn begin(&mut self, begun: &mut Vec<Begun>, place: usize) -> Result<(), AllocError>
         ensures { self.new.known ≡ self.old.known }
     {
@@ -150,7 +150,7 @@ impl Sizes {
         Ok(())
     }
 
-    /// Goes into the next part of the node that was begun last; behind all of them its size is known.
+    /// Visits the next part of the node that was begun last; after all of them its size is known.
     fn step(&mut self, nodes: &[Node], begun: &mut Vec<Begun>) -> Result<bool, AllocError>
         ensures many { length self.new.known.items ≡ length self.old.known.items }
         ensures right { AreSizesOf nodes.now self.old.known.items
@@ -178,10 +178,13 @@ impl Sizes {
     }
 }
 
-/// How many bytes a value of each type of a table takes at most, unframed; nothing where there is no such number: for texts, bytes
-/// and lists without a greatest length, for a type that holds itself, and past 2^64.
+/// Returns for each type of a table how many bytes a value has at most, unframed.
 ///
-/// Each node is gone into once, behind the types inside.
+/// `None`: there is no such number, as for texts, bytes and lists without a maximum length and for recursive types, or it is 2^64 or
+/// more. Each node is visited once, after the types inside.
+///
+/// # Errors
+/// Out of memory.
 pub fn greatest_sizes(alloc: Global, nodes: &[Node]) -> Result<Vec<Option<u64>>, AllocError>
     ensures each { IfOk result (λ sizes. length sizes.items ≡ length nodes.now) }
     ensures bounds { IfOk result (λ sizes. AreSizesOf nodes.now sizes.items) }
@@ -199,14 +202,14 @@ pub fn greatest_sizes(alloc: Global, nodes: &[Node]) -> Result<Vec<Option<u64>>,
     Ok(sizes.known)
 }
 
-/// Whether values of the type at that place take no bytes.
+/// Whether values of the type at that index have no bytes.
 fn takes_none(sizes: &[Option<u64>], place: usize) -> bool
     ensures { IsTrue result ↔ known_size sizes.now place ≡ Some 0 }
 {
     size_at(sizes, place) == Some(0)
 }
 
-/// The place of the elements of a list, where they take no bytes.
+/// The index of a list's elements, if these have no bytes.
 fn empty_elements(sizes: &[Option<u64>], node: &Node) -> Option<usize>
     ensures { (most : ℕ) → MatchOption result (node_bounded sizes.now most node.now ≡ node.now)
         (λ i. node_bounded sizes.now most node.now ≡ Node.ListUpTo most i) }
@@ -221,8 +224,11 @@ fn empty_elements(sizes: &[Option<u64>], node: &Node) -> Option<usize>
     }
 }
 
-/// Lets a list of elements that take no bytes have so many at most, since its bytes don't bound them: a frame of seven bytes
-/// could say that there are 2^64.
+/// Gives each list whose elements have no bytes a maximum length of `most`, since its bytes don't bound it: a frame of seven bytes
+/// could claim 2^64 elements.
+///
+/// # Errors
+/// Out of memory; the nodes are unchanged.
 pub fn bound_lists(alloc: Global, nodes: &mut Vec<Node>, most: u64) -> Result<(), AllocError>
     ensures bounded { IfOk result (λ _. AreListsBounded most nodes.old.items nodes.new.items) }
     ensures error { IsErr result → nodes.new.items ≡ nodes.old.items }

@@ -1,4 +1,4 @@
-//! Checksums behind values.
+//! Messages that are followed by their CRC-32.
 ghost use Rattle.std.specs.Prelude.{◌≡◌, ◌⊎◌, OnOk, Decides, IfOk, IfErr};
 ghost use Rattle.postcard_tree.specs.declared.error.Error.TheVariants.{OutOfMemory, DeserializeBadCrc};
 ghost use Rattle.schemas.specs.Values.{tree_of};
@@ -11,7 +11,7 @@ use schemas::Value;
 use sealed::crc32;
 use std::alloc::{AllocError, Global};
 
-/// Whether the last four bytes are the CRC-32 of those before them, the lowest first.
+/// Whether the last four bytes are the CRC-32 of those before them, in little-endian order.
 fn ends_in_sum(bytes: &[u8]) -> bool
     ensures { Decides result (EndsInSum bytes.now) }
 {
@@ -20,7 +20,10 @@ fn ends_in_sum(bytes: &[u8]) -> bool
     *seal == *LE(crc32(body)).put(&mut room)
 }
 
-/// A value, if what is written of it ends in the sum of what stands before, or no sum is wanted.
+/// Returns the value, if its encoding ends in the checksum of what precedes, or no checksum is asked for.
+///
+/// # Errors
+/// `DeserializeBadCrc`: another checksum. `OutOfMemory`.
 pub(crate) fn kept(alloc: Global, summed: bool, value: Value) -> postcard::Result<Value>
     ensures ok { IfOk result (λ v. (v ≡ value) × IsSummed summed (tree_of value)) }
     ensures err { IfErr result (λ e. (e ≡ OutOfMemory)
@@ -39,7 +42,7 @@ pub(crate) fn kept(alloc: Global, summed: bool, value: Value) -> postcard::Resul
     }
 }
 
-/// Appends the CRC-32 of a message, the lowest byte first.
+/// Appends the CRC-32 of a message, in little-endian order.
 pub(crate) fn put_sum(message: &mut Vec<u8>) -> Result<(), AllocError>
     ensures { OnOk result (message.new.items ≡ with_sum message.old.items) }
 {
@@ -47,8 +50,11 @@ pub(crate) fn put_sum(message: &mut Vec<u8>) -> Result<(), AllocError>
     message.extend_from_slice(LE(crc32(message)).put(&mut room))
 }
 
-/// The place of the type whose messages are those of the type at that place, and four bytes of a sum behind; it is added to the
-/// table. Its values look as those of the type.
+/// Adds to the table the type whose messages are those of the type at index `place` followed by four bytes of checksum, and returns
+/// its index: a struct of the value and the checksum, which is printed like the value.
+///
+/// # Errors
+/// Out of memory; nodes without use may have been added.
 pub fn add_summed(alloc: Global, schema: &mut Schema, place: usize) -> Result<usize, AllocError> {
     let mut parts = Vec::new(alloc);
     parts.push(place)?;

@@ -1,4 +1,4 @@
-//! A table of types as JSON, for other tools.
+//! A table of types as JSON, for other tools. README.md of the program `wire` documents its form.
 use crate::sizes::greatest_sizes;
 use json::Writer;
 use schema_table::{IntegerType, Names, Node, Schema};
@@ -6,7 +6,7 @@ use std::alloc::{AllocError, Global};
 
 type Put = Result<(), AllocError>;
 
-/// The version of the form.
+/// The version of this form.
 const VERSION: u64 = 1;
 
 /// Appends a member that is a number.
@@ -30,12 +30,12 @@ fn put_text(out: &mut Writer, name: &str, text: &str) -> Put {
     out.string(text)
 }
 
-/// Appends what a node is.
+/// Appends the kind of a node.
 fn put_kind(out: &mut Writer, kind: &str) -> Put {
     put_text(out, "kind", kind)
 }
 
-/// Appends an object of a name and a place.
+/// Appends an object of a name and an index.
 fn put_named(out: &mut Writer, name: &str, node: usize) -> Put {
     out.begin_object()?;
     put_text(out, "name", name)?;
@@ -43,7 +43,7 @@ fn put_named(out: &mut Writer, name: &str, node: usize) -> Put {
     out.end_object()
 }
 
-/// Appends a member that lists places by names.
+/// Appends a member that lists indices by names.
 fn put_parts(out: &mut Writer, of: &str, names: &[String], places: &[usize]) -> Put {
     out.key(of)?;
     out.begin_array()?;
@@ -53,7 +53,7 @@ fn put_parts(out: &mut Writer, of: &str, names: &[String], places: &[usize]) -> 
     out.end_array()
 }
 
-/// Appends a member that lists places.
+/// Appends a member that lists indices.
 fn put_places(out: &mut Writer, places: &[usize]) -> Put {
     out.key("nodes")?;
     out.begin_array()?;
@@ -77,7 +77,7 @@ fn integer_name(of: IntegerType) -> &'static str {
     }
 }
 
-/// Appends an integer whose bytes stand as they are, or a float.
+/// Appends an integer of fixed width, or a float.
 fn put_fixed(out: &mut Writer, names: &Names, of: IntegerType, order: &str) -> Put {
     match (names, of) {
         (Names::Float, IntegerType::U32) => put_kind(out, "f32"),
@@ -90,7 +90,7 @@ fn put_fixed(out: &mut Writer, names: &Names, of: IntegerType, order: &str) -> P
     }
 }
 
-/// Appends a list or a map, by the place of what it holds.
+/// Appends a list or a map, with the index of its elements.
 fn put_list(out: &mut Writer, names: &Names, most: Option<u64>, inner: usize) -> Put {
     put_kind(
         out,
@@ -139,13 +139,13 @@ fn put_enum(out: &mut Writer, names: &Names, places: &[usize]) -> Put {
     }
 }
 
-/// Appends a text that is bounded or isn't.
+/// Appends a text, with its maximum length, if it has one.
 fn put_any_text(out: &mut Writer, most: Option<u64>) -> Put {
     put_kind(out, "text")?;
     put_maybe(out, "most", most)
 }
 
-/// The name of a node that has no parts.
+/// The kind of a node without parts.
 fn plain_name(node: &Node) -> &'static str {
     match node {
         Node::Bool => "bool",
@@ -164,7 +164,7 @@ fn plain_name(node: &Node) -> &'static str {
     }
 }
 
-/// Appends what a node is, with its parts.
+/// Appends the kind and the parts of a node.
 fn put_node(out: &mut Writer, names: &Names, node: &Node) -> Put {
     match node {
         Node::LE(of) => put_fixed(out, names, *of, "little"),
@@ -184,7 +184,7 @@ fn put_node(out: &mut Writer, names: &Names, node: &Node) -> Put {
     }
 }
 
-/// Appends the declared types, each by its name, its line, and its place.
+/// Appends the declared types, each with its name, its line and its index.
 fn put_types(out: &mut Writer, schema: &Schema) -> Put {
     out.key("types")?;
     out.begin_array()?;
@@ -198,7 +198,7 @@ fn put_types(out: &mut Writer, schema: &Schema) -> Put {
     out.end_array()
 }
 
-/// Appends the nodes, each with its greatest size.
+/// Appends the nodes, each with its maximum size.
 fn put_nodes(out: &mut Writer, schema: &Schema, sizes: &[Option<u64>]) -> Put {
     out.key("nodes")?;
     out.begin_array()?;
@@ -211,7 +211,10 @@ fn put_nodes(out: &mut Writer, schema: &Schema, sizes: &[Option<u64>]) -> Put {
     out.end_array()
 }
 
-/// A table of types as one line of JSON: `{"version":1,"types":[..],"nodes":[..]}`. README.md says what stands in it.
+/// Returns a table of types as one line of JSON: `{"version":1,"types":[..],"nodes":[..]}`.
+///
+/// # Errors
+/// Out of memory.
 pub fn table_json(alloc: Global, schema: &Schema) -> Result<Vec<u8>, AllocError> {
     let sizes = greatest_sizes(alloc, &schema.nodes)?;
     let mut out = Writer::new(Vec::new(alloc));

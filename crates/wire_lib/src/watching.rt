@@ -1,5 +1,5 @@
-//! A stream of frames as people look at it: the last message of each kind, how many came and how fast, and what was damaged with
-//! its bytes.
+//! The live view of a stream of frames: the last message of each kind, how many came and how fast, and the last damage with its
+//! bytes.
 
 pub mod front;
 mod kinds;

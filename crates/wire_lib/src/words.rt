@@ -1,54 +1,54 @@
-//! The words that the program is called with.
+//! The arguments of the program after the type.
 ghost use Rattle.std.specs.Prelude.{◌≡◌, ◌≢◌, [], ◌∷◌, None, Ok, codes, IfSome, IsErr};
 ghost use Rattle.hex.specs.Hex.{decode_sized};
 
 use crate::DEPTH;
 
-/// How many nodes `depth` lets a value nest in at most.
+/// The greatest limit of nested nodes that `depth=N` can set.
 pub const DEEPEST: u32 = 1000;
 
-/// How many elements that take no bytes a list may have without a word.
+/// The default maximum number of elements without bytes in a list; `empty=N` sets another.
 pub const EMPTY: u64 = 65536;
 
 /// What is done with the messages of a type.
 #[derive(Clone, Copy, Debug, PartialEq, Eq, Drop)]
-pub enum Mode {
+pub enum Action {
     /// Frames become lines.
     Read,
     /// Lines become frames.
     Write,
-    /// Frames become a picture.
+    /// Frames become a live view.
     Watch,
 }
 
-/// How frames are read or written.
+/// How messages are read or written, by the arguments.
 #[derive(Clone, Copy, Debug, PartialEq, Eq, Drop)]
 pub struct Options<'a> {
     /// Whether the framed side is hexadecimal text.
     pub hex: bool,
-    /// Whether only the frame that sending a value makes is taken.
+    /// Whether only the frame that sending a value makes is accepted.
     pub strict: bool,
-    /// The byte that stands round each frame.
+    /// The delimiter.
     pub sentinel: u8,
-    /// How many bytes of the stream are passed over.
+    /// How many bytes of the stream are skipped.
     pub from: u64,
-    /// Whether bytes in messages look as hexadecimal text.
+    /// Whether bytes in messages are printed as hexadecimal text.
     pub digits: bool,
-    /// How many nodes a value may nest in.
+    /// The limit of nested nodes of a value.
     pub depth: u32,
-    /// How many elements that take no bytes a list may have.
+    /// The maximum number of elements without bytes in a list.
     pub empty: u64,
-    /// Whether messages stand without frames.
+    /// Whether messages have no frames.
     pub raw: bool,
-    /// Whether the CRC-32 of a message stands behind it.
+    /// Whether each message is followed by its CRC-32.
     pub summed: bool,
-    /// Whether each line has the seconds since the program began.
+    /// Whether each line has the time in seconds since the program began.
     pub time: bool,
-    /// The variant whose values alone are shown.
+    /// The only variant whose values are shown.
     pub only: Option<&'a str>,
 }
 
-/// What stands without a word.
+/// The options without arguments.
 const PLAIN: Options<'static> = Options {
     hex: false,
     strict: false,
@@ -63,24 +63,24 @@ const PLAIN: Options<'static> = Options {
     only: None,
 };
 
-/// A word that isn't taken, and why.
+/// An argument that isn't accepted, and why.
 #[derive(Clone, Copy, Debug, PartialEq, Eq, Drop)]
 pub struct WrongWord<'a> {
-    /// The word.
+    /// The argument.
     pub word: &'a str,
-    /// What is wrong with it.
+    /// What is wrong with it, to be printed after it.
     pub why: &'static str,
 }
 
-/// What is said of a word that a mode hasn't.
-const NO_WORD: &str = "isn't a word of this mode";
+/// The error for an argument that a mode hasn't.
+const NO_WORD: &str = "isn't an argument of this mode";
 
-/// What is said of a value behind `=` that isn't one.
-const NO_VALUE: &str = "has another value than it may";
+/// The error for a wrong value after `=`.
+const NO_VALUE: &str = "has an invalid value";
 
-/// What is said of `raw` with words about frames.
+/// The error for `raw` with arguments about frames.
 const NO_FRAMES: &str =
-    "means that there are no frames, so it goes with neither `sentinel` nor `from`";
+    "means that there are no frames, so `sentinel` and `from` can't be combined with it";
 
 /// The byte of two hexadecimal digits.
 fn byte_of(digits: &str) -> Option<u8>
@@ -94,7 +94,7 @@ fn byte_of(digits: &str) -> Option<u8>
     }
 }
 
-/// A depth by its digits: one node at least.
+/// A limit of nested nodes by its digits, from 1 to `DEEPEST`.
 fn depth_of(value: &str) -> Option<u32> {
     let depth = value.parse::<u32>().ok()?;
     if depth == 0 || depth > DEEPEST {
@@ -103,7 +103,7 @@ fn depth_of(value: &str) -> Option<u32> {
     Some(depth)
 }
 
-/// The options with a word that has a value behind `=`.
+/// The options with an argument that has a value after `=`.
 fn with_value<'a>(options: Options<'a>, name: &str, value: &'a str) -> Option<Options<'a>>
     ensures sentinel { name.now ≡ codes "sentinel"
         → IfSome result (λ new. decode_sized value.now 1 ≡ Ok (new.sentinel ∷ [])) }
@@ -124,7 +124,7 @@ fn with_value<'a>(options: Options<'a>, name: &str, value: &'a str) -> Option<Op
     Some(options)
 }
 
-/// The options with one more word.
+/// The options with one more argument.
 fn with_word<'a>(options: Options<'a>, word: &'a str) -> Option<Options<'a>> {
     let mut options = options;
     match word {
@@ -141,7 +141,7 @@ fn with_word<'a>(options: Options<'a>, word: &'a str) -> Option<Options<'a>> {
     Some(options)
 }
 
-/// A word without what stands behind `=`.
+/// An argument without `=` and its value.
 fn name_of(word: &str) -> &str {
     match word.split_once('=') {
         Some((name, _)) => name,
@@ -149,24 +149,23 @@ fn name_of(word: &str) -> &str {
     }
 }
 
-/// Whether a mode has a word of this name.
-fn has_word(mode: Mode, name: &str) -> bool {
+/// Whether a mode has an argument of this name.
+fn has_word(mode: Action, name: &str) -> bool {
     match name {
         "sentinel" | "depth" | "empty" => true,
-        "strict" | "bytes" => mode != Mode::Write,
-        "hex" | "raw" | "crc32" => mode != Mode::Watch,
-        "from" | "only" | "time" => mode == Mode::Read,
+        "strict" | "bytes" => mode != Action::Write,
+        "hex" | "raw" | "crc32" => mode != Action::Watch,
+        "from" | "only" | "time" => mode == Action::Read,
         _ => false,
     }
 }
 
-/// What these words say behind the type, in any order: `hex`, `strict`, `sentinel=HH`, `from=OFFSET`, `bytes=hex`, `depth=N`,
-/// `empty=N`, `raw`, `crc32`, `time`, `only=NAME`.
+/// Returns the options that these arguments set, in any order: `hex`, `strict`, `sentinel=HH`, `from=OFFSET`, `bytes=hex`,
+/// `depth=N`, `empty=N`, `raw`, `crc32`, `time`, `only=NAME`.
 ///
 /// # Errors
-///
-/// The first word that the mode hasn't, or whose value is none.
-pub fn options_of<'a>(mode: Mode, words: &'a [String]) -> Result<Options<'a>, WrongWord<'a>> {
+/// The first argument that the mode hasn't, or whose value is invalid; `raw` with a `sentinel` or `from`.
+pub fn options_of<'a>(mode: Action, words: &'a [String]) -> Result<Options<'a>, WrongWord<'a>> {
     let mut options = PLAIN;
     for word in words {
         let word = word.as_str();

@@ -1,14 +1,14 @@
-//! What is wrong with a line, and where in it.
+//! What is wrong with a line, and the path to it.
 ghost use Rattle.std.specs.Prelude.{◌≡◌, ℕ, List, ◌++◌, string_bytes, OnOk};
 ghost use Rattle.wire_lib.specs.Sent.{refusal_text};
 
 use std::alloc::{AllocError, AllocFailed, Global};
 use std::fmt::Write;
 
-/// Where in a line something is wrong, and what.
+/// A fault in a line.
 #[derive(Debug, Drop)]
 pub struct Wrong {
-    /// The way to it, as `history[3].light`; nothing where the whole line is wrong.
+    /// The path to it, such as `history[3].light`; `None` if the whole line is wrong.
     pub path: Option<String>,
     /// What is wrong.
     pub why: &'static str,
@@ -17,7 +17,7 @@ pub struct Wrong {
 /// Why a line isn't a value of the type.
 #[derive(Debug, Drop)]
 pub enum ParseError {
-    /// It is no JSON, or not of the type.
+    /// It isn't JSON, or not of the type.
     Wrong(Wrong),
     /// Out of memory.
     OutOfMemory,
@@ -35,12 +35,12 @@ impl<T: Drop> From<AllocFailed<T>> for ParseError {
     }
 }
 
-/// That something is wrong with the whole of what is looked at.
+/// Returns the error for a fault of the whole value.
 pub fn refusal(why: &'static str) -> ParseError {
     ParseError::Wrong(Wrong { path: None, why })
 }
 
-/// Appends a name, what would end the line or move on it as Rust writes it.
+/// Appends a name; a line feed, a carriage return and a tab as Rust escapes them.
 fn push_name(path: &mut String, name: &str) -> Result<(), AllocError> {
     for character in name.chars() {
         match character {
@@ -53,7 +53,7 @@ fn push_name(path: &mut String, name: &str) -> Result<(), AllocError> {
     Ok(())
 }
 
-/// The way to a part of what has this name.
+/// The path inside a part of this name.
 fn joined(alloc: Global, name: &str, path: &Option<String>) -> Result<String, AllocError> {
     let mut whole = String::new(alloc);
     push_name(&mut whole, name)?;
@@ -66,7 +66,8 @@ fn joined(alloc: Global, name: &str, path: &Option<String>) -> Result<String, Al
     Ok(whole)
 }
 
-/// What is wrong in a part of this name, seen from outside.
+// The path is made on the way out, so a line without a fault costs nothing.
+/// Returns the error with the name of the part in which it is put before its path.
 pub fn inside(alloc: Global, name: &str, error: ParseError) -> ParseError {
     let ParseError::Wrong(Wrong { path, why }) = error else {
         return ParseError::OutOfMemory;
@@ -80,7 +81,7 @@ pub fn inside(alloc: Global, name: &str, error: ParseError) -> ParseError {
     }
 }
 
-/// The same of an element, by its index.
+/// Returns the error with the index of the element in which it is put before its path.
 pub fn inside_element(alloc: Global, index: usize, error: ParseError) -> ParseError {
     match format!(in alloc; "[{index}]") {
         Ok(name) => inside(alloc, name.as_str(), error),
@@ -88,18 +89,21 @@ pub fn inside_element(alloc: Global, index: usize, error: ParseError) -> ParseEr
     }
 }
 
-/// That a line is no JSON, from this column on.
+/// Returns the error for a line that isn't JSON from this column on.
 pub fn at_column(alloc: Global, column: usize) -> ParseError {
     match format!(in alloc; "column {column}") {
         Ok(path) => ParseError::Wrong(Wrong {
             path: Some(path),
-            why: "the line is no JSON",
+            why: "the line isn't JSON",
         }),
         Err(_) => ParseError::OutOfMemory,
     }
 }
 
-/// Appends a line that says what is wrong with the line of that number.
+/// Appends `line K: PATH: WHY` and a line feed, for the line with this number.
+///
+/// # Errors
+/// Out of memory; a part may have been appended.
 pub fn put_wrong(lines: &mut String, number: u64, wrong: &Wrong) -> Result<(), AllocError>
     ensures { OnOk result ((why : List ℕ)
         × (string_bytes lines.new ≡ string_bytes lines.old ++ refusal_text number why)) }

@@ -10,20 +10,23 @@ use schema_table::{Names, Schema};
 use schemas::{Node, Value};
 use std::alloc::{AllocError, Global};
 
-/// How many bytes are kept of what a message says.
+/// How many bytes are kept of a message's text.
 pub const LONGEST: usize = 1024;
 
-/// What a kind is called whose type has no name.
+/// The name of a kind whose type has none.
 const MESSAGE: &str = "message";
 
-/// A kind of this name.
+/// A row for a kind of this name.
 fn row(alloc: Global, name: &str) -> Result<Row, AllocError>
     ensures none { IfOk result (λ row. row.count ≡ 0) }
 {
     Ok(Row::new(String::from_str(alloc, name)?, alloc))
 }
 
-/// A row for each kind of messages of the type at that place.
+/// Returns a row for each kind of messages of the type at index `place`: one for each variant of an enum, else one.
+///
+/// # Errors
+/// Out of memory.
 pub fn rows_of(alloc: Global, schema: &Schema, place: usize) -> Result<Vec<Row>, AllocError>
     ensures none { IfOk result (λ rows. All (λ row. row.count ≡ 0) rows.items) }
 {
@@ -38,7 +41,7 @@ pub fn rows_of(alloc: Global, schema: &Schema, place: usize) -> Result<Vec<Row>,
     Ok(rows)
 }
 
-/// The name of the type at that place, or what stands for one that has none.
+/// The name of the type at that index, or `message` if it has none.
 fn type_name(schema: &Schema, place: usize) -> &str {
     match schema.types.get(place) {
         Some(it) => it.name.as_str(),
@@ -46,7 +49,7 @@ fn type_name(schema: &Schema, place: usize) -> &str {
     }
 }
 
-/// The place of the row that a value belongs to.
+/// Returns the index of a value's row.
 pub fn kind_of(value: &Value) -> usize
     ensures { result ≡ kind_in value.now }
 {
@@ -56,7 +59,7 @@ pub fn kind_of(value: &Value) -> usize
     }
 }
 
-/// The place of what a variant holds.
+/// The index of a variant's payload.
 fn payload_of(schema: &Schema, place: usize, index: u32) -> Option<usize> {
     match schema.nodes.get(place) {
         Some(Node::Enum(payloads)) => match payloads.get(index as usize) {
@@ -67,7 +70,7 @@ fn payload_of(schema: &Schema, place: usize, index: u32) -> Option<usize> {
     }
 }
 
-/// A text, or its front where it is long.
+/// A text; of a long one its first [`LONGEST`] bytes or a few more, and `..`.
 fn short(alloc: Global, text: &str) -> Result<String, AllocError> {
     let mut kept = String::new(alloc);
     for character in text.chars() {
@@ -80,7 +83,10 @@ fn short(alloc: Global, text: &str) -> Result<String, AllocError> {
     Ok(kept)
 }
 
-/// What a value says beside its kind: of a variant what it holds, nothing where it holds nothing; of another value all.
+/// Returns a value's text beside its kind: the JSON of a variant's payload, empty without fields; else the whole value's JSON.
+///
+/// # Errors
+/// Out of memory.
 pub fn text_of(reading: Reading<'_>, value: &Value) -> Result<String, AllocError> {
     let Reading {
         alloc,

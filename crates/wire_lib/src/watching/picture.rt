@@ -1,4 +1,4 @@
-//! A table as lines.
+//! A table of messages as printable lines.
 ghost use Rattle.std.specs.Prelude.{◌≡◌, ℕ, ◌≤◌, List, length, IfOk, OnOk};
 ghost use Rattle.wire_lib.specs.Pictures.{Fits};
 
@@ -9,15 +9,15 @@ use std::alloc::{AllocError, Global};
 /// How a table is shown.
 #[derive(Clone, Copy, Debug, PartialEq, Eq, Drop)]
 pub struct View {
-    /// How many columns a line may take.
+    /// The maximum width of a line, in columns.
     pub columns: usize,
-    /// How many kinds are shown at most.
+    /// The maximum number of kinds that are shown.
     pub kinds: usize,
-    /// The window of time that is on, where rates are shown.
+    /// The current window of time; without it no rates are shown.
     pub window: Option<u64>,
 }
 
-/// Appends a text as a line that can be shown.
+/// Appends a text as a printable line.
 fn put_line(
     alloc: Global,
     lines: &mut Vec<Vec<u8>>,
@@ -30,13 +30,13 @@ fn put_line(
     Ok(lines.push(printable(alloc, text.trim_end(), columns)?)?)
 }
 
-/// How many came in a second, with one digit behind the point, of those that came in a window of two seconds.
+/// The rate per second with one decimal, by the number in a window of two seconds.
 fn per_second(alloc: Global, came: u64) -> Result<String, AllocError> {
     let half = if came % 2 == 0 { 0 } else { 5 };
     format!(in alloc; "{}.{half}", came / 2)
 }
 
-/// What a row says: its kind, how many came, how many in a second, and the last one.
+/// The text of a row: its kind, the number of messages, the rate, and the last one.
 fn said(alloc: Global, row: &Row, window: Option<u64>) -> Result<String, AllocError> {
     let (name, last) = (row.name.as_str(), row.last.as_str());
     let count = row.count;
@@ -49,7 +49,7 @@ fn said(alloc: Global, row: &Row, window: Option<u64>) -> Result<String, AllocEr
     }
 }
 
-/// What stands above the rows.
+/// The line above the rows.
 fn head(view: View) -> &'static str {
     match view.window {
         Some(_) => "message              count     per s  last",
@@ -57,7 +57,7 @@ fn head(view: View) -> &'static str {
     }
 }
 
-/// Appends the kinds of which a message came, as many as are shown.
+/// Appends the kinds of which a message came; `..` in place of those that are too many.
 fn put_rows(
     alloc: Global,
     lines: &mut Vec<Vec<u8>>,
@@ -82,7 +82,7 @@ fn put_rows(
     Ok(())
 }
 
-/// Appends how many stretches were no message, and the last of them.
+/// Appends the number of damages, and the last ones.
 fn put_damages(
     alloc: Global,
     lines: &mut Vec<Vec<u8>>,
@@ -104,7 +104,18 @@ fn put_damages(
     Ok(())
 }
 
-/// A table as lines: each kind of which a message came, and the last damages.
+/// Returns how many lines of a picture, its last ones, are about damage.
+pub fn damage_lines(table: &Table) -> usize {
+    if table.damaged == 0 {
+        return 0;
+    }
+    table.damages.len().saturating_add(1)
+}
+
+/// Returns a table as printable lines: each kind of which a message came, and then the number of damages with the last ones.
+///
+/// # Errors
+/// Out of memory.
 pub fn picture(alloc: Global, table: &Table, view: View) -> Result<Vec<Vec<u8>>, AllocError>
     ensures { IfOk result (λ lines. Fits view.columns lines.items) }
 {

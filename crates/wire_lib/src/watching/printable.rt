@@ -1,4 +1,4 @@
-//! Texts as they may be shown: in printable ASCII alone, so that each byte takes one column and nothing drives a terminal.
+//! Texts as printable ASCII: each byte is one column on any terminal, whatever its character set, and none controls it.
 ghost use Rattle.std.specs.Prelude.{◌≡◌, ℕ, ◌≤◌, ◌↔◌, List, length, true, OnOk, IfOk};
 ghost use Rattle.wire_lib.specs.Printable.{IsPrintable, ArePrintable};
 
@@ -23,7 +23,7 @@ fn digit(number: u16) -> u8
     }
 }
 
-/// Appends a unit of UTF-16 as JSON escapes it.
+/// Appends a UTF-16 code unit as JSON escapes it.
 fn put_escape(line: &mut Vec<u8>, unit: u16) -> Result<(), AllocError>
     ensures printable { ArePrintable line.old.items → ArePrintable line.new.items }
 {
@@ -63,7 +63,10 @@ fn put(line: &mut Vec<u8>, character: char) -> Result<(), AllocError>
     put_escaped(line, character)
 }
 
-/// A text as one line of so many columns at most: what is no printable character of ASCII is shown as JSON escapes it.
+/// Returns a text as one line of at most `columns` bytes. Each character that isn't printable ASCII is escaped as in JSON.
+///
+/// # Errors
+/// Out of memory.
 pub fn printable(alloc: Global, text: &str, columns: usize) -> Result<Vec<u8>, AllocError>
     ensures printable { IfOk result (λ line. ArePrintable line.items) }
     ensures fits { IfOk result (λ line. length line.items ≤ columns) }

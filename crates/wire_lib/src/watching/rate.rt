@@ -1,11 +1,13 @@
-//! How fast messages come.
+//! How many messages come in a window of time.
 ghost use Rattle.std.specs.Prelude.{◌≡◌, ◌<◌, ℕ, List, [], ◌∷◌, max};
 ghost use Rattle.wire_lib.specs.Rates.{HasTimed, IsRate, newest};
 
-/// How many milliseconds a window has.
+/// The length of a window, in milliseconds.
 pub const WINDOW: u64 = 2000;
 
-/// How many messages came in the last window of time in which any did, and in the one before it.
+/// The numbers of messages in the last window of time in which any came, and in the window before it.
+///
+/// Two numbers are enough for a whole rate, and the table needs no clock.
 #[derive(Clone, Copy, Debug, PartialEq, Eq, Drop)]
 pub struct Rate {
     window: u64,
@@ -14,7 +16,7 @@ pub struct Rate {
 }
 
 impl Rate {
-    /// Nothing came.
+    /// Returns the rate before any message.
     pub fn new() -> Rate
         ensures { HasTimed result [] }
     {
@@ -25,7 +27,7 @@ impl Rate {
         }
     }
 
-    // A later window begins with a message.
+    // a message in a later window
     fn begin(&mut self, window: u64)
         requires { self.old.window < window }
         ensures { (times : List ℕ) → HasTimed self.old times
@@ -36,7 +38,7 @@ impl Rate {
         self.here = 1;
     }
 
-    // One more came in the same window.
+    // one more in the same window
     fn add(&mut self)
         ensures { (times : List ℕ) → HasTimed self.old times
             → HasTimed self.new (newest times ∷ times) }
@@ -44,7 +46,7 @@ impl Rate {
         self.here = self.here.saturating_add(1);
     }
 
-    /// A message came in this window. One that is earlier than the last counts as that.
+    /// Counts a message in this window. A window earlier than the last one counts as the last one.
     pub fn note(&mut self, window: u64)
         ensures { (times : List ℕ) → HasTimed self.old times
             → HasTimed self.new (max window (newest times) ∷ times) }
@@ -56,7 +58,7 @@ impl Rate {
         }
     }
 
-    /// How many came in the window before this one, which isn't earlier than the last one in which something came.
+    /// Returns how many messages came in the window before this one. This one must not be earlier than the last in which any came.
     pub fn in_the_last(&self, window: u64) -> u64
         ensures { (times : List ℕ) → HasTimed self.now times → IsRate times window result }
     {

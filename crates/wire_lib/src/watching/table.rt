@@ -1,4 +1,4 @@
-//! What is kept of the messages that came: of each kind the last, how many, and how fast; and the last damages.
+//! What is kept of a stream: of each kind of messages the number, the rate and the last one's text; and the last damages.
 ghost use Rattle.std.specs.Prelude.{◌≡◌, ℕ, ◌+◌, ◌<◌, ◌≤◌, List, [], ◌∷◌, ◌++◌, length, slice_set, slice_index_or, OnOk};
 ghost use Rattle.wire_lib.specs.Rates.{capped, HasTimed};
 ghost use Rattle.wire_lib.specs.Tables.{IsNoted, last_of};
@@ -9,21 +9,21 @@ use std::alloc::{AllocError, Global};
 /// How many damages are kept.
 pub const DAMAGES: usize = 3;
 
-/// A kind of messages.
+/// A kind of messages: its name, the number that came, the last one's text, and the rate.
 #[derive(Drop)]
 pub struct Row {
-    /// What it is called.
+    /// Its name.
     pub name: String,
-    /// How many came.
+    /// How many came; stops at 2^64 - 1.
     pub count: u64,
-    /// What the last one said.
+    /// The last one's text.
     pub last: String,
-    /// How fast they come.
+    /// The rate.
     pub rate: Rate,
 }
 
 impl Row {
-    /// A kind of which none came.
+    /// Returns a kind of which no message came.
     pub fn new(name: String, alloc: Global) -> Row
         ensures name { result.name ≡ name }
         ensures count { result.count ≡ 0 }
@@ -37,7 +37,7 @@ impl Row {
         }
     }
 
-    /// Notes a message of this kind.
+    /// Counts a message of this kind, with its text.
     pub fn note(&mut self, last: String, window: u64)
         ensures { IsNoted last window self.old self.new }
     {
@@ -47,19 +47,19 @@ impl Row {
     }
 }
 
-/// The kinds of messages, and the damages.
+/// The kinds of messages, the number of damages, and the last ones.
 #[derive(Drop)]
 pub struct Table {
-    /// The kinds.
+    /// The kinds, by the index of the variant.
     pub rows: Vec<Row>,
-    /// How many stretches were no message.
+    /// How many damages there were; stops at 2^64 - 1.
     pub damaged: u64,
-    /// What is told of the last of them.
+    /// The texts of the last [`DAMAGES`] of them.
     pub damages: Vec<String>,
 }
 
 impl Table {
-    /// Notes a message of the kind at that place; none where there is no such kind.
+    /// Counts a message of the kind at index `kind`; does nothing if there is no such kind.
     pub fn note(&mut self, kind: usize, last: String, window: u64)
         ensures noted { kind < length self.old.rows.items → (old new : Row)
             × (old ≡ slice_index_or self.old.rows.items kind old) × IsNoted last window old new
@@ -73,7 +73,10 @@ impl Table {
         }
     }
 
-    /// Notes a stretch that is no message.
+    /// Counts a damage, and keeps its text.
+    ///
+    /// # Errors
+    /// Out of memory; the damage is counted, and the oldest text may be gone.
     pub fn note_damage(&mut self, told: String) -> Result<(), AllocError>
         ensures damaged { self.new.damaged ≡ capped (self.old.damaged + 1) }
         ensures damages { length self.old.damages.items ≤ 3 → OnOk result

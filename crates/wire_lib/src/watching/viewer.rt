@@ -1,13 +1,14 @@
-//! A stream of frames, as a table of what came.
-ghost use Rattle.std.specs.Prelude.{◌≡◌, ℕ, ◌<◌, ◌≤◌, List, [], ◌++◌, length, take, IfOk, OnOk};
+//! A stream of frames as a table of what came, and each result as a line.
+ghost use Rattle.std.specs.Prelude.{◌≡◌, ℕ, ◌-◌, ◌<◌, ◌≤◌, List, [], ◌++◌, length, take, string_bytes, IfOk, OnOk};
 ghost use Rattle.link.specs.Decoding.{in_owner};
 ghost use Rattle.link.specs.Receivers.{IsBehind};
 ghost use Rattle.link.specs.Pushes.{Answered};
 ghost use Rattle.link.specs.declared.receiver.Answer.{Answer as Answers};
 ghost use Rattle.schemas.specs.declared.value.Value.{Value as Values};
+ghost use Rattle.wire_lib.specs.Fronts.{dots_after, damage_said};
 ghost use Rattle.wire_lib.specs.Received.{held_by, read_by, are_all_values};
 ghost use Rattle.wire_lib.specs.Rates.{CountsOneMore};
-ghost use Rattle.wire_lib.specs.Seen.{HasSeen, HasCounted, CountsToo, CountsMessage, StandsStill, reading_of, added_by_end};
+ghost use Rattle.wire_lib.specs.Seen.{HasSeen, HasCounted, CountsToo, CountsMessage, KeepsDamage, StandsStill, reading_of, added_by_end};
 
 use crate::receive::{LIMIT, Reading, push_next};
 use crate::watching::front::keep_front;
@@ -19,22 +20,39 @@ use schemas::Value;
 use std::alloc::{AllocError, Global};
 use std::cell::Cell;
 
-/// Watches a stream of frames, in pieces.
+/// Reads a stream of frames, in chunks, and keeps a table of what came: a row for each kind of message, and the last damages.
+///
+/// It keeps for each kind 1024 bytes of text and a few numbers, three damages, and a partial frame of at most [`LIMIT`] bytes.
+///
+/// # Example
+/// ```rust
+/// let mut viewer = Viewer::new(reading)?;
+/// viewer.push(&SUMMED, 0, &mut lines)?;
+/// viewer.push(&SPOILT, 0, &mut lines)?;
+/// let is_good = viewer.finish(&mut lines)?;
+/// let shown = picture(alloc, &viewer.table, view)?;
+/// ```
 #[derive(Drop)]
 pub struct Viewer<'a> {
     reading: Reading<'a>,
     receiver: OwnedReceiver,
     is_deep: Cell<bool>,
-    /// The first bytes of the stretch that is begun.
+    /// The first bytes of the partial frame.
     front: Vec<u8>,
     /// How many bytes came.
     at: u64,
-    /// What came.
+    /// The counts, the last messages and the last damages.
     pub table: Table,
 }
 
 impl<'a> Viewer<'a> {
-    /// Watches a stream from its beginning.
+    /// Returns a viewer at the beginning of a stream.
+    ///
+    /// # Errors
+    /// Out of memory.
+    ///
+    /// # Allocates
+    /// A buffer of [`LIMIT`] bytes, and a row for each kind.
     pub fn new(reading: Reading<'a>) -> Result<Viewer<'a>, AllocError>
         ensures seen { IfOk result (λ v. HasSeen v [] []) }
         ensures reading { IfOk result (λ v. reading_of v ≡ reading.entry) }
@@ -58,7 +76,7 @@ impl<'a> Viewer<'a> {
         }
     }
 
-    /// Notes a message, and appends its line.
+    /// Counts a message, and appends its line.
     fn hear_value(
         &mut self,
         value: &Value,
@@ -78,7 +96,7 @@ impl<'a> Viewer<'a> {
         Ok(())
     }
 
-    /// Notes a stretch that is no message, of so many bytes before the last one that came, and appends its line.
+    /// Counts a damage, the last `stretch` bytes before the newest one, and appends its line.
     fn hear_damage(
         &mut self,
         what: &str,
@@ -87,19 +105,19 @@ impl<'a> Viewer<'a> {
     ) -> Result<(), AllocError>
         ensures damaged { OnOk result
             (CountsOneMore self.old.table.damaged self.new.table.damaged) }
+        ensures kept { length self.old.table.damages.items ≤ 3 → OnOk result (KeepsDamage what.now
+            (self.old.at - 1 - stretch) stretch self.old.front.items self.old.table self.new.table) }
         ensures rows { self.new.table.rows ≡ self.old.table.rows }
         ensures same { StandsStill self.old self.new }
     {
         let alloc = self.reading.alloc;
         let from = self.at.saturating_sub(1).saturating_sub(stretch as u64);
-        let digits = hex::encode(alloc, self.front.as_slice())?;
-        let more = if stretch > self.front.len() { ".." } else { "" };
-        let told = format!(in alloc; "{what} at {from}, {stretch} bytes: {digits}{more}")?;
+        let told = damage_text(alloc, what, from, stretch, &self.front)?;
         put_line(alloc, lines, &[told.as_str()])?;
         self.table.note_damage(told)
     }
 
-    /// Notes an answer, whose stretch has so many bytes before the last one that came.
+    /// Counts a result, whose stretch is the last `stretch` bytes before the newest one.
     fn hear(
         &mut self,
         answer: &Answer<Value>,
@@ -125,7 +143,7 @@ impl<'a> Viewer<'a> {
         }
     }
 
-    /// Takes bytes of a piece up to the first answer, and notes it. How many bytes it took.
+    /// Processes bytes up to the first result, counts it, and returns how many were processed.
     fn push_one(
         &mut self,
         rest: &[u8],
@@ -163,7 +181,11 @@ impl<'a> Viewer<'a> {
         }
     }
 
-    /// Takes the next bytes of the stream, in this window of time, and notes each answer that they end. It appends a line for each.
+    /// Processes the next bytes of the stream, which came in this window of time: counts each result that they complete, and appends a
+    /// line for it. Chunk boundaries don't matter.
+    ///
+    /// # Errors
+    /// Out of memory; the table may have counted only some of the chunk's results.
     pub fn push(&mut self, piece: &[u8], window: u64, lines: &mut Vec<u8>) -> Result<(), AllocError>
         ensures seen { OnOk result ((stream : List ℕ) (answers : List (Answers Values))
             → HasSeen self.old stream answers → (more : List (Answers Values))
@@ -179,7 +201,10 @@ impl<'a> Viewer<'a> {
         Ok(())
     }
 
-    /// Ends the stream: a stretch that was begun is cut. Whether all were messages.
+    /// Ends the stream: counts a partial frame as damage, and returns whether all results were messages.
+    ///
+    /// # Errors
+    /// Out of memory.
     pub fn finish(&mut self, lines: &mut Vec<u8>) -> Result<bool, AllocError>
         ensures counted { OnOk result ((stream : List ℕ) (answers : List (Answers Values))
             → HasSeen self.old stream answers
@@ -199,7 +224,32 @@ impl<'a> Viewer<'a> {
     }
 }
 
-/// Appends a line of these words.
+/// Two dots if there are more than these bytes, else nothing.
+fn dots(count: usize, front: &[u8]) -> &'static str
+    ensures { result.now ≡ dots_after count front.now }
+{
+    if front.len() < count { ".." } else { "" }
+}
+
+/// The text of a damage: what it is, the position of its first byte, its length, and its first bytes in hexadecimal; `..` if there
+/// are more.
+fn damage_text(
+    alloc: Global,
+    what: &str,
+    from: u64,
+    count: usize,
+    front: &[u8],
+) -> Result<String, AllocError>
+    ensures { IfOk result (λ text. string_bytes text ≡ damage_said what.now from count front.now) }
+{
+    let digits = hex::encode(alloc, front)?;
+    let mut text = format!(in alloc; "{what} at {from}, {count} bytes: ")?;
+    text.push_str(digits.as_str())?;
+    text.push_str(dots(count, front))?;
+    Ok(text)
+}
+
+/// Appends a printable line of these words.
 fn put_line(alloc: Global, lines: &mut Vec<u8>, words: &[&str]) -> Result<(), AllocError> {
     let mut text = String::new(alloc);
     for word in words {
