@@ -19,15 +19,15 @@ use Rattle.link.proofs.in_place.read_in_place_with_sentinel.Statement.{statement
 use Rattle.link.proofs.in_place.read_in_place_with_sentinel.Code as code
 
 pub read_in_place_with_sentinel_spec : {M : Type 1} → statement M
-read_in_place_with_sentinel_spec 𝓤 𝓛 𝓜 𝓡 wired T X L LX gd dd gr dr dx P met_d met_r met_x =
+read_in_place_with_sentinel_spec 𝓤 𝓛 𝓜 𝓡 wired T X L LX gd dd gg dg gr dr dx P met_d met_g met_r met_x =
     let H = 𝓛.H in let 𝓣 = tables 𝓤 H 𝓜 𝓡 𝓡.env in
-    let En = self.ended T X gd dd gr dr dx P in let c = self.clauses T X gd dd gr dr dx P 𝓛 𝓜.mem 𝓡.returns in
-    let at : TypeArgs = bounded (a_type ∷ a_type ∷ []) (T, (X, tt)) (dcons dd (dcons dr (dcons dx dnil))) in
+    let En = self.ended T X gd dd gg dg gr dr dx P in let c = self.clauses T X gd dd gg dg gr dr dx P 𝓛 𝓜.mem 𝓡.returns in
+    let at : TypeArgs = bounded (a_type ∷ a_type ∷ []) (T, (X, tt)) (dcons dd (dcons dg (dcons dr (dcons dx dnil)))) in
     let fn : Fn = inst_fn at code.function in
     let hs : Stays En.signature.params En.kept = (stay_dropped (plain (λ _. Global)) yes, (stay_dropped (mut_slice_of (0 ∷ []) tt (plain (λ _. u8))) no, (stay_dropped (plain (λ _. u8)) yes, tt))) in
     proved 𝓛 En hs c 𝓜 𝓡
     (Goes-dropped 𝓛 3 (plain (λ _. Global)) yes (λ κs x w. refl), (Goes-spent_slice 𝓛 3 (0 ∷ []) tt (plain (λ _. u8)), (Goes-dropped 𝓛 3 (plain (λ _. u8)) yes (λ κs x w. refl), tt)))
-    (#self at) fn (code.unfolded 𝓤 H 𝓜 𝓡 wired (T, (X, tt)) dd dr dx)
+    (#self at) fn (code.unfolded 𝓤 H 𝓜 𝓡 wired (T, (X, tt)) dd dg dr dx)
     (λ κs. ((λ x. struct_law.val global_type global.the_laws x ∷ []), (mut_slice_vals, (uint_vals w8, tt))))
     (λ κs. (struct_law.tells global_type global.the_laws, (mut_slice_Tells (named 0) κs.0 u8, (uint_Tells w8, tt))))
     (λ κs qs bounds a g are.
@@ -45,9 +45,9 @@ read_in_place_with_sentinel_spec 𝓤 𝓛 𝓜 𝓡 wired T X L LX gd dd gr dr 
     let z₀ : G₀.Ghost = (((κs.0, tt), (qs.0, tt), tt, (me, (sentinel, tt)), (us, (ss, tt))), tt) in
     -- the call of `read_next`
     let P₂ : Lfts 3 → Type 0 = λ κs'. κs'.0 ≡ κs.0 in
-    let Bound : Lft → Type 2 = λ κ. bound.Met 𝓛 𝓜 𝓡 𝓡.env T (shr_slice_field (record { mir = erased; lft = κ }) u8 tt).row X gd dd gr dr shared.ghosts shared.dict in
-    let E₂ = reads.ended T X gd dd gr dr dx P₂ in
-    let G₂ = triple_of 𝓛 (reads.signature T X) (reads.spec T X gd dd gr dr dx P₂ 𝓛 𝓜.mem 𝓡.returns) in
+    let Bound : Lft → Type 2 = λ κ. bound.Met 𝓛 𝓜 𝓡 𝓡.env T (shr_slice_field (record { mir = erased; lft = κ }) u8 tt).row X gd dd gg dg gr dr shared.ghosts shared.dict in
+    let E₂ = reads.ended T X gd dd gg dg gr dr dx P₂ in
+    let G₂ = triple_of 𝓛 (reads.signature T X) (reads.spec T X gd dd gg dg gr dr dx P₂ 𝓛 𝓜.mem 𝓡.returns) in
     qed 𝓛 (((t₀ ⊛ t₁ ⊛ t₂ ⊛ ‵ ftrue) ⊛ ‵ (Global.own_val alloc gs) ⊛ ‵ ((Slice α).own_val me us) ⊛ ‵ (u8.own_val sentinel ss) ⊛ ‵ ftrue)
     ∷ (raw (fact 𝓤 (κs.1.0 ⊑ T.lives)) ⊛ raw (fact 𝓤 (κs.1.1.0 ⊑ X.lives)) ⊛ raw (fact 𝓤 (P κs)) ⊛ ‵ ftrue) ∷ []) ∵
     move ! (1 ∷ []) $ split ! $ heard ! _ (λ t_lives. split ! $ heard ! _ (λ x_lives. split ! $ heard ! _ (λ p. drop ! $
@@ -96,7 +96,7 @@ read_in_place_with_sentinel_spec 𝓤 𝓛 𝓜 𝓡 wired T X L LX gd dd gr dr 
     nothing ! $ owned ! u8 (Is u8) (uint_Makes 𝓛 w8) sentinel ss (refl, are.1.1.0.1) $ join ! $ owned ! usize (Is usize) (uint_Makes 𝓛 w64) x.0 es (refl, is_count.1) $ join ! $ move ! (2 ∷ 0 ∷ []) $ join ! $ move ! (4 ∷ 0 ∷ []) $ join ! $ move ! (1 ∷ 0 ∷ []) $ join ! $
     use0 𝓛 (raw (fact 𝓤 ((bytes : List ℕ) × IsNext sentinel x.0 bytes c₁))) (fact_i 𝓤 _ (emp 𝓤) (me.now, next)) $ use0 𝓛 (raw (fact 𝓤 (κs.0 ≡ κs.0))) (fact_i 𝓤 _ (emp 𝓤) refl) $ join ! $ use0 𝓛 (raw (fact 𝓤 (κs.1.1.0 ⊑ X.lives))) (fact_i 𝓤 _ (emp 𝓤) x_lives) $ join ! $ use0 𝓛 (raw (fact 𝓤 (κs.1.0 ⊑ T.lives))) (fact_i 𝓤 _ (emp 𝓤) t_lives) $ join ! $
     move ! (1 ∷ 0 ∷ []) $ join ! $ use1 𝓛 (raw (G₂.pre z₂)) (id⊢ 𝓤 _) $
-    calls_at ! (framed 𝓤 H 𝓜 𝓣) G₂ (read_met.met 𝓤 𝓛 𝓜 𝓡 (code.calls-link::in_place::read_next 𝓡.env wired) T X L LX gd dd gr dr dx P₂ (λ κs' e. subst Bound (sym e) (met_d κs p)) met_r met_x) z₂ (and_then ! (get ! refl) (and_then ! (get ! refl) (and_then ! (get ! refl) (and_then ! (get ! refl) (no_more !))))) (λ u.
+    calls_at ! (framed 𝓤 H 𝓜 𝓣) G₂ (read_met.met 𝓤 𝓛 𝓜 𝓡 (code.calls-link::in_place::read_next 𝓡.env wired) T X L LX gd dd gg dg gr dr dx P₂ (λ κs' e. subst Bound (sym e) (met_d κs p)) met_g met_r met_x) z₂ (and_then ! (get ! refl) (and_then ! (get ! refl) (and_then ! (get ! refl) (and_then ! (get ! refl) (no_more !))))) (λ u.
     use1 𝓛 (later (some (λ (r : Res.Denot). ((t₀ ⊛ t₁ ⊛ t₂ ⊛ ‵ ftrue) ⊛ ‵ (Res.own_val r (u ∷ []))) ⊛
     some (λ (ls : Lasts E₂ z₂.0.0 z₂.0.3). ‵ (lasts E₂ z₂.0.0 z₂.0.3 ls) ⊛ raw (fact 𝓤 ((bytes : List ℕ) → IsNext sentinel x.0 bytes c₁ → AnswersNext gr.form.takes gr.form.reads gr.form.growing sentinel bytes r)))))) (id⊢ 𝓤 _) $
     await ! tt $ pick ! (λ r. split ! $ move ! (1 ∷ []) $ pick ! (λ ls'. split ! $ drop ! $ heard ! _ (λ answers. split ! $ move ! (1 ∷ []) $

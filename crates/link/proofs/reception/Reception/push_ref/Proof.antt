@@ -47,17 +47,17 @@ lawful_pushed : {M : Type 1} {𝓤 : Ura M} (𝓛 : Logic 𝓤) (T : RattleType)
 lawful_pushed 𝓛 T L = struct_loose.loose_lawful (pushed_type (param 1 T)) (pushed.the_loose (param 1 T) (param_laws 1 T L)) 𝓛
 
 pub push_ref_spec : {M : Type 1} → statement M
-push_ref_spec 𝓤 𝓛 𝓜 𝓡 wired D T X LD L LX gc dc gd dd gr dr dx P met_c met_d met_r met_x =
+push_ref_spec 𝓤 𝓛 𝓜 𝓡 wired D T X LD L LX gc dc gd dd gg dg gr dr dx P met_c met_d met_g met_r met_x =
     let H = 𝓛.H in let 𝓣 = tables 𝓤 H 𝓜 𝓡 𝓡.env in
     let R : RattleType = Reception (param 0 D) in
-    let En = self.ended D T X gc dc gd dd gr dr dx P in let c = self.clauses D T X gc dc gd dd gr dr dx P 𝓛 𝓜.mem 𝓡.returns in
-    let at : TypeArgs = bounded (a_type ∷ a_type ∷ a_type ∷ []) (D, (T, (X, tt))) (dcons dc (dcons dd (dcons dr (dcons dx dnil)))) in
+    let En = self.ended D T X gc dc gd dd gg dg gr dr dx P in let c = self.clauses D T X gc dc gd dd gg dg gr dr dx P 𝓛 𝓜.mem 𝓡.returns in
+    let at : TypeArgs = bounded (a_type ∷ a_type ∷ a_type ∷ []) (D, (T, (X, tt))) (dcons dc (dcons dd (dcons dg (dcons dr (dcons dx dnil))))) in
     let fn : Fn = inst_fn at code.function in
     let hs : Stays En.signature.params En.kept =
     (stay_dropped (mut_ref_to (0 ∷ []) tt (plain (λ _. R))) no, (stay_dropped (plain (λ _. Global)) yes, (stay_dropped (shr_slice_of (1 ∷ []) tt (plain (λ _. u8))) yes, tt))) in
     proved 𝓛 En hs c 𝓜 𝓡
     (Goes-spent_ref 𝓛 5 (0 ∷ []) tt (plain (λ _. R)), (Goes-dropped 𝓛 5 (plain (λ _. Global)) yes (λ κs x w. refl), (Goes-dropped 𝓛 5 (shr_slice_of (1 ∷ []) tt (plain (λ _. u8))) yes (λ κs x w. refl), tt)))
-    (#self at) fn (code.unfolded 𝓤 H 𝓜 𝓡 wired (D, (T, (X, tt))) dc dd dr dx)
+    (#self at) fn (code.unfolded 𝓤 H 𝓜 𝓡 wired (D, (T, (X, tt))) dc dd dg dr dx)
     (λ κs. (mut_vals, (λ x. struct_law.val global_type global.the_laws x ∷ [], (shr_slice_vals, tt))))
     (λ κs. (mut_Tells (named 0) κs.0 R, (struct_law.tells global_type global.the_laws, (shr_slice_Tells (named 1) κs.1.0 u8, tt))))
     (λ κs qs bounds a g are.
@@ -75,9 +75,9 @@ push_ref_spec 𝓤 𝓛 𝓜 𝓡 wired D T X LD L LX gc dc gd dd gr dr dx P met
     let Step : Adv.Denot → Type 0 = λ x. AdvancesToEvent gc.inside me.now input.now x in
     -- the call of `pushed`
     let P₂ : Lfts 3 → Type 0 = λ κs'. κs'.0 ≡ κs.0 in
-    let Bound : Lft → Type 2 = λ κ. bound.Met 𝓛 𝓜 𝓡 𝓡.env T (shr_slice_field (record { mir = erased; lft = κ }) u8 tt).row X gd dd gr dr bytes.ghosts bytes.dict in
-    let E₂ = reads.ended T X gd dd gr dr dx P₂ in
-    let G₂ = triple_of 𝓛 (reads.signature T X) (reads.spec T X gd dd gr dr dx P₂ 𝓛 𝓜.mem 𝓡.returns) in
+    let Bound : Lft → Type 2 = λ κ. bound.Met 𝓛 𝓜 𝓡 𝓡.env T (shr_slice_field (record { mir = erased; lft = κ }) u8 tt).row X gd dd gg dg gr dr bytes.ghosts bytes.dict in
+    let E₂ = reads.ended T X gd dd gg dg gr dr dx P₂ in
+    let G₂ = triple_of 𝓛 (reads.signature T X) (reads.spec T X gd dd gg dg gr dr dx P₂ 𝓛 𝓜.mem 𝓡.returns) in
     let Answered' : Res.Denot → Type 0 = λ r. AnswersBy gc.inside gr.form.takes gr.form.reads gr.form.growing me.now input.now r in
     qed 𝓛 (((t₀ ⊛ t₁ ⊛ t₂ ⊛ t₃ ⊛ t₄ ⊛ ‵ ftrue) ⊛ ‵ ((MutRef (named 0) κs.0 R).own_val me us) ⊛ ‵ (Global.own_val alloc gs) ⊛ ‵ ((ShrSlice (named 1) κs.1.0 u8).own_val input is) ⊛ ‵ ftrue)
     ∷ (raw (fact 𝓤 (κs.1.1.0 ⊑ D.lives)) ⊛ raw (fact 𝓤 (κs.1.1.1.0 ⊑ T.lives)) ⊛ raw (fact 𝓤 (κs.1.1.1.1.0 ⊑ X.lives)) ⊛ raw (fact 𝓤 (P κs)) ⊛ ‵ ftrue) ∷ []) ∵
@@ -106,7 +106,7 @@ push_ref_spec 𝓤 𝓛 𝓜 𝓡 wired D T X LD L LX gc dc gd dd gr dr dx P met
     nothing ! $ move ! (2 ∷ 0 ∷ []) $ join ! $ move ! (6 ∷ 0 ∷ []) $ join ! $ move ! (1 ∷ 0 ∷ []) $ join ! $
     nothing ! $ use0 𝓛 (raw (fact 𝓤 (κs.0 ≡ κs.0))) (fact_i 𝓤 _ (emp 𝓤) refl) $ join ! $ use0 𝓛 (raw (fact 𝓤 (κs.1.1.1.1.0 ⊑ X.lives))) (fact_i 𝓤 _ (emp 𝓤) x_lives) $ join ! $ use0 𝓛 (raw (fact 𝓤 (κs.1.1.1.0 ⊑ T.lives))) (fact_i 𝓤 _ (emp 𝓤) t_lives) $ join ! $
     move ! (1 ∷ 0 ∷ []) $ join ! $ use1 𝓛 (raw (G₂.pre z₂)) (id⊢ 𝓤 _) $
-    calls_at ! (framed 𝓤 H 𝓜 𝓣) G₂ (read_met.met 𝓤 𝓛 𝓜 𝓡 (code.calls-link::lent::pushed 𝓡.env wired) T X L LX gd dd gr dr dx P₂ (λ κs' e. subst Bound (sym e) (met_d κs p)) met_r met_x) z₂ (and_then ! (get ! refl) (and_then ! (get ! refl) (no_more !))) (λ u.
+    calls_at ! (framed 𝓤 H 𝓜 𝓣) G₂ (read_met.met 𝓤 𝓛 𝓜 𝓡 (code.calls-link::lent::pushed 𝓡.env wired) T X L LX gd dd gg dg gr dr dx P₂ (λ κs' e. subst Bound (sym e) (met_d κs p)) met_g met_r met_x) z₂ (and_then ! (get ! refl) (and_then ! (get ! refl) (no_more !))) (λ u.
     use1 𝓛 (later (some (λ (r : Res.Denot). ((t₀ ⊛ t₃ ⊛ t₄ ⊛ ‵ ftrue) ⊛ ‵ (Res.own_val r (u ∷ []))) ⊛
     some (λ (ls : Lasts E₂ z₂.0.0 z₂.0.3). ‵ (lasts E₂ z₂.0.0 z₂.0.3 ls) ⊛ raw (fact 𝓤 (ReadsLent gr.form.takes gr.form.reads gr.form.growing x r)))))) (id⊢ 𝓤 _) $
     await ! tt $ pick ! (λ r. split ! $ move ! (1 ∷ []) $ pick ! (λ ls'. split ! $ drop ! $ heard ! _ (λ answers. split ! $ move ! (1 ∷ []) $
