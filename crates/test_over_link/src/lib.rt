@@ -16,3 +16,5 @@ mod frame_calls;
 mod remote;
 #[cfg(test)]
 mod station_messages;
+#[cfg(test)]
+mod station_uses;

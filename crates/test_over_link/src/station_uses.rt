@@ -1,0 +1,92 @@
+//! `example_station`: its flavor, its calls and its generic code, each once.
+use crate::checks::{all_true, check};
+use example_station::bounds::{
+    append_twice, are_bounded_and_exact, is_bounded_and_exact, payload, payload_owned, seen_of,
+    size_by_form, there_and_back,
+};
+use example_station::sums::xor_sum;
+use example_station::uses::{first_reading, fits_into, keys_left, last_byte};
+use postcard::accumulator::CobsAccumulator;
+use postcard::{Deserializer, Last, Variant};
+use std::alloc::Global;
+
+// The shape of an enum of two variants: nothing, and a number.
+type Shape = Variant<(), Last<u16>>;
+
+#[test]
+fn a_flavor_and_buffers(rt: HostRuntime) {
+    let mut accumulator: CobsAccumulator<8> = CobsAccumulator::new();
+    check(
+        &rt,
+        all_true([
+            xor_sum(&300u16) == Ok(0xAE),
+            fits_into(&300u16, &mut [0; 2]),
+            !fits_into(&300u16, &mut [0; 1]),
+            last_byte(&mut accumulator, &[3, 1, 8, 0]) == Some(8),
+        ]),
+    );
+}
+
+// Whether a reading is read from the first frame, and a byte is left.
+fn reads_first(alloc: Global) -> bool {
+    let mut frames = [4, 1, 2, 3, 2, 1, 0, 9];
+    match first_reading(alloc, &mut frames) {
+        Ok((reading, rest)) => reading.sensor == 1 && rest.len() == 1,
+        Err(_) => false,
+    }
+}
+
+// Whether the payloads of the second variant are read, borrowing or not.
+fn reads_payloads(alloc: Global) -> bool {
+    let mut d = Deserializer::from_bytes(alloc, &[5, 6]);
+    let first = payload::<_, _, Shape>(&mut d, 1);
+    let second = payload_owned::<_, Shape>(&mut d, 1);
+    matches!(&first, Ok(Variant::Other(Last::Last(5))))
+        && matches!(&second, Ok(Variant::Other(Last::Last(6))))
+}
+
+// Whether a map of two keys has two left.
+fn has_two_keys(alloc: Global) -> bool {
+    let mut d = Deserializer::from_bytes(alloc, &[2, 6]);
+    match d.deserialize_map() {
+        Ok(map) => keys_left(&map) == Some(2),
+        Err(_) => false,
+    }
+}
+
+// Whether a byte is read as it was written.
+fn comes_back(alloc: Global) -> bool {
+    let mut room = [0u8; 4];
+    match there_and_back(alloc, &7u8, &mut room) {
+        Ok((value, rest)) => value == 7 && rest.is_empty(),
+        Err(_) => false,
+    }
+}
+
+// Whether a byte is appended twice.
+fn is_doubled(alloc: Global) -> bool {
+    match append_twice(&7u8, Vec::new(alloc)) {
+        Ok(held) => held.len() == 2,
+        Err(_) => false,
+    }
+}
+
+#[test]
+fn generic_code(rt: HostRuntime) {
+    let alloc = rt.alloc();
+    let number: Shape = Variant::Other(Last::Last(5));
+    are_bounded_and_exact::<Shape>();
+    is_bounded_and_exact::<(u8, u16)>();
+    check(
+        &rt,
+        all_true([
+            seen_of(&number) == (Some(1), Some(4), false),
+            size_by_form::<(u8, u16)>() == Some(4),
+            reads_first(alloc),
+            reads_payloads(alloc),
+            has_two_keys(alloc),
+            comes_back(alloc),
+            is_doubled(alloc),
+        ]),
+    );
+}
