@@ -1,5 +1,5 @@
 //! A flavor of one's own: it keeps no bytes, and returns their checksum.
-ghost use Rattle.std.specs.Prelude.{None, ⊤, ⊥};
+ghost use Rattle.std.specs.Prelude.{None, ⊤};
 
 use postcard::ser_flavors::Flavor;
 use postcard::{Result, Serialize, serialize_with_flavor};
