@@ -1,4 +1,5 @@
-# find_package(frames) gives frames::frames (the static library) and frames::shared. It is installed as lib/cmake/frames/framesConfig.cmake.
+# find_package(frames) gives frames::frames (the static library) and frames::shared, and frames::wire (that of typed messages). It is
+# installed as lib/cmake/frames/framesConfig.cmake.
 get_filename_component(_frames_prefix "${CMAKE_CURRENT_LIST_DIR}/../../.." ABSOLUTE)
 foreach(_frames_kind IN ITEMS frames shared)
   if(NOT TARGET frames::${_frames_kind})
@@ -12,6 +13,10 @@ foreach(_frames_kind IN ITEMS frames shared)
     set_target_properties(frames::${_frames_kind} PROPERTIES INTERFACE_INCLUDE_DIRECTORIES "${_frames_prefix}/include")
   endif()
 endforeach()
+if(NOT TARGET frames::wire)
+  add_library(frames::wire STATIC IMPORTED)
+  set_target_properties(frames::wire PROPERTIES IMPORTED_LOCATION "${_frames_prefix}/lib/libwire.a" INTERFACE_INCLUDE_DIRECTORIES "${_frames_prefix}/include")
+endif()
 if(NOT CMAKE_SIZEOF_VOID_P EQUAL 8)
   set(frames_FOUND FALSE)
   set(frames_NOT_FOUND_MESSAGE "frames is built for x86-64 and aarch64 alone; for a 32-bit device see its page for C")

@@ -1,24 +1,135 @@
-"""Messages of declared types as JSON values, by the program `wire` of this repository, as a process.
+"""Messages of declared types as JSON values, by the library `libwire` where it is there, else by the program `wire` as a process.
 
     with TypedReceiver("messages.rs", "Reading") as receiver:
         for answer in receiver.listen(open("line.bin", "rb")):
             ...                     # {"value": {...}}, {"damaged": {...}}, {"too_long": {...}}, {"cut": {...}}
     frame = write("messages.rs", "Reading", [{"level": -21, "light": "Dark"}])
 
-A process, and not a call of the library: reading by declarations takes memory, which nothing in `libframes` does, and what a
-declaration or a message makes of the process stays in it.
+The library reads the declarations anew in each call, and keeps nothing; it takes one file of declarations. The program is taken for a folder
+or several files, where `wire=` or WIRE names one, and where there is no library. Both return the same. This module is tested, not proved.
 """
 from __future__ import annotations
 
+import ctypes
 import json
 import os
 import shutil
 import subprocess
 import tempfile
 import threading
-from typing import IO, Any, Dict, Iterable, Iterator, List, Optional
+from ctypes import POINTER, Structure, byref, c_char_p, c_size_t, c_uint8, c_void_p
+from typing import IO, Any, Dict, Iterable, Iterator, List, Optional, Tuple, Union
 
-from . import _byte, _pieces
+from . import _byte, _pieces, _Room
+
+_DONE, _NO_ROOM, _WRONG, _REFUSED, _NO_MEMORY = range(5)
+
+
+class _Said(Structure):
+    _fields_ = [("length", c_size_t), ("used", c_size_t), ("status", c_uint8), ("inside", c_uint8)]
+
+
+class _Terms(Structure):
+    _fields_ = [(name, c_uint8) for name in ("sentinel", "strict", "crc32", "hex", "inside", "ends")]
+
+
+_loaded: Optional[ctypes.CDLL] = None
+
+
+def library(path: Optional[str] = None) -> Optional[ctypes.CDLL]:
+    """The shared object of typed messages, which is loaded at the first call; None if there is none.
+
+    It is the one at `path`, or that WIRE_LIBRARY names (none, if that is empty), or the one beside this file, as in a wheel, or of the clone
+    that this file is in.
+    """
+    global _loaded
+    if _loaded is None or path is not None:
+        here = os.path.dirname(os.path.abspath(__file__))
+        bindings = os.path.dirname(os.path.dirname(here))
+        stored = os.path.join(os.path.dirname(bindings), "built", os.uname().machine) if hasattr(os, "uname") else here
+        beside = [os.path.join(folder, "libwire.so") for folder in (here, os.path.join(bindings, "c", "out"), stored)]
+        named = path if path is not None else os.environ.get("WIRE_LIBRARY")
+        found = named if named is not None else next((it for it in beside if os.path.exists(it)), "")
+        if not found:
+            return None
+        loaded = ctypes.CDLL(found)
+        for function in (loaded.wire_c_read, loaded.wire_c_write):
+            function.restype = _Said
+            function.argtypes = [c_char_p, c_size_t, c_char_p, c_size_t, POINTER(_Terms), c_char_p, c_size_t, c_void_p, c_size_t]
+        _loaded = loaded
+    return _loaded
+
+
+class _Type:
+    """A type of a file of declarations, by the library."""
+
+    def __init__(self, calls: ctypes.CDLL, declarations: str, type_name: str) -> None:
+        with open(declarations, "rb") as file:
+            self._declarations = file.read()
+        self._name, self._calls, self._room, self._length = type_name.encode(), calls, _Room(65536), 65536
+
+    def said(self, function: Any, terms: _Terms, given: bytes) -> Tuple[int, bytes, int, int]:
+        """The status of a call, its text, how many bytes are done with, and whether what follows is inside a stretch that was answered."""
+        while True:
+            said = function(self._declarations, len(self._declarations), self._name, len(self._name), byref(terms), given, len(given),
+                            self._room.address, self._length)  # fmt: skip
+            if said.status != _NO_ROOM:
+                break
+            self._room, self._length = _Room(said.length), said.length
+        text = self._room.front(said.length)
+        if said.status == _NO_MEMORY:
+            raise MemoryError
+        if said.status == _WRONG:
+            raise OSError(text.decode(errors="replace").strip())
+        return said.status, text, said.used, said.inside
+
+    def write(self, lines: bytes, sentinel: int) -> bytes:
+        status, text, _, _ = self.said(self._calls.wire_c_write, _Terms(sentinel=sentinel), lines)
+        if status == _REFUSED:
+            raise ValueError(text.decode(errors="replace").strip())
+        return bytes([sentinel]) + text
+
+
+class _Stream:
+    """A stream of frames of a type, as it comes."""
+
+    def __init__(self, of: _Type, calls: ctypes.CDLL, sentinel: int, strict: bool) -> None:
+        self._of, self._calls, self._terms = of, calls, _Terms(sentinel=sentinel, strict=strict)
+        self._left, self._before, self._is_closed = b"", 0, False
+        self.push(b"")  # what the declarations are refused for
+
+    def push(self, piece: bytes, ends: bool = False) -> List[Dict[str, Any]]:
+        """The answers that these bytes bring."""
+        self._terms.ends = ends
+        given = self._left + bytes(memoryview(piece))
+        _, text, used, self._terms.inside = self._of.said(self._calls.wire_c_read, self._terms, given)
+        answers = [json.loads(line) for line in text.splitlines()]
+        for answer in answers:
+            for what, places in answer.items():
+                if what != "value":  # counted from the first byte that the call was handed
+                    answer[what] = {name: place + self._before for name, place in places.items()}
+        self._left, self._before = given[used:], self._before + used
+        return answers
+
+    def listen(self, source: Any, ends: bool) -> Iterator[Dict[str, Any]]:
+        for piece in _pieces(source, ends, lambda: self._is_closed):
+            yield from self.push(piece)
+        if not self._is_closed:
+            yield from self.push(b"", ends=True)
+
+    def answers(self, stream: bytes) -> List[Dict[str, Any]]:
+        return self.push(stream, ends=True)
+
+    def close(self) -> None:
+        self._is_closed = True
+
+
+def _of_library(declarations: str, type_name: str, wire: Optional[str]) -> Optional[Tuple[_Type, ctypes.CDLL]]:
+    """The type by the library, if that is what takes it."""
+    if wire or os.environ.get("WIRE") or os.path.isdir(declarations) or "," in declarations:
+        return None
+    calls = library()
+    return (_Type(calls, declarations, type_name), calls) if calls is not None else None
 
 
 def _wire(wire: Optional[str]) -> str:
@@ -42,10 +153,13 @@ def _closed(pipe: IO[bytes]) -> None:
 def write(declarations: str, type_name: str, values: Iterable[Any], sentinel: int = 0, wire: Optional[str] = None) -> bytes:
     """The bytes that `wire write` makes of these values: a sentinel, and a frame and a sentinel for each.
 
-    A value that isn't of the type is a `ValueError`; what the program says of its words or of the declarations is an `OSError`, and so is
-    that there is no such program (`FileNotFoundError`). Nothing is answered then.
+    A value that isn't of the type is a `ValueError`; what is wrong with the declarations or the type is an `OSError`, and so is that there is
+    neither the library nor the program (`FileNotFoundError`). Nothing is returned then.
     """
     lines = "".join(json.dumps(value) + "\n" for value in values)
+    by_library = _of_library(declarations, type_name, wire)
+    if by_library is not None:
+        return by_library[0].write(lines.encode(), _byte(sentinel))
     command = [_wire(wire), "write", declarations, type_name, f"sentinel={_byte(sentinel):02x}"]
     done = subprocess.run(command, input=lines.encode(), capture_output=True)
     if done.returncode != 0:
@@ -54,31 +168,17 @@ def write(declarations: str, type_name: str, values: Iterable[Any], sentinel: in
     return done.stdout
 
 
-class TypedReceiver:
-    """Hears the messages of a type, as dictionaries of what `wire read` prints: one answer each.
+class _Process:
+    """A stream of frames of a type, by the program."""
 
-    What the program says of its words, of the declarations or of a device is an `OSError`. It is told no later than `close`, which
-    leaving a `with` block calls.
-    """
-
-    def __init__(self, declarations: str, type_name: str, sentinel: int = 0, strict: bool = False, wire: Optional[str] = None) -> None:
-        words = [_wire(wire), "read", declarations, type_name] + (["strict"] if strict else []) + [f"sentinel={_byte(sentinel):02x}"]
+    def __init__(self, declarations: str, type_name: str, sentinel: int, strict: bool, wire: Optional[str]) -> None:
+        words = [_wire(wire), "read", declarations, type_name] + (["strict"] if strict else []) + [f"sentinel={sentinel:02x}"]
         self._said = tempfile.TemporaryFile()
         self._feeder: Optional[threading.Thread] = None
         self._failure: Optional[BaseException] = None
         self._process = subprocess.Popen(words, stdin=subprocess.PIPE, stdout=subprocess.PIPE, stderr=self._said)
 
-    def __enter__(self) -> "TypedReceiver":
-        return self
-
-    def __exit__(self, *_: object) -> None:
-        self.close()
-
-    def listen(self, source: Any, ends: bool = True) -> Iterator[Dict[str, Any]]:
-        """The answers to all that a file object or a port gives, as they come; once.
-
-        What reading the source raises comes out behind the answers to what was read.
-        """
+    def listen(self, source: Any, ends: bool) -> Iterator[Dict[str, Any]]:
         self._feeder = threading.Thread(target=self._feed, args=(source, ends), daemon=True)
         self._feeder.start()
         assert self._process.stdout is not None
@@ -91,13 +191,11 @@ class TypedReceiver:
             raise self._failure
 
     def answers(self, stream: bytes) -> List[Dict[str, Any]]:
-        """The answers to a whole stream."""
         out, _ = self._process.communicate(stream)
         self.close()
         return [json.loads(line) for line in out.splitlines()]
 
     def close(self) -> None:
-        """Ends the process, and raises what it told of its words or of a device. What wasn't answered yet isn't."""
         process = self._process
         assert process.stdin is not None and process.stdout is not None
         if self._feeder is not None:
@@ -126,3 +224,39 @@ class TypedReceiver:
             self._failure = failure
         finally:
             _closed(self._process.stdin)
+
+
+class TypedReceiver:
+    """Receives the messages of a type, as dictionaries of what `wire read` prints: one answer each.
+
+    What is wrong with the declarations, the type or a device is an `OSError`, at the latest from `close`, which leaving a `with` block calls.
+    """
+
+    def __init__(self, declarations: str, type_name: str, sentinel: int = 0, strict: bool = False, wire: Optional[str] = None) -> None:
+        by_library = _of_library(declarations, type_name, wire)
+        self._by: Union[_Stream, _Process]
+        if by_library is not None:
+            self._by = _Stream(by_library[0], by_library[1], _byte(sentinel), strict)
+        else:
+            self._by = _Process(declarations, type_name, _byte(sentinel), strict, wire)
+
+    def __enter__(self) -> "TypedReceiver":
+        return self
+
+    def __exit__(self, *_: object) -> None:
+        self.close()
+
+    def listen(self, source: Any, ends: bool = True) -> Iterator[Dict[str, Any]]:
+        """The answers to all that a file object or a port gives, as they come; once.
+
+        What reading the source raises comes out after the answers to what was read.
+        """
+        return self._by.listen(source, ends)
+
+    def answers(self, stream: bytes) -> List[Dict[str, Any]]:
+        """The answers to a whole stream."""
+        return self._by.answers(stream)
+
+    def close(self) -> None:
+        """Ends the process, if there is one, and raises what it told of its words or of a device. What wasn't answered yet isn't."""
+        self._by.close()

@@ -326,10 +326,70 @@ class Failing:
         return piece
 
 
-def test_typed(folder):
-    wire = os.environ.get("WIRE")
-    if not wire:
-        return
+def some_stream(rng):
+    """Frames of values, what is no frame, and broken sends."""
+    stream = bytearray()
+    for _ in range(rng.randrange(12)):
+        kind = rng.randrange(8)
+        if kind < 4:
+            level, light = rng.randrange(128), rng.choice([b"\0", b"\1\5", b"\1\0", b"\7"])
+            stream += frame_of(bytes([level]) + light)[: rng.choice([9, 9, 9, 2])] + b"\0"
+        elif kind < 7:
+            stream += bytes(rng.randrange(256) for _ in range(rng.randrange(9)))
+        else:
+            stream += b"\1" * rng.choice([65535, 65536, 65537, 70000]) + b"\0" * rng.randrange(2)
+    return bytes(stream)
+
+
+class Pieces:
+    """A source that gives pieces of any length."""
+
+    def __init__(self, rng, stream):
+        self.rng, self.stream = rng, stream
+
+    def read(self, size):
+        size = self.rng.choice([1, 3, size])
+        piece, self.stream = self.stream[:size], self.stream[size:]
+        return piece
+
+
+def known(answers):
+    """The answers without how much was known of what is too long, which depends on how it came."""
+    return [{"too_long": answer["too_long"]["from"]} if "too_long" in answer else answer for answer in answers]
+
+
+def test_both(rng, folder):
+    """The library and the program return the same."""
+    wire = os.environ.pop("WIRE", None)
+    path = os.path.join(folder, "both.rs")
+    with open(path, "w", encoding="utf-8") as file:
+        file.write("#[derive(Serialize, Deserialize)]\npub enum Light { Dark, Lit(u8) }\n")
+        file.write("#[derive(Serialize, Deserialize)]\npub struct Reading { pub level: i16, pub light: Light }\n")
+        file.write("#[derive(Serialize, Deserialize)]\npub struct Bad { pub level: Leval }\n")
+    if typed.library() is not None:
+        for _ in range(40):
+            stream, mark, strict = some_stream(rng), rng.choice([0, 0, 10]), rng.random() < 0.5
+            answers = typed.TypedReceiver(path, "Reading", mark, strict).answers(stream)
+            with typed.TypedReceiver(path, "Reading", mark, strict) as receiver:
+                heard = known(receiver.listen(Pieces(rng, stream)))
+                assert heard == known(answers), (stream.hex()[:200], mark, heard, answers)
+            if wire:
+                assert known(typed.TypedReceiver(path, "Reading", mark, strict, wire=wire).answers(stream)) == known(answers)
+        for values in ([], [{"level": 1, "light": "Dark"}] * 3000, [{"level": 1}], [7, {"level": 1, "light": {"Lit": 256}}], ["\n"]):
+            for type_name in ("Reading", "Light", "Bad", "No", "[u8; 2]"):
+                told = []
+                for program in (None, wire):
+                    if program is None or wire:
+                        try:
+                            told.append(typed.write(path, type_name, values, 10, wire=program))
+                        except (OSError, ValueError) as error:
+                            told.append((type(error), str(error).replace("wire: ", "").replace(path + ": ", "")))
+                assert told[0] == told[-1], told
+    if wire:
+        os.environ["WIRE"] = wire
+
+
+def test_typed(folder, wire):
     path = os.path.join(folder, "lamp.rs")
     with open(path, "w", encoding="utf-8") as file:
         file.write("#[derive(Serialize, Deserialize)]\npub enum Light { Dark, Lit(u8) }\n")
@@ -372,9 +432,10 @@ def test_typed(folder):
         for value in values:
             device.write(typed.write(path, "Reading", [value], wire=wire))
             assert next(heard) == {"value": value}
-    feeder = receiver._feeder
-    feeder.join(timeout=5)
-    assert not feeder.is_alive()
+    if wire:
+        feeder = receiver._by._feeder
+        feeder.join(timeout=5)
+        assert not feeder.is_alive()
     os.close(here), os.close(there)
     for error, call in (
         (ValueError, lambda: typed.write(path, "Reading", [{"level": 1}], wire=wire)),
@@ -400,8 +461,16 @@ def main():
     test_waits()
     test_aio()
     if len(sys.argv) > 1:
+        by_library = typed.library()
+        os.environ.pop("WIRE_LIBRARY", None)  # a wheel has its own, or none
         test_wheel(sys.argv[1])
-        test_typed(sys.argv[1])
+        wire = os.environ.pop("WIRE", None)
+        if by_library is not None:
+            test_typed(sys.argv[1], None)
+        if wire:
+            os.environ["WIRE"] = wire
+            test_typed(sys.argv[1], wire)
+        test_both(rng, sys.argv[1])
 
 
 main()

@@ -1,4 +1,4 @@
-//! Tests of `schemas`, `declarations` and `wire_lib`, by their public calls alone: outside vectors of every kind of node, tables of
+//! Tests of `schemas`, `declarations`, `wire_lib` and `wire_c_lib`, by their public calls alone: outside vectors of every kind of node, tables of
 //! declarations, values as JSON and back, and errors.
 #![tactic(auto)]
 
@@ -26,3 +26,5 @@ mod schemas_of;
 mod sizes;
 #[cfg(test)]
 mod table;
+#[cfg(test)]
+mod typed_calls;

@@ -1,0 +1,10 @@
+-- The numbers of results.
+use Rattle.std.specs.Prelude.{ℕ}
+
+-- it was done
+abbrev pub done : ℕ
+done = 0
+
+-- the text doesn't fit the room
+abbrev pub no_room : ℕ
+no_room = 1

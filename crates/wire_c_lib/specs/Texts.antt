@@ -1,0 +1,45 @@
+-- The frames of lines that are written by a call that stands alone.
+use Rattle.std.specs.Prelude.{◌≡◌, ℕ, ◌≤◌, Bool, true, List, [], ◌++◌, length}
+use Rattle.wire_lib.specs.declared.send.Sending.{Sending}
+use Rattle.wire_lib.specs.Sent.{LineMade, AreLinesMade, HasMadeBy, AppendedApart, are_all_framed}
+use Rattle.wire_c_lib.specs.declared.terms.WireTerms.{WireTerms}
+use Rattle.wire_c_lib.specs.Flags.{is_set}
+
+-- What was made of a text: of each line that a line feed ends, and of what follows the last one.
+pub record MakesFrames (s : Sending) (text frames wrongs : List ℕ) (good : Bool) : Type 0 where
+  -- what is begun behind the last line feed
+  pub begun : List ℕ
+  -- how many lines were ended
+  pub number : ℕ
+  -- whether all of these became frames
+  pub good_before : Bool
+  -- what the ended lines became
+  pub made : List LineMade
+  -- one each
+  pub has_made : HasMadeBy s begun number good_before text made
+  -- what the last line became, if there is one
+  pub last : List LineMade
+  -- there is one unless nothing is begun
+  pub few : length last ≤ 1
+  pub none : last ≡ [] → begun ≡ []
+  pub are : AreLinesMade s (length made) last
+  -- frames and refusals of the ended lines
+  pub frames_before : List ℕ
+  pub wrongs_before : List ℕ
+  pub ended : AppendedApart [] frames_before [] wrongs_before made
+  -- and those of the last line behind them
+  pub at_end : AppendedApart frames_before frames wrongs_before wrongs last
+  -- whether all became frames
+  pub all_good : good ≡ are_all_framed (made ++ last)
+
+-- The frames of a text's lines, all of them, as these terms say, for some table of types: that of the declarations.
+pub record WritesFrames (terms : WireTerms) (text frames : List ℕ) : Type 0 where
+  -- as what lines are sent
+  pub sending : Sending
+  -- by this sentinel
+  pub sentinel : sending.sentinel ≡ terms.sentinel
+  -- with a checksum or not
+  pub summed : sending.summed ≡ is_set terms.crc32
+  -- no line is refused
+  pub wrongs : List ℕ
+  pub frames_are : MakesFrames sending text frames wrongs true

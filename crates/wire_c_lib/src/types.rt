@@ -1,0 +1,96 @@
+//! From declarations to the type of the messages.
+use crate::terms::{Told, is_flag};
+use declarations::{Error, Schema, Source, read_type};
+use std::alloc::{AllocError, Global};
+use wire_lib::DEPTH;
+use wire_lib::sizes::bound_lists;
+use wire_lib::summed::add_summed;
+use wire_lib::words::EMPTY;
+
+/// Why a call has no result.
+///
+/// Example: see [`write`](crate::write).
+#[derive(Debug, Drop)]
+pub enum Failure {
+    /// The declarations or the words of the type can't be taken: lines that say why.
+    Wrong(String),
+    /// Lines aren't of the type: a line `line K: ..` for each, with the way to what is wrong.
+    Refused(String),
+    /// Out of memory.
+    OutOfMemory,
+}
+
+impl From<AllocError> for Failure {
+    fn from(_: AllocError) -> Failure {
+        Failure::OutOfMemory
+    }
+}
+
+/// A type in its table.
+#[derive(Drop)]
+pub(crate) struct TypeAt {
+    pub schema: Schema,
+    pub place: usize,
+    pub depth: u32,
+}
+
+// That a text isn't UTF-8.
+fn not_text(alloc: Global, what: &str) -> Failure {
+    match format!(in alloc; "{what} isn't UTF-8\n") {
+        Ok(lines) => Failure::Wrong(lines),
+        Err(_) => Failure::OutOfMemory,
+    }
+}
+
+// The table of a type, and its place there.
+fn read_words(told: Told<'_>) -> Result<(Schema, usize), Failure> {
+    let alloc = told.alloc;
+    let Ok(text) = str::from_utf8(told.declarations) else {
+        return Err(not_text(alloc, "the text of the declarations"));
+    };
+    let Ok(words) = str::from_utf8(told.type_words) else {
+        return Err(not_text(alloc, "the type"));
+    };
+    let source = Source {
+        file: String::new(alloc),
+        text: String::from_str(alloc, text)?,
+    };
+    match read_type(alloc, &[source], words) {
+        Ok(it) => Ok(it),
+        Err(Error::Wrong(lines)) => Err(Failure::Wrong(lines)),
+        Err(Error::OutOfMemory) => Err(Failure::OutOfMemory),
+    }
+}
+
+/// The type that is written. Lists of elements that take no bytes are bounded, as `wire` bounds them without a word.
+pub(crate) fn written_type(told: Told<'_>) -> Result<TypeAt, Failure> {
+    let (mut schema, place) = read_words(told)?;
+    bound_lists(told.alloc, &mut schema.nodes, EMPTY)?;
+    Ok(TypeAt {
+        schema,
+        place,
+        depth: DEPTH,
+    })
+}
+
+/// The type that is read: with its checksum, if there is one.
+pub(crate) fn read_type_of(told: Told<'_>) -> Result<TypeAt, Failure> {
+    let TypeAt {
+        mut schema,
+        place,
+        depth,
+    } = written_type(told)?;
+    if !is_flag(told.terms.crc32) {
+        return Ok(TypeAt {
+            schema,
+            place,
+            depth,
+        });
+    }
+    let place = add_summed(told.alloc, &mut schema, place)?;
+    Ok(TypeAt {
+        schema,
+        place,
+        depth: depth.saturating_add(1),
+    })
+}
