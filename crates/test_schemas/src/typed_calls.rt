@@ -1,7 +1,7 @@
 //! `wire_c_lib`: streams in chunks and lines, by calls that each stand alone. Bytes are by hand.
 use crate::checks::{are_equal, check};
 use std::alloc::Global;
-use wire_c_lib::{Failure, ReadLines, Told, WireTerms, read, write};
+use wire_c_lib::{ReadLines, Told, WireFailure, WireTerms, read, write};
 
 const DECLARATIONS: &[u8] = b"#[derive(Serialize, Deserialize)]
 pub struct Reading { pub level: i16, pub light: Light }
@@ -79,8 +79,8 @@ fn is_written_as(told: Told<'_>, line: &[u8], frames: &[u8]) -> bool {
 // Whether a line isn't written, for a reason that begins so.
 fn is_refused(told: Told<'_>, line: &[u8], begin: &str, by_type: bool) -> bool {
     match write(told, line) {
-        Err(Failure::Refused(why)) => !by_type && why.as_str().starts_with(begin),
-        Err(Failure::Wrong(why)) => by_type && why.as_str().starts_with(begin),
+        Err(WireFailure::Refused(why)) => !by_type && why.as_str().starts_with(begin),
+        Err(WireFailure::Wrong(why)) => by_type && why.as_str().starts_with(begin),
         _ => false,
     }
 }

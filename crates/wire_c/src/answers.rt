@@ -4,7 +4,7 @@ ghost use Rattle.wire_c_lib.specs.Flags.{is_set};
 ghost use Rattle.wire_c.specs.Status.{done, no_room};
 
 use crate::status::{NO_MEMORY, NO_ROOM, REFUSED, WRONG};
-use wire_c_lib::Failure;
+use wire_c_lib::WireFailure;
 
 /// The result of a call.
 #[repr(C)]
@@ -61,7 +61,7 @@ pub(crate) fn said(
 }
 
 // Why a call has no result: the lines that say so, if there are some.
-pub(crate) fn failed(failure: Failure, room: &mut [u8]) -> WireSaid
+pub(crate) fn failed(failure: WireFailure, room: &mut [u8]) -> WireSaid
     ensures status { result.status ≢ done }
     ensures within { result.status ≢ no_room → result.length ≤ length room.new }
     ensures too_short { result.status ≡ no_room → room.new ≡ room.old }
@@ -69,8 +69,8 @@ pub(crate) fn failed(failure: Failure, room: &mut [u8]) -> WireSaid
     ensures same { length room.new ≡ length room.old }
 {
     match failure {
-        Failure::Wrong(lines) => said(lines.as_bytes(), WRONG, 0, false, room),
-        Failure::Refused(lines) => said(lines.as_bytes(), REFUSED, 0, false, room),
-        Failure::OutOfMemory => said(&[], NO_MEMORY, 0, false, room),
+        WireFailure::Wrong(lines) => said(lines.as_bytes(), WRONG, 0, false, room),
+        WireFailure::Refused(lines) => said(lines.as_bytes(), REFUSED, 0, false, room),
+        WireFailure::OutOfMemory => said(&[], NO_MEMORY, 0, false, room),
     }
 }

@@ -16,5 +16,5 @@ mod writing;
 
 pub use crate::reading::{ReadLines, read};
 pub use crate::terms::{Told, WireTerms};
-pub use crate::types::Failure;
+pub use crate::types::WireFailure;
 pub use crate::writing::write;

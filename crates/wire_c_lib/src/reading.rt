@@ -4,7 +4,7 @@ ghost use Rattle.wire_c_lib.specs.Flags.{is_set};
 ghost use Rattle.wire_c_lib.specs.Streams.{skipped_in, IsThroughLast, IsDoneWith, TellsStream, ReadsStream};
 
 use crate::terms::{Told, WireTerms, is_flag};
-use crate::types::{Failure, TypeAt, read_type_of};
+use crate::types::{TypeAt, WireFailure, read_type_of};
 use cobs::before_sentinel;
 use std::alloc::AllocError;
 use wire_lib::receive::{LIMIT, LinesOfFrames, Reading};
@@ -109,7 +109,7 @@ fn lines_of(
 ///     Err(_) => false,
 /// }
 /// ```
-pub fn read(told: Told<'_>, stream: &[u8]) -> Result<ReadLines, Failure>
+pub fn read(told: Told<'_>, stream: &[u8]) -> Result<ReadLines, WireFailure>
     ensures lines { IfOk result (λ it. ReadsStream told.entry.terms stream.now it.text.items) }
     ensures used { IfOk result (λ it. is_set told.entry.terms.ends ≡ false
         → IsDoneWith (is_set told.entry.terms.inside) told.entry.terms.sentinel stream.now it.used it.is_inside) }

@@ -11,7 +11,7 @@ use wire_lib::words::EMPTY;
 ///
 /// Example: see [`write`](crate::write).
 #[derive(Debug, Drop)]
-pub enum Failure {
+pub enum WireFailure {
     /// The declarations or the words of the type can't be taken: lines that say why.
     Wrong(String),
     /// Lines aren't of the type: a line `line K: ..` for each, with the way to what is wrong.
@@ -20,9 +20,9 @@ pub enum Failure {
     OutOfMemory,
 }
 
-impl From<AllocError> for Failure {
-    fn from(_: AllocError) -> Failure {
-        Failure::OutOfMemory
+impl From<AllocError> for WireFailure {
+    fn from(_: AllocError) -> WireFailure {
+        WireFailure::OutOfMemory
     }
 }
 
@@ -35,15 +35,15 @@ pub(crate) struct TypeAt {
 }
 
 // That a text isn't UTF-8.
-fn not_text(alloc: Global, what: &str) -> Failure {
+fn not_text(alloc: Global, what: &str) -> WireFailure {
     match format!(in alloc; "{what} isn't UTF-8\n") {
-        Ok(lines) => Failure::Wrong(lines),
-        Err(_) => Failure::OutOfMemory,
+        Ok(lines) => WireFailure::Wrong(lines),
+        Err(_) => WireFailure::OutOfMemory,
     }
 }
 
 // The table of a type, and its place there.
-fn read_words(told: Told<'_>) -> Result<(Schema, usize), Failure> {
+fn read_words(told: Told<'_>) -> Result<(Schema, usize), WireFailure> {
     let alloc = told.alloc;
     let Ok(text) = str::from_utf8(told.declarations) else {
         return Err(not_text(alloc, "the text of the declarations"));
@@ -57,13 +57,13 @@ fn read_words(told: Told<'_>) -> Result<(Schema, usize), Failure> {
     };
     match read_type(alloc, &[source], words) {
         Ok(it) => Ok(it),
-        Err(Error::Wrong(lines)) => Err(Failure::Wrong(lines)),
-        Err(Error::OutOfMemory) => Err(Failure::OutOfMemory),
+        Err(Error::Wrong(lines)) => Err(WireFailure::Wrong(lines)),
+        Err(Error::OutOfMemory) => Err(WireFailure::OutOfMemory),
     }
 }
 
 /// The type that is written. Lists of elements that take no bytes are bounded, as `wire` bounds them without a word.
-pub(crate) fn written_type(told: Told<'_>) -> Result<TypeAt, Failure> {
+pub(crate) fn written_type(told: Told<'_>) -> Result<TypeAt, WireFailure> {
     let (mut schema, place) = read_words(told)?;
     bound_lists(told.alloc, &mut schema.nodes, EMPTY)?;
     Ok(TypeAt {
@@ -74,7 +74,7 @@ pub(crate) fn written_type(told: Told<'_>) -> Result<TypeAt, Failure> {
 }
 
 /// The type that is read: with its checksum, if there is one.
-pub(crate) fn read_type_of(told: Told<'_>) -> Result<TypeAt, Failure> {
+pub(crate) fn read_type_of(told: Told<'_>) -> Result<TypeAt, WireFailure> {
     let TypeAt {
         mut schema,
         place,

@@ -3,7 +3,7 @@ ghost use Rattle.std.specs.Prelude.{◌≡◌, string_bytes, IfOk};
 ghost use Rattle.wire_c_lib.specs.Texts.{MakesFrames, WritesFrames};
 
 use crate::terms::{Told, is_flag};
-use crate::types::{Failure, TypeAt, written_type};
+use crate::types::{TypeAt, WireFailure, written_type};
 use std::alloc::AllocError;
 use wire_lib::send::{FramesOfLines, Sending};
 
@@ -62,12 +62,12 @@ fn made_of(sending: Sending<'_>, lines: &[u8]) -> Result<Made, AllocError>
 /// What is refused:
 /// ```rust
 /// match write(told, line) {
-///     Err(Failure::Refused(why)) => !by_type && why.as_str().starts_with(begin),
-///     Err(Failure::Wrong(why)) => by_type && why.as_str().starts_with(begin),
+///     Err(WireFailure::Refused(why)) => !by_type && why.as_str().starts_with(begin),
+///     Err(WireFailure::Wrong(why)) => by_type && why.as_str().starts_with(begin),
 ///     _ => false,
 /// }
 /// ```
-pub fn write(told: Told<'_>, lines: &[u8]) -> Result<Vec<u8>, Failure>
+pub fn write(told: Told<'_>, lines: &[u8]) -> Result<Vec<u8>, WireFailure>
     ensures { IfOk result (λ frames. WritesFrames told.entry.terms lines.now frames.items) }
 {
     let TypeAt {
@@ -91,6 +91,6 @@ pub fn write(told: Told<'_>, lines: &[u8]) -> Result<Vec<u8>, Failure>
     if is_good {
         Ok(frames)
     } else {
-        Err(Failure::Refused(wrongs))
+        Err(WireFailure::Refused(wrongs))
     }
 }
