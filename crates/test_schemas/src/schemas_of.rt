@@ -245,14 +245,19 @@ fn places(rt: HostRuntime) {
     check(&rt, is_right);
 }
 
+// Whether a type is declared in this line.
+fn is_in_line(named: &Named, line: usize) -> bool {
+    named.line == line
+}
+
 #[test]
 fn lines_of_types(rt: HostRuntime) {
     let read = read_schema(rt.alloc(), "// message\nstruct A;\n// message\nstruct B;");
     let is_right = match &read {
-        Ok(schema) => matches!(
-            schema.types.as_slice(),
-            [Named { line: 2, .. }, Named { line: 4, .. }]
-        ),
+        Ok(schema) => match schema.types.as_slice() {
+            [first, second] => is_in_line(first, 2) && is_in_line(second, 4),
+            _ => false,
+        },
         Err(_) => false,
     };
     check(&rt, is_right);
