@@ -87,26 +87,6 @@ all_at bytes code_at at next m piece more h e c =
     let none : drop (length piece) piece ++ more ≡ more = ap (λ p. p ++ more) (drop_all (length piece) piece (omega arith)) in
     rw none at (front_at bytes code_at at next m piece more (length piece) (omega arith) h e c)
 
--- a piece behind the open run
-pub coding_new : (bytes : List ℕ) (code_at len : ℕ) (m piece tail : List ℕ) → Laid bytes code_at len → GoesOnFromBlock bytes code_at len m → 0 < length piece → len + length piece ≤ code_at + 255
-    → Coding (take len bytes ++ (piece ++ tail)) code_at len (m ++ piece) piece
-coding_new bytes code_at len m [] tail l g s f = absurd (omega arith)
-coding_new bytes code_at len m (byte ∷ piece) tail l g s f =
-    let run = last_run bytes code_at len in
-    let long : suc (length run) ≡ len - code_at = run_length bytes code_at len l in
-    let closed : length (take code_at bytes) ≡ code_at = length-take-le code_at bytes (omega (arith, l.begins, l.within)) in
-    record {
-      closed = take code_at bytes;
-      code = suc (length run);
-      run = run;
-      tail = tail;
-      spells = ap (λ x. x ++ ((byte ∷ piece) ++ tail)) (front_of bytes code_at len l) ∙ append_assoc (take code_at bytes) (block run) ((byte ∷ piece) ++ tail);
-      begins = sym closed;
-      ends = omega (arith, l.begins, closed, long);
-      short = omega (arith, l.begins, long, f);
-      goes_on = λ more. ap shortest_frame (append_assoc m (byte ∷ piece) more) ∙ g byte (piece ++ more);
-    }
-
 -- what doesn't fit behind an open run
 pub no_room : (bytes : List ℕ) (code_at len room : ℕ) (m more : List ℕ) → Laid bytes code_at len → GoesOnFromBlock bytes code_at len m → 0 < length more → room < len + length more → room < length (shortest_frame (m ++ more))
 no_room bytes code_at len room m [] l g s h = absurd (omega arith)

@@ -74,53 +74,6 @@ done source read d r e =
       clear = subst Stretch (sym s) r.clear;
     }
 
--- what the zero behind a stretch tells
-zero_tells : (bytes : List ℕ) (d : DecodeResult) → fed (standing bytes) 0 ≡ Ok d → missing bytes ≡ 0
-zero_tells [] d e = refl
-zero_tells (code ∷ bytes) d e = let a = after 0 false (code ∷ bytes) in tells a.0 a.1 (sym (fed_zero a.0 a.1) ∙ e)
-  where
-    tells : (left : ℕ) (owed : Bool) → (if left == 0 then Ok DataComplete else Err (InvalidFrame 0)) ≡ Ok d → left ≡ 0
-    tells zero owed f = refl
-    tells (suc left) owed f = let g : ◌≡◌ {A = Result DecodeResult DecodeError} (Err (InvalidFrame 0)) (Ok d) = rw (ne_eqb (suc left) 0 (λ z. omega arith)) at f in cc
-
-zero_refuses : (bytes : List ℕ) (x : DecodeError) → fed (standing bytes) 0 ≡ Err x → missing bytes ≡ 0 → ⊥
-zero_refuses [] x e m = cc
-zero_refuses (code ∷ bytes) x e m =
-    let a = after 0 false (code ∷ bytes) in
-    refuses a.0 a.1 (sym (fed_zero a.0 a.1) ∙ e) m
-  where
-    refuses : (left : ℕ) (owed : Bool) → (if left == 0 then Ok DataComplete else Err (InvalidFrame 0)) ≡ Err x → left ≡ 0 → ⊥
-    refuses zero owed f m = cc
-    refuses (suc left) owed f m = omega arith
-
--- the same from a state
-pub ends_whole : (bytes : List ℕ) (state : DecoderState) (d : DecodeResult) → state ≡ standing bytes → fed state 0 ≡ Ok d → missing bytes ≡ 0
-ends_whole bytes state d s e = zero_tells bytes d (sym (ap (λ z. fed z 0) s) ∙ e)
-
-pub ends_broken : (bytes : List ℕ) (state : DecoderState) (x : DecodeError) → state ≡ standing bytes → fed state 0 ≡ Err x → missing bytes ≡ 0 → ⊥
-ends_broken bytes state x s e = zero_refuses bytes x (sym (ap (λ z. fed z 0) s) ∙ e)
-
--- the answers of decoding in place
-module _ (source : List ℕ) (read : ℕ) (p : Progress) (t : Done source read p) where
-  pub whole : (d : DecodeResult) → fed p.state 0 ≡ Ok d → Ok (report read p.len) ≡ in_place (stretch source)
-  whole d e =
-      let m : missing (stretch source) ≡ 0 = ends_whole (stretch source) p.state d t.stands e in
-      rw (eq-eqb (missing (stretch source)) 0 m, t.parsed, t.counts) refl
-
-  pub broken : (x : DecodeError) → fed p.state 0 ≡ Err x → Err (InvalidFrame p.len) ≡ in_place (stretch source)
-  broken x e =
-      let m : missing (stretch source) ≡ 0 → ⊥ = ends_broken (stretch source) p.state x t.stands e in
-      rw (ne_eqb (missing (stretch source)) 0 m, t.counts) refl
-
-  -- by frames
-  pub is_frame : (d : DecodeResult) → fed p.state 0 ≡ Ok d → (room buffer : List ℕ) → buffer ≡ overwritten (part (stretch source)) room → p.len ≤ length room → stretch source ≢ [] → Frame (stretch source) (take p.len buffer)
-  is_frame d e room buffer h l n =
-      let m : missing (stretch source) ≡ 0 = ends_whole (stretch source) p.state d t.stands e in
-      rw (h, front room (part (stretch source)) p.len t.counts l) (stretch_frame (stretch source) t.clear n m)
-
-  pub no_frame : (x : DecodeError) → fed p.state 0 ≡ Err x → (message : List ℕ) → Frame (stretch source) message → ⊥
-  no_frame x e message f = ends_broken (stretch source) p.state x t.stands e (frame_ends (stretch source) message f)
-
 -- The bytes that were read stand in the buffer as what they decode to, and then the source's, which are XORed once they are read.
 pub record Reading (sentinel : ℕ) (source buffer : List ℕ) (read : ℕ) (d : Progress) : Type 0 where
   pub reads : Reads (masked sentinel source) read d

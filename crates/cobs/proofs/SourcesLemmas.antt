@@ -35,14 +35,6 @@ stretch_front s (b ∷ bytes) (suc n) l none end =
     let p : 0 < bit_xor s b = masked_positive s b (none 0 (omega arith)) in
     rw (ne_eqb (bit_xor s b) 0 (λ z. omega (arith, p))) (ap (λ r. bit_xor s b ∷ r) (stretch_front s bytes n (omega arith) (λ k q. none (suc k) (omega arith)) (λ q. end (omega arith))))
 
--- none of them becomes zero
-pub nonzero_front : (sentinel n most : ℕ) (piece : List ℕ) → most ≤ length piece → n ≤ most → ((k : ℕ) → k < n → get_or (take most piece) k 0 ≢ sentinel)
-    → (j : ℕ) → j < n → 0 < get_or (take most (masked sentinel piece)) j 0
-nonzero_front s n most piece l w none j q =
-    let byte : get_or (take most (masked s piece)) j 0 ≡ bit_xor s (get_or piece j 0) = get_or-take most (masked s piece) j 0 (omega arith) ∙ masked_get s piece j (omega arith) in
-    let other : get_or piece j 0 ≢ s = λ e. none j q (get_or-take most piece j 0 (omega arith) ∙ e) in
-    omega (arith, byte, masked_positive s (get_or piece j 0) other)
-
 -- no byte of a stretch is zero
 pub stretch_clear : (bytes : List ℕ) → NoZero (stretch bytes)
 stretch_clear [] = tt

@@ -56,17 +56,6 @@ vector_whole s bytes r buffer last a b e =
           absurd (cc)
     ]
 
-pub vector_refused : (p : List ℕ) (x : DecodeError) → Err x ≡ in_place p → message_of_stretch p ≡ Err x
-vector_refused p x a = elim (eqb_tells (missing p) 0) [
-  | inl t ↦
-      let is : ◌≡◌ {A = Result DecodeReport DecodeError} (Err x) (Ok (report (length p) (length (part p)))) = a ∙ (rw (eq-eqb (missing p) 0 t.1) refl) in
-      absurd (cc)
-  | inr t ↦
-      let is : ◌≡◌ {A = Result DecodeReport DecodeError} (Err x) (Err (InvalidFrame (length (part p)))) = a ∙ (rw (ne_eqb (missing p) 0 t.1) refl) in
-      let same : x ≡ InvalidFrame (length (part p)) = cc in
-      rw (ne_eqb (missing p) 0 t.1) (ap (λ z. Err z) (sym same))
-]
-
 -- no bytes are no frame
 pub empty_frame : (source frame : List ℕ) → frame ≡ frame_in source → length frame ≡ 0 → message_of_frame (frame_in source) ≡ Err EmptyFrame
 empty_frame source [] e l = ap message_of_frame (sym e)

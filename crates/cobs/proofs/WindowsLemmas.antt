@@ -78,12 +78,6 @@ walked_start left bytes out e l = record {
 }
 
 module _ (left : ℕ) (bytes : List ℕ) (at : ℕ) (out : List ℕ) (w : Walked left bytes at out) where
-  pub walked_end : length bytes ≤ at → (out ≡ part_from left true bytes) × (Grab (at - length bytes) ≡ stands_by (after left true bytes))
-  walked_end l = (
-    sym (w.decides ∙ ap (λ b. take at out ++ part_from (at - length bytes) true b) (drop_all at bytes l) ∙ append-nil (take at out) ∙ take_all at out (omega (arith, l, w.long))),
-    sym (ap stands_by (w.stands ∙ ap (after (at - length bytes) true) (drop_all at bytes l))),
-  )
-
   module _ (l : at < length bytes) where
     -- it wasn't written yet
     pub walked_code : get_or out at 0 ≡ get_or bytes at 0

@@ -79,10 +79,6 @@ module _ (sentinel : ℕ) (source buffer : List ℕ) (read : ℕ) (d : Progress)
   pub unread_byte : (k : ℕ) → read ≤ k → k < length source → get_or buffer k 0 ≡ get_or source k 0
   unread_byte k l w = ap (λ b. get_or b k 0) r.holds ∙ behind (part frame) source k (omega (arith, short)) w
 
-  -- none of what is still to be read is the sentinel
-  pub unread_clear : (end : ℕ) → end ≤ length source → ((k : ℕ) → k < end → get_or source k 0 ≢ sentinel) → (k : ℕ) → read ≤ k → k < end → get_or buffer k 0 ≢ sentinel
-  unread_clear end w none k l q e = none k q (sym (unread_byte k l (omega (arith, w))) ∙ e)
-
   -- all before the sentinel was read
   pub ends_at : (end : ℕ) → read ≡ end → end ≤ length source → (end < length source → get_or source end 0 ≡ sentinel) → EndsAt sentinel buffer read
   ends_at end e w z = elim (cases_lt end (length source)) [

@@ -8,12 +8,6 @@ use Rattle.cobs.specs.Sentinel.{masked}
 use Rattle.cobs.proofs.MaskingLemmas.{masked_length, masked_take, masked_append}
 use Rattle.cobs.proofs.WindowsLemmas.{one_written}
 
--- the buffer keeps its length
-pub written_length : (place : ℕ) (bytes old : List ℕ) → place + length bytes ≤ length old → length (written_over place bytes old) ≡ length old
-written_length place bytes old l =
-    length-append (take place old) (bytes ++ drop (place + length bytes) old)
-    ∙ omega (arith, length-append bytes (drop (place + length bytes) old), length-take-le place old (omega (arith, l)), length-drop (place + length bytes) old)
-
 -- what is behind them is as it was
 pub written_behind : (place k : ℕ) (bytes old : List ℕ) → place + length bytes ≤ k → place + length bytes ≤ length old → drop k (written_over place bytes old) ≡ drop k old
 written_behind place k bytes old l r =

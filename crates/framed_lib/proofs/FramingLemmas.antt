@@ -48,12 +48,6 @@ pub unframed-line : (e : Error) (size : ℕ) (text line : List ℕ) → (text �
     → UnlessRefused (Some (text_of text)) (λ bytes. (e ≡ SerializeBufferFull) × (size < length (shortest_frame bytes))) → IsSendOfLine line refused
 unframed-line e size text line u a q = inr (λ h. let f : IsFramed IsTree 1024 (text_of text) = (rw (← u.0) at h) in omega (arith, q.1, f.within))
 
--- a line that isn't sent writes nothing
-pub unsent : (s : ℕ) (clean : Bool) (line : List ℕ) (x : Send) → IsSendOfLine line x → is_whole x ≡ false → [] ≡ written s clean x
-unsent s clean line (completed t) o w = cc
-unsent s clean line refused o w = refl
-unsent s clean line (broken t k) o w = absurd o
-
 -- one that is, behind a sentinel
 pub led : (s n k : ℕ) (room new line : List ℕ) (x : Send) → 0 < length room → n ≤ length new → IsSendOfLine line x → is_whole x ≡ true → take n new ≡ written s true x
     → take (n + 1) (put_mid 1 k (slice_set room 0 s) new) ≡ written s false x

@@ -108,20 +108,12 @@ damaged_reply quiet buffer h = cc
 damaged_reply passed buffer h = cc
 damaged_reply (ended p) buffer h = λ t x. h x.message x.frame
 
-too_long_reply : (event : Event) (buffer : List ℕ) → FindsFrame buffer event (Some TooLong) → Replies HoldsCounted ReadsBytes event (Ok (answer_in buffer (Some TooLong)))
-too_long_reply quiet buffer h = cc
-too_long_reply passed buffer h = refl
-too_long_reply (ended p) buffer h = absurd h
-
 module _ (limit : ℕ) (k : Course) (buffer : List ℕ) (used stretch : ℕ) where
   pub none_replies : TakesFrame limit k buffer (found used stretch None) → RepliesAs HoldsCounted ReadsBytes limit k buffer (found used stretch None)
   none_replies t = record { used = t.used; reply = none_reply k.event buffer t.finds; span = t.span }
 
   pub damaged_replies : TakesFrame limit k buffer (found used stretch (Some Damaged)) → RepliesAs HoldsCounted ReadsBytes limit k buffer (found used stretch (Some Damaged))
   damaged_replies t = record { used = t.used; reply = damaged_reply k.event buffer t.finds; span = t.span }
-
-  pub too_long_replies : TakesFrame limit k buffer (found used stretch (Some TooLong)) → RepliesAs HoldsCounted ReadsBytes limit k buffer (found used stretch (Some TooLong))
-  too_long_replies t = record { used = t.used; reply = too_long_reply k.event buffer t.finds; span = t.span }
 
 -- a value that is lent, as the bytes that it is
 pub as_read : (s rest : List ℕ) (v : Bor (List ℕ)) → ReadsFront (λ t (w : Bor (List ℕ)). ReadsBytes t w.now) s rest v → ReadsFront ReadsBytes s rest v.now

@@ -118,14 +118,6 @@ pub closed : (limit s : ℕ) (p : List ℕ) → 0 < length p → event_at limit 
 closed limit s [] l = absurd (omega (arith, l))
 closed limit s (b ∷ p) l = rw (eq-eqb s s refl) refl
 
-pub nothing_closed : (limit s : ℕ) (p : List ℕ) → p ≡ [] → event_at limit s (kept p) s ≡ Event.quiet
-nothing_closed limit s [] e = rw (eq-eqb s s refl) refl
-nothing_closed limit s (b ∷ p) e = cc
-
-pub begun_closed : (limit s : ℕ) (b : Begun) → begun_at limit s b s ≡ kept []
-begun_closed limit s (kept p) = rw (eq-eqb s s refl) refl
-begun_closed limit s over = rw (eq-eqb s s refl) refl
-
 pub has_bytes : (rest : List ℕ) (b : Bool) → b ≡ (length rest == 0) → b ≡ false → 0 < length rest
 has_bytes [] b e f = let no : true ≡ false = sym e ∙ f in absurd (cc)
 has_bytes (x ∷ rest) b e f = omega arith

@@ -23,15 +23,6 @@ abbrev pub GoOn : List ℕ → Type 0
 GoOn [] = Unit {0}
 GoOn (b ∷ bs) = (128 ≤ b) × (b < 256) × GoOn bs
 
-go_on_then : (s : List ℕ) (b : ℕ) → GoOn s → 128 ≤ b → b < 256 → GoOn (s ++ b ∷ [])
-go_on_then [] b h p q = (p, q, tt)
-go_on_then (c ∷ cs) b h p q = (h.0, h.1, go_on_then cs b h.2 p q)
-
-grouped_then : (s : List ℕ) (b : ℕ) → GoOn s → b < 128 → IsGrouped (s ++ b ∷ [])
-grouped_then [] b h p = p
-grouped_then (c ∷ []) b h p = (h.0, h.1, p)
-grouped_then (c ∷ d ∷ cs) b h p = (h.0, h.1, grouped_then (d ∷ cs) b h.2 p)
-
 short_refused : (m : ℕ) (s : List ℕ) → GoOn s → length s < m → RefusesGroups m 1 s DeserializeUnexpectedEnd
 short_refused zero s h l = absurd (omega (arith, l))
 short_refused (suc m) [] h l = refl
@@ -42,18 +33,6 @@ long_refused : (m : ℕ) (s rest : List ℕ) → GoOn s → length s ≡ suc m �
 long_refused m [] rest h l = absurd (omega (arith, l))
 long_refused zero (b ∷ bs) rest h l = (omega (arith, h.0), refl)
 long_refused (suc m) (b ∷ bs) rest h l = (h.0, long_refused m bs rest h.2 (omega (arith, l)))
-
-module _ (message : List ℕ) (at : ℕ) (near : at < length message) (goes : GoOn (take at message)) where
-  next : take (at + 1) message ≡ take at message ++ get_or message at 0 ∷ []
-  next = take_more message at 0 near
-
-  -- a group that isn't the last
-  pub count_goes_on : 128 ≤ get_or message at 0 → get_or message at 0 < 256 → GoOn (take (at + 1) message)
-  count_goes_on big byte = subst GoOn (sym next) (go_on_then (take at message) (get_or message at 0) goes big byte)
-
-  -- the last one
-  pub count_ends : get_or message at 0 < 128 → IsGrouped (take (at + 1) message)
-  count_ends small = subst IsGrouped (sym next) (grouped_then (take at message) (get_or message at 0) goes small)
 
 module _ (message : List ℕ) (at : ℕ) (goes : GoOn (take at message)) where
   -- no byte is left
@@ -197,28 +176,11 @@ module _ (limit : ℕ) (k : Course) (buffer : List ℕ) (used stretch start size
         span = t.span;
       }
 
--- what isn't a message is the same
-none_reply : (event : Event) (buffer : List ℕ) → FindsFrame buffer event None → Replies HoldsCounted ReadsBytes event (Ok None)
-none_reply quiet buffer h = refl
-none_reply passed buffer h = cc
-none_reply (ended p) buffer h = absurd h
-
 damaged_reply : (event : Event) (buffer : List ℕ) → FindsFrame buffer event (Some Damaged) → Replies HoldsCounted ReadsBytes event (Ok (answer_in buffer (Some Damaged)))
 damaged_reply quiet buffer h = cc
 damaged_reply passed buffer h = cc
 damaged_reply (ended p) buffer h = λ t x. h x.message x.frame
 
-too_long_reply : (event : Event) (buffer : List ℕ) → FindsFrame buffer event (Some TooLong) → Replies HoldsCounted ReadsBytes event (Ok (answer_in buffer (Some TooLong)))
-too_long_reply quiet buffer h = cc
-too_long_reply passed buffer h = refl
-too_long_reply (ended p) buffer h = absurd h
-
 module _ (limit : ℕ) (k : Course) (buffer : List ℕ) (used stretch : ℕ) where
-  pub none_replies : TakesFrame limit k buffer (found used stretch None) → RepliesAs HoldsCounted ReadsBytes limit k buffer (found used stretch None)
-  none_replies t = record { used = t.used; reply = none_reply k.event buffer t.finds; span = t.span }
-
   pub damaged_replies : TakesFrame limit k buffer (found used stretch (Some Damaged)) → RepliesAs HoldsCounted ReadsBytes limit k buffer (found used stretch (Some Damaged))
   damaged_replies t = record { used = t.used; reply = damaged_reply k.event buffer t.finds; span = t.span }
-
-  pub too_long_replies : TakesFrame limit k buffer (found used stretch (Some TooLong)) → RepliesAs HoldsCounted ReadsBytes limit k buffer (found used stretch (Some TooLong))
-  too_long_replies t = record { used = t.used; reply = too_long_reply k.event buffer t.finds; span = t.span }

@@ -188,9 +188,6 @@ passed_to next n old new a b l is =
     ap gaps_of (is ∙ ap (λ z. insert_entry nat_cmp z next (n - 1)) (sym (append-nil old)) ∙ inserted next (n - 1) old [] (keys_below 0 next old a (omega (arith, b))) tt) ∙ gaps_joined old ((next, n - 1) ∷ [])
     ∙ ap (λ z. gaps_of old ++ z) (sym (gap_is next n l))
 
-pub passed_none : (next n : ℕ) (old : List Gap) → n ≤ next → old ≡ old ++ gap_before next n
-passed_none next n old l = sym (ap (λ z. old ++ z) (no_gap next n l) ∙ append-nil old)
-
 -- a fact of an answer, made into another
 pub on_ok : {A E P Q : Type 0} (r : Result A E) → (P → Q) → OnOk r P → OnOk r Q
 on_ok (Ok a) f h = f h

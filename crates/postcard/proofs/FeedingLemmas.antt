@@ -17,33 +17,6 @@ module _ {C : Type 0} {O : List ℕ → Type 0} {A : List ℕ → List ℕ → T
     full = λ l. absurd (e (omega (arith, l, before)));
   }
 
-  pub feeds_full_ended : n ≢ length input → room < count + (n + 1) → O (drop (n + 1) input) → kept ≡ [] → Feeds room held input C O A kept
-  feeds_full_ended e f o k = record {
-    nothing = λ z. absurd (e (let s = stretch_short input in omega (arith, before, s, ap length z)));
-    ended = λ _ l. absurd (omega (arith, counted, before, f, l));
-    full_ended = λ _ _. (subst (λ m. O (drop (m + 1) input)) before o, k);
-    more = λ l. absurd (e (omega (arith, l, before)));
-    full = λ l. absurd (e (omega (arith, l, before)));
-  }
-
-  pub feeds_full : n ≡ length input → room < count + n → O (drop (room - count) input) → kept ≡ [] → Feeds room held input C O A kept
-  feeds_full e f o k = record {
-    nothing = λ z. absurd (omega (arith, e, f, within, ap length z));
-    ended = λ l. absurd (omega (arith, l, before, e));
-    full_ended = λ l. absurd (omega (arith, l, before, e));
-    more = λ _ l. absurd (omega (arith, l, counted, e, f));
-    full = λ _ _. (subst (λ m. O (drop (room - m) input)) (sym counted) o, k);
-  }
-
-  pub feeds_more : n ≡ length input → count + n ≤ room → C → kept ≡ held ++ input → Feeds room held input C O A kept
-  feeds_more e f c k = record {
-    nothing = λ z. (c, k ∙ ap (λ x. held ++ x) z ∙ append-nil held);
-    ended = λ l. absurd (omega (arith, l, before, e));
-    full_ended = λ l. absurd (omega (arith, l, before, e));
-    more = λ _ _. (c, k);
-    full = λ _ l. absurd (omega (arith, l, counted, e, f));
-  }
-
 -- the same said of other answers
 pub feeds_as : {C D : Type 0} {O P : List ℕ → Type 0} {A B : List ℕ → List ℕ → Type 0} {room : ℕ} {held input kept : List ℕ} → (C → D) → ((rest : List ℕ) → O rest → P rest) → ((f rest : List ℕ) → A f rest → B f rest)
     → Feeds room held input C O A kept → Feeds room held input D P B kept

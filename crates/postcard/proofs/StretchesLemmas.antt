@@ -62,13 +62,6 @@ reports f r e =
       | inr p ↦ absurd (let q = e ∙ p.1 in cc)
     ]
 
-pub refuses : (f : List ℕ) (x : DecodeError) → Err x ≡ in_place f → missing f ≡ 0 → ⊥
-refuses f x e =
-    elim (split {A = Result DecodeReport DecodeError} (missing f) (Ok (report (length f) (length (part f)))) (Err (InvalidFrame (length (part f))))) [
-      | inl p ↦ λ _. absurd (let q = e ∙ p.1 in cc)
-      | inr p ↦ p.0
-    ]
-
 pub never_empty : (f m : List ℕ) → length f ≡ 0 → Frame f m → ⊥
 never_empty f m e h = absurd (omega (arith, e, ap length h.spells, long h.first h.others)) where
   long : (run : List ℕ) (runs : List (List ℕ)) → 0 < length (spelled run runs)

@@ -50,9 +50,6 @@ took_as took {s = s} {t = t} n p e = subst (λ k. took s (varint k) t) e p
 pub pushes_as : {S T : Type 0} {took : S → List ℕ → S → Type 0} {refused : S → List ℕ → Error → S → Type 0} {s t : S} {m : ℕ} {r : Result T Error} (n : ℕ) → Pushes took refused s (varint m) r t → m ≡ n → Pushes took refused s (varint n) r t
 pushes_as {took = took} {refused = refused} {s = s} {t = t} {r = r} n p e = subst (λ k. Pushes took refused s (varint k) r t) e p
 
-pub writes_as : {S T : Type 0} {took : S → List ℕ → S → Type 0} {refused : S → List ℕ → Error → S → Type 0} {s t : S} {m : ℕ} {r : Result T Error} (n : ℕ) → Writes took refused s (Some (number 32 m)) r t → m ≡ n → Writes took refused s (Some (number 32 n)) r t
-writes_as {took = took} {refused = refused} {s = s} {t = t} {r = r} n w e = subst (λ k. Writes took refused s (Some (number 32 k)) r t) e w
-
 -- a refusal is one whatever an Ok would have held
 pub refusal_of : {S T U : Type 0} {took : S → List ℕ → S → Type 0} {refused : S → List ℕ → Error → S → Type 0} {s t : S} {o : Option Tree} {e : Error} → Writes {T = T} took refused s o (Err e) t → Writes {T = U} took refused s o (Err e) t
 refusal_of v = record { ok = tt; err = v.err }

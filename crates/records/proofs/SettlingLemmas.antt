@@ -49,13 +49,3 @@ grew_by limit spent writes n first behind r start old new values a h = (
     numbers = h.numbers;
   },
 )
-
--- a sync changes none of that
-pub grown_still : (first behind : ℕ) (start mid new : LineState) (values : List Tree) (rest : List ℕ) → HasGrown start mid first behind values rest → new.told ≡ mid.told → new.faults ≡ mid.faults → HasGrown start new first behind values rest
-grown_still first behind start mid new values rest h e q = record {
-  wrote = record {
-    grew = subst (λ t. Grew start.told t start.faults new.faults (records_from first values ++ rest)) (sym e) (subst (λ f. Grew start.told mid.told start.faults f (records_from first values ++ rest)) (sym q) h.wrote.grew);
-    more = omega (arith, h.wrote.more, q);
-  };
-  numbers = h.numbers;
-}

@@ -28,9 +28,6 @@ begins_itself nodes = record { more = []; whole = sym (append-nil nodes) }
 pub begins_more : {a b c : List Node} → BeginsWith a b → BeginsWith b c → BeginsWith a c
 begins_more {a} {b} {c} h k = record { more = h.more ++ k.more; whole = k.whole ∙ ap (λ z. z ++ k.more) h.whole ∙ append_assoc a h.more k.more }
 
-pub begins_added : {n : Node} {a b c : List Node} {place : ℕ} → BeginsWith a b → IsAdded n b c place → BeginsWith a c
-begins_added {n} {a} {b} {c} h k = begins_more h (record { more = n ∷ []; whole = k.behind })
-
 longer : {a b : List Node} → BeginsWith a b → (depth : ℕ) → length b ≤ depth → length a ≤ depth
 longer {a} {b} h depth l = let e : length b ≡ length a + length h.more = ap length h.whole ∙ length-append a h.more in omega (arith, e, l)
 
