@@ -22,6 +22,8 @@ mod de;
 #[cfg(test)]
 mod large;
 #[cfg(test)]
+mod menus;
+#[cfg(test)]
 mod messages;
 #[cfg(test)]
 mod postcard_frames;

@@ -12,7 +12,7 @@ use postcard::{
 type NodeShape = Variant<u16, Last<()>>;
 
 impl Shaped for Node {
-    ghost use Rattle.example_tree.specs.declared.menu.Node.TheVariants.{Entry, Both};
+    ghost use Rattle.example_by_hand.specs.declared.menu.Node.TheVariants.{Entry, Both};
     ghost use Rattle.postcard_tree.specs.declared.variants.Variant.TheVariants.{This, Other};
     ghost use Rattle.postcard_tree.specs.declared.variants.Last.TheVariants.{Last};
 
