@@ -1,7 +1,7 @@
 //! `example_by_hand::menu`: a tree that is sent as its nodes.
-use crate::checks::{check, check_all, is_slice};
+use crate::checks::{are_equal, check, check_all};
 use example_by_hand::menu::{Menu, Node, Nodes, menu_of, put_nodes};
-use postcard::{from_bytes, to_slice};
+use postcard::{from_bytes, to_allocvec};
 use std::alloc::{AllocError, Global};
 
 // The bytes of the menu ((1 2) 300).
@@ -16,10 +16,15 @@ fn sample(alloc: Global) -> Result<Menu, AllocError> {
 }
 
 // Whether the nodes of a menu are written as these bytes.
-fn is_written(alloc: Global, menu: &Menu, bytes: &[u8]) -> bool {
+fn is_written(alloc: Global, menu: &Menu, wanted: &[u8]) -> bool {
     let mut nodes = Nodes(Vec::new(alloc));
-    let mut room = [0u8; 16];
-    put_nodes(menu, &mut nodes.0).is_ok() && is_slice(to_slice(&nodes, &mut room), bytes)
+    if put_nodes(menu, &mut nodes.0).is_err() {
+        return false;
+    }
+    let Ok(bytes) = to_allocvec(alloc, &nodes) else {
+        return false;
+    };
+    are_equal(&bytes, wanted)
 }
 
 /// A menu is written as its nodes, each after those below it.
