@@ -1,11 +1,14 @@
 -- What the table of a decoder says of the bytes of a frame so far.
 use Rattle.std.proofs.Common.{◌≡◌, ℕ, zero, suc, pred, ◌+◌, ◌-◌, ◌^◌, ◌<◌, ◌≤◌, ◌==◌, nat_lt, min, if◌then◌else◌, Bool, true, false, List, [], ◌∷◌, ◌++◌, length, inl, inr, refl, ap, sym, ◌∙◌, arith, Ok, Err, None, Some, sub-one, set}
-use Rattle.std.proofs.lemmas.List.{append-nil, length_push, set_past}
+use Rattle.std.proofs.lemmas.List.{append-nil, length_push, set_past, drop-set-lt}
 use Rattle.std.proofs.Math.Bool.{and-false}
 use Rattle.std.proofs.lemmas.Bool.{ne_eqb, lt-ltb, le-ltb}
 use Rattle.std.proofs.lemmas.Bool.Decides.{eqb_tells}
 use Rattle.cobs.specs.Frames.{part, part_from, after}
 use Rattle.cobs.specs.Feeding.{by_code, fed, next, told_by, listed, stands_by, standing, at_byte, answer_of, frame_after, placed, stored}
+use Rattle.cobs.specs.Taking.{TakesByte, left_in, left_behind}
+use Rattle.cobs.specs.declared.dec.state.DecoderState.{DecoderState}
+use Rattle.cobs.specs.declared.dec.state.DecoderState.TheVariants.{Idle, Grab, GrabChain}
 use Rattle.cobs.specs.declared.dec.state.DecodeResult.TheVariants.{DataComplete}
 use Rattle.cobs.specs.declared.dec.report.DecodeError.TheVariants.{InvalidFrame, TargetBufTooSmall}
 use Rattle.cobs.specs.declared.dec.progress.Progress.{Progress}
@@ -111,3 +114,58 @@ module _ (buffer : List ℕ) (d : Progress) (bytes : List ℕ) (byte : ℕ) (p :
           answer_over (length buffer) bytes byte x more (omega (arith, ap length more, length_push (part bytes) x)),
           sym (ap (λ o. stored o (length (part bytes)) buffer) (rw s.state at e) ∙ set_past buffer (length (part bytes)) x past),
         )
+
+-- what a byte does inside a block
+pub plain_told : (state : DecoderState) (byte : ℕ) → 0 < byte → 0 < left_in state → (told_by (fed state byte) ≡ Some byte) × (left_behind state 1 ≡ next state byte)
+plain_told Idle byte p l = absurd (omega (arith, l))
+plain_told (Grab zero) byte p l = absurd (omega (arith, l))
+plain_told (GrabChain zero) byte p l = absurd (omega (arith, l))
+plain_told (Grab (suc left)) byte p l =
+    let one : suc left - 1 ≡ left = omega arith in
+    (rw (ne_eqb byte 0 (λ e. omega arith)) refl, ap (λ n. Grab n) one ∙ sym (rw (ne_eqb byte 0 (λ e. omega arith)) refl))
+plain_told (GrabChain (suc left)) byte p l =
+    let one : suc left - 1 ≡ left = omega arith in
+    (rw (ne_eqb byte 0 (λ e. omega arith)) refl, ap (λ n. GrabChain n) one ∙ sym (rw (ne_eqb byte 0 (λ e. omega arith)) refl))
+
+-- and a code that stands for a zero
+pub code_told : (state : DecoderState) (left byte : ℕ) → state ≡ Grab left → left_in state ≡ 0 → 0 < byte → (told_by (fed state byte) ≡ Some 0) × (by_code byte ≡ next state byte)
+code_told (Grab zero) left byte e z p = (rw (ne_eqb byte 0 (λ e. omega arith)) refl, sym (rw (ne_eqb byte 0 (λ e. omega arith)) refl))
+code_told (Grab (suc n)) left byte e z p = absurd (omega (arith, z))
+code_told Idle left byte e z p = absurd (cc)
+code_told (GrabChain n) left byte e z p = absurd (cc)
+
+-- a byte is taken
+module _ (buffer : List ℕ) (d d' : Progress) (byte : ℕ) (p : 0 < byte) (l : byte < 256) (on : d'.state ≡ next d.state byte) where
+  pub takes_none : told_by (fed d.state byte) ≡ None → d'.len ≡ d.len → TakesByte d buffer byte (Ok None) d' buffer
+  takes_none e n = record {
+    stands = λ q s. let h = (stays buffer d q byte p l s e).0 in record { state = on ∙ h.state; len = n ∙ h.len };
+    answer = λ q s. (stays buffer d q byte p l s e).1;
+    buffer = λ q s. (stays buffer d q byte p l s e).2;
+    none = refl;
+    len = omega (arith, n);
+    rest = refl;
+  }
+
+  module _ (x : ℕ) (e : told_by (fed d.state byte) ≡ Some x) (n : d'.len ≡ min (d.len + 1) (2 ^ 64 - 1)) where
+    told_on : (q : List ℕ) → HasStreamed d q → HasStreamed d' (q ++ byte ∷ [])
+    told_on q s = let h = counts buffer d q byte p l s x e d'.len n in record { state = on ∙ h.state; len = h.len }
+
+    pub takes_told : d.len < length buffer → length buffer < 2 ^ 64 → TakesByte d buffer byte (Ok None) d' (set buffer d.len x)
+    takes_told r w = record {
+      stands = told_on;
+      answer = λ q s. (goes_on buffer d q byte p l s x e r w).0;
+      buffer = λ q s. (goes_on buffer d q byte p l s x e r w).1;
+      none = refl;
+      len = omega (arith, n);
+      rest = drop-set-lt (d.len + 1) buffer d.len x (omega arith);
+    }
+
+    pub takes_over : length buffer ≤ d.len → TakesByte d buffer byte (Err TargetBufTooSmall) d' buffer
+    takes_over r = record {
+      stands = told_on;
+      answer = λ q s. (runs_over buffer d q byte p l s x e r).0;
+      buffer = λ q s. (runs_over buffer d q byte p l s x e r).1;
+      none = tt;
+      len = omega (arith, n);
+      rest = refl;
+    }

@@ -28,6 +28,10 @@ pub record Turn (frame piece source : List ℕ) (i : ℕ) (buffer : List ℕ) (d
   pub stands : HasStreamed d now
   pub rest : (answer : Result (Option DecodeReport) DecodeError) (left last : List ℕ) → Outcome (length source) now (drop i piece) buffer i answer left last → Outcome (length source) frame piece source 0 answer left last
 
+-- no byte was taken
+pub turn_none : (frame piece source : List ℕ) (d : Progress) → HasStreamed d frame → Turn frame piece source 0 source d
+turn_none frame piece source d s = record { now = frame; stands = s; rest = λ answer left last o. o }
+
 -- no byte is left
 pub turn_end : (frame piece source : List ℕ) (i : ℕ) (buffer : List ℕ) (d : Progress) → (t : Turn frame piece source i buffer d) → length piece ≤ i → Outcome (length source) frame piece source 0 (Ok None) t.now buffer
 turn_end frame piece source i buffer d t l = t.rest (Ok None) t.now buffer (rw (drop_all i piece l) (record { answers = refl; leaves = refl; holds = refl }))

@@ -69,15 +69,7 @@ impl CobsDecoderOwned {
         })
     }
 
-    /// Takes a byte. At the sentinel after a complete frame it returns the message's length n: the message is
-    /// `dest()[..n]`.
-    ///
-    /// Until then, and at a sentinel between frames, it returns `None`. After every sentinel the decoder is idle.
-    ///
-    /// # Errors
-    /// - `TargetBufTooSmall`: at each byte whose byte of the message doesn't fit, and again at the sentinel of such a
-    ///   frame.
-    /// - `InvalidFrame`: at a sentinel inside a block, with the number of bytes that were decoded and fitted.
+    /// Takes a byte, with the results and errors of [`CobsDecoder::feed`](crate::CobsDecoder::feed).
     pub fn feed(&mut self, data: u8) -> Result<Option<usize>, DecodeError>
         ensures takes { FeedsByte (owned_progress self.old) (owned_buffer self.old)
             (bit_xor (owned_sentinel self.old) «data») result
@@ -88,13 +80,7 @@ impl CobsDecoderOwned {
             .feed(self.buffer.as_mut_slice(), self.sentinel ^ data)
     }
 
-    /// Takes bytes up to the first result that `feed` returns, and returns it; `None` if there is none.
-    ///
-    /// `parsed_size` counts the bytes used of this chunk, with the sentinel: push the rest next. Chunk boundaries
-    /// have no effect.
-    ///
-    /// # Errors
-    /// As [`Self::feed`]. The decoder is then after the byte that caused it.
+    /// Takes a chunk, with the results and errors of [`CobsDecoder::push`](crate::CobsDecoder::push).
     pub fn push(&mut self, data: &[u8]) -> Result<Option<DecodeReport>, DecodeError>
         ensures takes { TakesPiece (owned_progress self.old) (owned_buffer self.old)
             (masked (owned_sentinel self.old) «data».now) result
@@ -105,13 +91,8 @@ impl CobsDecoderOwned {
             .push(self.buffer.as_mut_slice(), data, self.sentinel)
     }
 
-    /// Decodes a complete frame, without its sentinel, and returns the message's length n: the message is
-    /// `dest()[..n]`.
-    ///
-    /// An unfinished frame is dropped, and the decoder is idle afterwards.
-    ///
-    /// # Errors
-    /// Those of [`decode_with_sentinel`](crate::decode_with_sentinel), with the same buffer.
+    /// Decodes a complete frame, with the results and errors of
+    /// [`CobsDecoderHeapless::decode_whole`](crate::CobsDecoderHeapless::decode_whole).
     ///
     /// # Requires
     /// No byte of the frame is the sentinel.

@@ -1,8 +1,7 @@
 //! Decoding a frame in chunks into a buffer: the state of the streaming decoders beside their buffer.
 //!
 //! What fits is taken by one search and one copy, with zeros written at the codes. First codes, sentinels, bytes that
-//! don't fit and chunks under 4 bytes go one by one through the table that defines all decoders; the table alone is
-//! several times slower. `take_255`, `take_some` and `take_some_within` have one caller for each copy, so they are
+//! don't fit and chunks of up to 8 bytes go one by one. `take_255`, `take_some` and `take_some_within` have one caller for each copy, so they are
 //! inlined. `within` accompanies `answer` in contracts, since facts for each prefix don't bound an index.
 ghost use Rattle.std.specs.Prelude.{bit_xor, ◌≡◌, ◌≢◌, ◌^◌, ℕ, ◌+◌, ◌-◌, ◌<◌, ◌≤◌, List, [], ◌∷◌, ◌++◌, length, take, drop, slice_index, ◌↔◌, IsTrue, IfOk, IfSome, IsNone};
 ghost use Rattle.cobs.specs.Feeding.{placed};
@@ -11,9 +10,9 @@ ghost use Rattle.cobs.specs.Sentinel.{masked};
 ghost use Rattle.cobs.specs.Streaming.{HasStreamed};
 
 use super::report::{DecodeError, DecodeReport};
-use super::state::{DecoderState, by_code, told_by};
+use super::state::{DecoderState, by_code};
 use super::whole::decode_clear;
-use super::window::{FEW, ROW, WINDOW, decode_at_once, put_zeros, same_by_64};
+use super::window::{FEW, ROW, WINDOW, copy_until, decode_at_once, put_zeros, same_by_64};
 use crate::finding::before_sentinel;
 use crate::moves::{copy_block, copy_over, move_down, zero_over};
 
@@ -26,7 +25,7 @@ pub(crate) struct Progress {
 
 impl Progress {
     ghost use Rattle.cobs.specs.Feeding.{at_zero, at_byte};
-    ghost use Rattle.cobs.specs.Taking.{FeedsByte, TakesPiece, TakesFront, DecodesWhole, Owes};
+    ghost use Rattle.cobs.specs.Taking.{FeedsByte, TakesByte, TakesPiece, TakesFront, DecodesWhole, Owes, left_in};
 
     pub(crate) fn new() -> Progress
         ensures { HasStreamed result [] }
@@ -54,6 +53,50 @@ impl Progress {
         }
     }
 
+    // Takes a byte of an open block. Here and at a code what is kept is written where it is known: where the two ways join, a
+    // byte costs a third more.
+    #[inline(always)]
+    fn take_plain(&mut self, buffer: &mut [u8], byte: u8) -> Result<Option<usize>, DecodeError>
+        requires some { 0 < byte }
+        requires open { 0 < left_in self.old.state }
+        ensures { TakesByte self.old buffer.old byte result self.new buffer.new }
+    {
+        let place = self.len;
+        self.state = self.state.behind(1);
+        if buffer.len() <= place {
+            self.len = place.saturating_add(1);
+            return Err(DecodeError::TargetBufTooSmall);
+        }
+        buffer[place] = byte;
+        self.len = place + 1;
+        Ok(None)
+    }
+
+    // Takes a code.
+    #[inline(always)]
+    fn take_code(&mut self, buffer: &mut [u8], code: u8) -> Result<Option<usize>, DecodeError>
+        requires some { 0 < code }
+        requires closed { left_in self.old.state ≡ 0 }
+        ensures { TakesByte self.old buffer.old code result self.new buffer.new }
+    {
+        let place = self.len;
+        let state = self.state;
+        self.state = by_code(code);
+        match state {
+            DecoderState::Idle => Ok(None),
+            DecoderState::GrabChain(_) => Ok(None),
+            DecoderState::Grab(_) => {
+                self.len = place.saturating_add(1);
+                if place < buffer.len() {
+                    buffer[place] = 0;
+                    Ok(None)
+                } else {
+                    Err(DecodeError::TargetBufTooSmall)
+                }
+            }
+        }
+    }
+
     // Takes a byte of a frame.
     #[inline(always)]
     pub(crate) fn take_in(
@@ -62,26 +105,12 @@ impl Progress {
         byte: u8,
     ) -> Result<Option<usize>, DecodeError>
         requires { 0 < byte }
-        ensures stands { (p : List ℕ) → HasStreamed self.old p
-            → HasStreamed self.new (p ++ byte ∷ []) }
-        ensures answer { (p : List ℕ) → HasStreamed self.old p
-            → result ≡ at_byte (length buffer.old) p byte }
-        ensures buffer { (p : List ℕ) → HasStreamed self.old p
-            → buffer.new ≡ placed p byte buffer.old }
-        ensures none { IfOk result IsNone }
-        ensures len { self.new.len ≤ self.old.len + 1 }
-        ensures rest { drop (self.old.len + 1) buffer.new ≡ drop (self.old.len + 1) buffer.old }
+        ensures { TakesByte self.old buffer.old byte result self.new buffer.new }
     {
-        let Some(told) = told_by(self.state.feed(byte)) else {
-            return Ok(None);
-        };
-        let place = self.len;
-        self.len = place.saturating_add(1);
-        if place < buffer.len() {
-            buffer[place] = told;
-            Ok(None)
+        if 0 < self.state.left() {
+            self.take_plain(buffer, byte)
         } else {
-            Err(DecodeError::TargetBufTooSmall)
+            self.take_code(buffer, byte)
         }
     }
 
@@ -324,6 +353,27 @@ impl Progress {
         }
     }
 
+    // Takes bytes before a sentinel, at most a window, if the next code stands for a zero: they are searched as they are copied.
+    // All fit. Returns how many.
+    #[inline(always)]
+    fn take_window(&mut self, buffer: &mut [u8], bytes: &[u8], sentinel: u8) -> usize
+        requires few { length bytes.now ≤ 254 }
+        requires room { self.old.len + length bytes.now ≤ length buffer.old }
+        ensures within { result ≤ length bytes.now }
+        ensures len { self.new.len ≡ self.old.len + result }
+        ensures front { (p : List ℕ) → HasStreamed self.old p
+            → TakesFront p (masked sentinel bytes.now) buffer.old result self.new buffer.new }
+    {
+        let DecoderState::Grab(left) = self.state else {
+            return 0;
+        };
+        let len = self.len;
+        let n = copy_until(bytes, buffer, len, sentinel);
+        self.state = put_zeros(&mut buffer[len..len + n], left);
+        self.len = len + n;
+        n
+    }
+
     // Takes the next bytes at once, each XORed with the sentinel, as many as certainly fit: a row of codes 01, or up to a
     // sentinel. None of few bytes, for which this costs more, nor a frame's first one, after which a row may come. Returns how
     // many.
@@ -333,17 +383,21 @@ impl Progress {
         ensures front { (p : List ℕ) → HasStreamed self.old p
             → TakesFront p (masked sentinel piece.now) buffer.old result self.new buffer.new }
     {
-        if piece.len() < FEW {
-            return 0;
-        }
         if let DecoderState::Idle = self.state {
             return 0;
         }
         let room = buffer.len().saturating_sub(self.len);
         let front = &piece[..piece.len().min(room).min(ROW)];
+        if front.len() < FEW {
+            return 0;
+        }
         let row = self.take_row(buffer, front, sentinel);
         if 0 < row {
             return row;
+        }
+        let window = self.take_window(buffer, &front[..front.len().min(WINDOW)], sentinel);
+        if 0 < window {
+            return window;
         }
         let n = before_sentinel(front, sentinel);
         self.take_all::<3>(buffer, &front[..n], sentinel);
@@ -380,6 +434,36 @@ impl Progress {
                 Err(e) => return Err(e),
             }
         }
+    }
+
+    // The same of few bytes, one by one. What is kept stays in registers meanwhile.
+    #[inline(never)]
+    fn push_few(
+        &mut self,
+        buffer: &mut [u8],
+        piece: &[u8],
+        sentinel: u8,
+    ) -> Result<Option<DecodeReport>, DecodeError>
+        ensures { TakesPiece self.old buffer.old
+            (masked sentinel piece.now) result self.new buffer.new }
+    {
+        let mut now = *self;
+        for (at, byte) in piece.iter().enumerate() {
+            match now.feed(buffer, sentinel ^ *byte) {
+                Ok(None) => {}
+                Ok(Some(decoded)) => {
+                    *self = now;
+                    let parsed = at + 1;
+                    return Ok(Some(DecodeReport { parsed, decoded }));
+                }
+                Err(e) => {
+                    *self = now;
+                    return Err(e);
+                }
+            }
+        }
+        *self = now;
+        Ok(None)
     }
 
     // The same of one byte, by itself.
@@ -429,6 +513,8 @@ impl Progress {
     {
         if let [byte] = piece {
             self.push_byte(buffer, sentinel ^ *byte)
+        } else if piece.len() <= 2 * FEW {
+            self.push_few(buffer, piece, sentinel)
         } else if sentinel == 0 {
             self.push_piece::<0>(buffer, piece, 0)
         } else {

@@ -1,6 +1,6 @@
 //! The table of all decoders: the position in a frame, and what the next byte means.
 ghost use Rattle.std.specs.Prelude.{◌≡◌, ◌<◌, ◌≤◌};
-ghost use Rattle.cobs.specs.Feeding.{by_code as state_by_code, told_by as byte_told_by, fed, next};
+ghost use Rattle.cobs.specs.Feeding.{by_code as state_by_code, fed, next};
 
 use super::report::DecodeError;
 
@@ -115,18 +115,5 @@ impl DecoderState {
             DecoderState::Grab(left) => DecoderState::Grab(left - n),
             DecoderState::GrabChain(left) => DecoderState::GrabChain(left - n),
         }
-    }
-}
-
-// The byte of the message that a result contains.
-pub(crate) fn told_by(answer: Result<DecodeResult, DecodeError>) -> Option<u8>
-    ensures { result ≡ byte_told_by answer }
-{
-    match answer {
-        Ok(DecodeResult::DataContinue(byte)) => Some(byte),
-        Ok(DecodeResult::NoData) => None,
-        Ok(DecodeResult::DataStart) => None,
-        Ok(DecodeResult::DataComplete) => None,
-        Err(_) => None,
     }
 }

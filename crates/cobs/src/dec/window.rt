@@ -15,7 +15,7 @@ pub(crate) const WINDOW: usize = 254;
 // How many bytes of a chunk are looked at at once: a fill of more goes byte by byte in the processor.
 pub(crate) const ROW: usize = 1024;
 
-// How many bytes are searched and copied at once: of fewer each is fed by itself.
+// How many bytes are searched and copied at once: of fewer each is fed by itself, and of a chunk of up to twice as many.
 pub(crate) const FEW: usize = 4;
 
 // Copies bytes up to a sentinel, each XORed with it, into a buffer, from a position on: at most 64, which are searched first.
