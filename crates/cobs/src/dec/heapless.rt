@@ -78,7 +78,11 @@ impl<const N: usize> CobsDecoderHeapless<N> {
         }
     }
 
-    /// Takes a byte, with the results and errors of [`CobsDecoder::feed`](crate::CobsDecoder::feed).
+    /// Takes a byte. At the sentinel after a complete frame it returns the message's length n: the message is
+    /// `dest()[..n]`. Until then, and at a sentinel between frames, it returns `None`.
+    ///
+    /// # Errors
+    /// As [`CobsDecoder::feed`](crate::CobsDecoder::feed).
     pub fn feed(&mut self, data: u8) -> Result<Option<usize>, DecodeError>
         ensures takes { FeedsByte (array_progress self.old) (array_buffer self.old)
             (bit_xor (array_sentinel self.old) «data») result
@@ -89,7 +93,11 @@ impl<const N: usize> CobsDecoderHeapless<N> {
             .feed(self.array.as_mut_slice(), self.sentinel ^ data)
     }
 
-    /// Takes a chunk, with the results and errors of [`CobsDecoder::push`](crate::CobsDecoder::push).
+    /// Takes bytes up to the first result that `feed` returns, and returns it; `None` if there is none.
+    /// `parsed_size` counts the bytes used of this chunk, with the sentinel: push the rest next.
+    ///
+    /// # Errors
+    /// As [`CobsDecoder::push`](crate::CobsDecoder::push).
     pub fn push(&mut self, data: &[u8]) -> Result<Option<DecodeReport>, DecodeError>
         ensures takes { TakesPiece (array_progress self.old) (array_buffer self.old)
             (masked (array_sentinel self.old) «data».now) result

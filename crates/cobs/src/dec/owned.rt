@@ -69,7 +69,11 @@ impl CobsDecoderOwned {
         })
     }
 
-    /// Takes a byte, with the results and errors of [`CobsDecoder::feed`](crate::CobsDecoder::feed).
+    /// Takes a byte. At the sentinel after a complete frame it returns the message's length n: the message is
+    /// `dest()[..n]`. Until then, and at a sentinel between frames, it returns `None`.
+    ///
+    /// # Errors
+    /// As [`CobsDecoder::feed`](crate::CobsDecoder::feed).
     pub fn feed(&mut self, data: u8) -> Result<Option<usize>, DecodeError>
         ensures takes { FeedsByte (owned_progress self.old) (owned_buffer self.old)
             (bit_xor (owned_sentinel self.old) «data») result
@@ -80,7 +84,11 @@ impl CobsDecoderOwned {
             .feed(self.buffer.as_mut_slice(), self.sentinel ^ data)
     }
 
-    /// Takes a chunk, with the results and errors of [`CobsDecoder::push`](crate::CobsDecoder::push).
+    /// Takes bytes up to the first result that `feed` returns, and returns it; `None` if there is none.
+    /// `parsed_size` counts the bytes used of this chunk, with the sentinel: push the rest next.
+    ///
+    /// # Errors
+    /// As [`CobsDecoder::push`](crate::CobsDecoder::push).
     pub fn push(&mut self, data: &[u8]) -> Result<Option<DecodeReport>, DecodeError>
         ensures takes { TakesPiece (owned_progress self.old) (owned_buffer self.old)
             (masked (owned_sentinel self.old) «data».now) result
@@ -91,8 +99,11 @@ impl CobsDecoderOwned {
             .push(self.buffer.as_mut_slice(), data, self.sentinel)
     }
 
-    /// Decodes a complete frame, with the results and errors of
-    /// [`CobsDecoderHeapless::decode_whole`](crate::CobsDecoderHeapless::decode_whole).
+    /// Decodes a complete frame, without its sentinel, and returns the message's length n: the message is
+    /// `dest()[..n]`. An unfinished frame is dropped, and the decoder is idle afterwards.
+    ///
+    /// # Errors
+    /// Those of [`decode_with_sentinel`](crate::decode_with_sentinel), with the same buffer.
     ///
     /// # Requires
     /// No byte of the frame is the sentinel.
