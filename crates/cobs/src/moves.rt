@@ -206,10 +206,11 @@ fn copy_four(bytes: &[u8], buffer: &mut [u8], place: usize, sentinel: u8)
     let b = load::<16>(bytes, 16);
     let c = load::<16>(bytes, 32);
     let d = load::<16>(bytes, 48);
-    store::<16>(a, buffer, place, sentinel);
-    store::<16>(b, buffer, place + 16, sentinel);
-    store::<16>(c, buffer, place + 32, sentinel);
-    store::<16>(d, buffer, place + 48, sentinel);
+    let out = &mut buffer[place..place + 64];
+    store::<16>(a, out, 0, sentinel);
+    store::<16>(b, out, 16, sentinel);
+    store::<16>(c, out, 32, sentinel);
+    store::<16>(d, out, 48, sentinel);
 }
 
 // The same. Returns the least of them, as they were, in each of the 16 places of a vector.

@@ -62,7 +62,7 @@ fn count_frame(frame: &[u8], sentinel: u8) -> Progress
 {
     let mut progress = Progress::new();
     for byte in frame {
-        let _ = progress.take_in(&mut [], sentinel ^ *byte);
+        let _ = progress.feed(&mut [], sentinel ^ *byte);
     }
     progress
 }
@@ -96,7 +96,7 @@ pub(crate) fn take_source<const COPY: usize>(
         ≡ overwritten (part (stretch (masked sentinel source.now))) dest.old }
 {
     let mut progress = Progress::new();
-    let _ = progress.take_in(dest, sentinel ^ source[0]);
+    let _ = progress.take_code(dest, sentinel ^ source[0]);
     let mut read: usize = 1;
     while 255 <= source.len() - read && is_clear_255(&source[read..read + 255], sentinel) {
         read += progress.take_255::<COPY>(dest, &source[read..read + 255], sentinel);

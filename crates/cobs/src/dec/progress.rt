@@ -1,8 +1,9 @@
 //! Decoding a frame in chunks into a buffer: the state of the streaming decoders beside their buffer.
 //!
 //! What fits is taken by one search and one copy, with zeros written at the codes. First codes, sentinels, bytes that
-//! don't fit and chunks of up to 8 bytes go one by one. `take_255`, `take_some` and `take_some_within` have one caller for each copy, so they are
-//! inlined. `within` accompanies `answer` in contracts, since facts for each prefix don't bound an index.
+//! don't fit and chunks of up to 8 bytes go one by one. `take_255`, `take_some` and `take_some_within` have one caller
+//! for each copy, so they are inlined. `within` accompanies `answer` in contracts, since facts for each prefix don't
+//! bound an index.
 ghost use Rattle.std.specs.Prelude.{bit_xor, ◌≡◌, ◌≢◌, ◌^◌, ℕ, ◌+◌, ◌-◌, ◌<◌, ◌≤◌, List, [], ◌∷◌, ◌++◌, length, take, drop, slice_index, ◌↔◌, IsTrue, IfOk, IfSome, IsNone};
 ghost use Rattle.cobs.specs.Feeding.{placed};
 ghost use Rattle.cobs.specs.Frames.{NoZero};
@@ -74,7 +75,11 @@ impl Progress {
 
     // Takes a code.
     #[inline(always)]
-    fn take_code(&mut self, buffer: &mut [u8], code: u8) -> Result<Option<usize>, DecodeError>
+    pub(crate) fn take_code(
+        &mut self,
+        buffer: &mut [u8],
+        code: u8,
+    ) -> Result<Option<usize>, DecodeError>
         requires some { 0 < code }
         requires closed { left_in self.old.state ≡ 0 }
         ensures { TakesByte self.old buffer.old code result self.new buffer.new }
@@ -94,23 +99,6 @@ impl Progress {
                     Err(DecodeError::TargetBufTooSmall)
                 }
             }
-        }
-    }
-
-    // Takes a byte of a frame.
-    #[inline(always)]
-    pub(crate) fn take_in(
-        &mut self,
-        buffer: &mut [u8],
-        byte: u8,
-    ) -> Result<Option<usize>, DecodeError>
-        requires { 0 < byte }
-        ensures { TakesByte self.old buffer.old byte result self.new buffer.new }
-    {
-        if 0 < self.state.left() {
-            self.take_plain(buffer, byte)
-        } else {
-            self.take_code(buffer, byte)
         }
     }
 
@@ -347,10 +335,13 @@ impl Progress {
         ensures { FeedsByte self.old buffer.old byte result self.new buffer.new }
     {
         if byte == 0 {
-            self.end(buffer.len())
-        } else {
-            self.take_in(buffer, byte)
+            return self.end(buffer.len());
         }
+        let left = self.state.left();
+        if 0 < left {
+            return self.take_plain(buffer, byte);
+        }
+        self.take_code(buffer, byte)
     }
 
     // Takes bytes before a sentinel, at most a window, if the next code stands for a zero: they are searched as they are copied.

@@ -1,8 +1,14 @@
+use Rattle.std.proofs.Common.{get_or}
+use Rattle.std.specs.Prelude.{bit_xor}
+use Rattle.cobs.proofs.FeedsLemmas.{frame_byte}
 use Rattle.cobs.proofs.WholesLemmas.{entering_on, entering_positive}
 use Rattle.cobs.proofs.dec.frames.count_frame.Goals as goal
 
-pub take_in-requires : goal.take_in-requires
-take_in-requires c = entering_positive c.args.sentinel c.args.frame.now c.loop-byte.byte-index c.requires c.loop-byte-test.true
-
 pub loop-byte-preserved : goal.loop-byte-preserved
-loop-byte-preserved c = entering_on c.args.sentinel c.args.frame.now c.loop-byte.byte-index c.loop-byte.progress c.take_in.new.self c.loop-byte.invariant c.loop-byte-test.true c.take_in.ensures.stands
+loop-byte-preserved c =
+    let s = c.args.sentinel in
+    let frame = c.args.frame.now in
+    let i = c.loop-byte.byte-index in
+    let some = entering_positive s frame i c.requires c.loop-byte-test.true in
+    entering_on s frame i c.loop-byte.progress c.feed.new.self c.loop-byte.invariant c.loop-byte-test.true
+    (λ p h. rw (frame_byte p (bit_xor s (get_or frame i 0)) some) at (c.feed.ensures.has p h))

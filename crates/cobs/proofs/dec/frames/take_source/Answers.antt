@@ -8,7 +8,7 @@ use Rattle.cobs.specs.Frames.{NoZero, part, part_from, after}
 use Rattle.cobs.specs.InPlace.{stretch, overwritten, written_over}
 use Rattle.cobs.specs.Sentinel.{masked}
 use Rattle.cobs.specs.Streaming.{HasStreamed}
-use Rattle.cobs.specs.Taking.{TakesFront}
+use Rattle.cobs.specs.Taking.{TakesFront, left_in}
 use Rattle.cobs.specs.declared.dec.progress.Progress.{Progress}
 use Rattle.cobs.proofs.MaskingLemmas.{masked_length, masked_get, masked_take, masked_drop}
 use Rattle.cobs.proofs.ShortLemmas.{Entering, entering_new, entered_long, entered_shorter, entering_byte, entering_front}
@@ -94,7 +94,7 @@ loop-read-init g c =
     record {
       begun = omega arith;
       inside = omega (arith, c.requires.some);
-      entering = byte_taken s 0 source c.args.dest.now c.args.dest.now c.take_in.new.buffer c.new-progress.result c.take_in.new.self (entering_new (masked s source) c.args.dest.now c.new-progress.result c.new-progress.ensures) c.requires.some c.requires.begins c.take_in.ensures.stands c.take_in.ensures.buffer;
+      entering = byte_taken s 0 source c.args.dest.now c.args.dest.now c.take_code.new.buffer c.new-progress.result c.take_code.new.self (entering_new (masked s source) c.args.dest.now c.new-progress.result c.new-progress.ensures) c.requires.some c.requires.begins c.take_code.ensures.stands c.take_code.ensures.buffer;
       none = none_first s source c.requires.begins;
     }
 
@@ -198,8 +198,11 @@ returns-clause-within g c =
     let e = c.before_sentinel.ensures in
     inside c.args.sentinel c.loop-read.read c.before_sentinel.result c.args.source.now c.args.dest.now c.loop-read.dest c.loop-read.progress i.inside i.none e.within e.none i.entering
 
-pub take_in-requires : goal.take_in-requires
-take_in-requires g c = masked_positive c.args.sentinel (get_or c.args.source.now 0 0) c.requires.begins
+pub take_code-requires-clause-some : goal.take_code-requires-clause-some
+take_code-requires-clause-some g c = masked_positive c.args.sentinel (get_or c.args.source.now 0 0) c.requires.begins
+
+pub take_code-requires-clause-closed : goal.take_code-requires-clause-closed
+take_code-requires-clause-closed g c = ap left_in c.new-progress.ensures.state
 
 pub new-progress-requires : goal.new-progress-requires
 new-progress-requires g c = grind (arith, common_steps)
