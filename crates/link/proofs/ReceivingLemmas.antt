@@ -13,7 +13,7 @@ use Rattle.cobs.specs.declared.dec.report.DecodeError.{DecodeError}
 use Rattle.cobs.specs.declared.dec.report.DecodeError.TheVariants.{InvalidFrame}
 use Rattle.link.specs.Link.{Begun, kept, over, Inside, begun_length, finished}
 use Rattle.link.specs.Receivers.{Has, IsAtBy}
-use Rattle.link.specs.Lemmas.MaskLaws.{zero_of, masked_length}
+use Rattle.link.specs.Lemmas.MaskLaws.{zero_of, masked_length, nonzero as unlike}
 use Rattle.link.specs.declared.receiver.Answer.TheVariants.{Cut}
 use Rattle.std.proofs.lemmas.Nat.{xor_lt}
 use Rattle.cobs.specs.Pieces.{frame_left, ended}
@@ -173,6 +173,12 @@ runs_over limit s inside count past over x At e i h z = record { now = over; at 
 pub nonzero_bytes : (s : ℕ) (x : List ℕ) → s < 256 → NoZero (masked s x) → ((k : ℕ) → get_or x k 0 < 256) → AllByRecursion (λ b. (0 < b) × (b < 256)) (masked s x)
 nonzero_bytes s [] l z h = tt
 nonzero_bytes s (b ∷ x) l z h = ((z.0, xor_lt 8 s b l (h 0)), nonzero_bytes s x l z.1 (λ k. h (suc k)))
+
+-- one byte that isn't the sentinel
+pub one_clear : (own s : ℕ) (bytes : List ℕ) → own ≡ s → length bytes ≡ 1 → (get_or bytes 0 0 ≡ own → ⊥) → NoZero (masked s bytes)
+one_clear own s [] d l n = tt
+one_clear own s (b ∷ []) d l n = (unlike s b (λ e. n (e ∙ sym d)), tt)
+one_clear own s (b ∷ c ∷ bytes) d l n = absurd (omega (arith, l))
 
 -- Bytes are cut before their first sentinel.
 pub record IsCut (s : ℕ) (bytes run behind : List ℕ) (size : ℕ) : Type 0 where

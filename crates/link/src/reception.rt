@@ -1,5 +1,5 @@
 //! Receiving values from a stream that comes in chunks.
-ghost use Rattle.std.specs.Prelude.{◌≡◌, ℕ, ◌<◌, ◌≤◌, ◌↔◌, length, List, [], take, drop, true, OnErr, IsTrue, IfSome, MatchOption};
+ghost use Rattle.std.specs.Prelude.{◌≡◌, ◌≢◌, ℕ, ◌<◌, ◌≤◌, ◌↔◌, length, slice_index, List, [], take, drop, true, OnErr, IsTrue, IfSome, MatchOption};
 ghost use Rattle.postcard.specs.Frames.{Holds};
 ghost use Rattle.cobs.specs.Frames.{NoZero};
 ghost use Rattle.cobs.specs.Sentinel.{masked};
@@ -199,6 +199,35 @@ impl<D: Decoding> Reception<D> {
         Found::Whole(size)
     }
 
+    // Takes one byte that isn't the sentinel: nothing is searched, and nothing comes after it.
+    #[inline(always)]
+    fn take_one(&mut self, byte: &[u8]) -> Taken<usize>
+        requires one { length byte.now ≡ 1 }
+        requires other { slice_index byte.now 0 ≢ (D.inside self.old.decoder).sentinel }
+        ensures brings { (limit s : ℕ) (b : Begun) → IsAt D.inside limit s self.old b
+            → Brings limit s b byte.now (front_of (buffer_in D.inside self.new)) result
+            (IsAt D.inside limit s self.new) }
+        ensures within { IsWithin (length (buffer_in D.inside self.new)) result.found }
+        ensures used { result.used ≡ 1 }
+        ensures same { SameTerms D.inside self.old self.new }
+    {
+        match self.take_run(byte) {
+            Some(used) => {
+                let stretch = self.limit();
+                Taken {
+                    used,
+                    stretch,
+                    found: Found::TooLong,
+                }
+            }
+            None => Taken {
+                used: 1,
+                stretch: 0,
+                found: Found::Nothing,
+            },
+        }
+    }
+
     // Takes bytes through the first sentinel, or up to the byte past the limit. Whole runs are taken, and skipped past the limit, which
     // is several times as fast as byte by byte. A stretch that is complete there is decoded at once, which drops earlier state: one
     // search, one copy. Another one is searched once more by the streaming decoder: to search it in `push` would rescan a long frame
@@ -214,6 +243,9 @@ impl<D: Decoding> Reception<D> {
         ensures same { SameTerms D.inside self.old self.new }
     {
         let sentinel = self.decoder.sentinel();
+        if bytes.len() == 1 && bytes[0] != sentinel {
+            return self.take_one(bytes);
+        }
         let between = self.is_between();
         if between {
             let idle = idle_bytes(bytes, sentinel);
