@@ -1,149 +1,86 @@
 //! Types that no message can hold, and what to use instead.
 use declaration_parser::tokens::is_among;
 
+/// Words, and what is said of each: what begins with `` ` `` follows the word, and advice follows [`NOT_HERE`].
+type Rows = &'static [(&'static [&'static str], &'static str)];
+
+/// What is said of a word that can't be in a type, before the advice.
+pub const NOT_HERE: &str = "` can't stand in the type of a field: ";
+
 /// The types of the language that a message can hold.
 pub const PLAIN: &[&str] = &[
     "bool", "char", "str", "u8", "u16", "u32", "u64", "u128", "usize", "i8", "i16", "i32", "i64",
     "i128", "isize",
 ];
 
-/// The integers that can be sent as their bytes.
-pub const FIXED: &[&str] = &["u16", "u32", "u64", "u128", "i16", "i32", "i64", "i128"];
-
-/// What is said of a type that holds itself.
+/// Of a type that holds itself.
 pub const HOLDS_ITSELF: &str =
     "` holds itself: write it by hand, as the crate `example_by_hand` shows of `Chain`";
 
-/// What is said of a word that no type has.
-pub const NO_TYPE: &str =
-    "` can't stand in the type of a field: write the type that is on the wire";
+/// Of a word that no type has.
+pub const NO_TYPE: &str = "write the type that is on the wire";
 
-/// What is said of a path that begins with `::`.
-pub const AT_THE_ROOT: &str =
-    "` stands behind `::`, with which no path begins in Rattle: leave that out";
+const ARRAY_VEC: &str = "write `ArrayVec<T, N>` of `arrayvec`";
 
-/// What is said of a type that follows another.
-pub const BEHIND_A_TYPE: &str = "` leads to a type of its own: write that type itself";
-
-/// What is said of a reference without a lifetime.
-pub const NO_LIFETIME: &str =
-    "` is a reference without a lifetime: write one of the type, as `&'a str`";
-
-/// What is said of a reference that can't be read.
-pub const NOT_LENT: &str =
-    "` can't be read: `&'a str` and `&'a [u8]` alone are lent; write `Vec` for a list, or the type itself";
-
-const VEC: &str = "` can't stand in the type of a field: write `Vec`";
-
-const MAP: &str = "` can't stand in the type of a field: write `BTreeMap`";
-
-const BOX: &str = "` can't stand in the type of a field: write `Box`";
-
-const INNER: &str = "` can't stand in the type of a field: write the type that it holds";
-
-const ARRAY_VEC: &str =
-    "` can't stand in the type of a field: write `ArrayVec<T, N>` of `arrayvec`";
-
-const ARRAY_STRING: &str =
-    "` of `heapless` can't stand in the type of a field: write `ArrayString<N>` of `arrayvec`";
-
-const INTEGER: &str =
-    "` can't stand in the type of a field: write the integer, and check it where it is read";
-
-const TEXT: &str = "` can't stand in the type of a field: write `String`";
-
-const ENDS: &str = "` can't stand in the type of a field: write its two ends, as `(u8, u8)`";
-
-const ON_THE_WIRE: &str =
-    "` can't stand in the type of a field: write the number that is on the wire";
-
-/// Types of the language and of known crates that no message can hold, and what is said of each.
-const NO_MESSAGES: &[(&str, &str)] = &[
-    ("HashMap", MAP),
-    ("IndexMap", MAP),
-    ("FnvIndexMap", MAP),
-    ("LinearMap", MAP),
-    ("HashSet", VEC),
-    ("BTreeSet", VEC),
-    ("IndexSet", VEC),
-    ("VecDeque", VEC),
-    ("BinaryHeap", VEC),
-    ("LinkedList", VEC),
-    ("FnvIndexSet", ARRAY_VEC),
-    ("Deque", ARRAY_VEC),
-    (
-        "ByteBuf",
-        "` can't stand in the type of a field: write `Vec<u8>`",
-    ),
-    ("Rc", BOX),
-    ("Arc", BOX),
-    (
-        "Cow",
-        "` can't stand in the type of a field: write `&'a str`, `String`, or what else it holds",
-    ),
-    ("Cell", INNER),
-    ("RefCell", INNER),
-    ("Mutex", INNER),
-    ("RwLock", INNER),
-    ("Wrapping", INNER),
-    ("Reverse", INNER),
-    (
-        "PhantomData",
-        "` can't stand in the type of a field: leave the field out, which has no bytes",
-    ),
-    (
-        "Duration",
-        "` can't stand in the type of a field: write `(u64, u32)`",
-    ),
-    (
-        "SystemTime",
-        "` can't stand in the type of a field: write `(u64, u32)`",
-    ),
-    ("Instant", ON_THE_WIRE),
-    ("PathBuf", TEXT),
-    ("OsString", TEXT),
-    ("CString", VEC),
-    ("Range", ENDS),
-    ("RangeInclusive", ENDS),
-    (
-        "Ipv4Addr",
-        "` can't stand in the type of a field: write `[u8; 4]`",
-    ),
-    (
-        "Ipv6Addr",
-        "` can't stand in the type of a field: write `[u8; 16]`",
-    ),
+/// Words that are in no type of a message.
+pub const NO_WORDS: Rows = &[
+    (&["f32"], "` is no message: take `LE<u32>` of its bits"),
+    (&["f64"], "` is no message: take `LE<u64>` of its bits"),
+    (&["Self"], HOLDS_ITSELF),
+    (&["!", "?"], NO_TYPE),
 ];
 
-/// Why a type's name can't be in a message, if it can't, unless the name is the crate's own.
-pub fn no_message(word: &str) -> Option<&'static str> {
-    for (name, why) in NO_MESSAGES {
-        if *name == word {
-            return Some(*why);
+/// Types of `heapless`, which has some by names of the language.
+const OF_HEAPLESS: Rows = &[
+    (
+        &["String"],
+        "` of `heapless` can't stand in the type of a field: write `ArrayString<N>` of `arrayvec`",
+    ),
+    (&["Vec", "HistoryBuffer"], ARRAY_VEC),
+];
+
+/// Types of the language and of known crates that no message can hold.
+const NO_MESSAGES: Rows = &[
+    (&["HashMap", "IndexMap"], "write `BTreeMap`"),
+    (&["FnvIndexMap", "LinearMap"], "write `BTreeMap`"),
+    (&["HashSet", "BTreeSet", "IndexSet"], "write `Vec`"),
+    (&["VecDeque", "BinaryHeap"], "write `Vec`"),
+    (&["LinkedList", "CString"], "write `Vec`"),
+    (&["FnvIndexSet", "Deque"], ARRAY_VEC),
+    (&["ByteBuf"], "write `Vec<u8>`"),
+    (&["Rc", "Arc"], "write `Box`"),
+    (&["Cow"], "write `&'a str`, `String`, or what else it holds"),
+    (&["Cell", "RefCell"], "write the type that it holds"),
+    (&["Mutex", "RwLock"], "write the type that it holds"),
+    (&["Wrapping", "Reverse"], "write the type that it holds"),
+    (&["PhantomData"], "leave the field out, which has no bytes"),
+    (&["Duration", "SystemTime"], "write `(u64, u32)`"),
+    (&["Instant"], "write the number that is on the wire"),
+    (&["PathBuf", "OsString"], "write `String`"),
+    (&["Range"], "write its two ends, as `(u8, u8)`"),
+    (&["RangeInclusive"], "write its two ends, as `(u8, u8)`"),
+    (&["Ipv4Addr"], "write `[u8; 4]`"),
+    (&["Ipv6Addr"], "write `[u8; 16]`"),
+];
+
+/// What these rows say of a word; empty if none has it.
+pub fn said_of(rows: Rows, word: &str) -> &'static str {
+    for (words, why) in rows {
+        if is_among(word, words) {
+            return why;
         }
     }
-    if word.starts_with("NonZero") || word.starts_with("Atomic") {
-        return Some(INTEGER);
-    }
-    None
+    ""
 }
 
-/// Why a type of `heapless` can't be in a message.
-pub fn of_heapless(word: &str) -> Option<&'static str> {
-    match word {
-        "String" => Some(ARRAY_STRING),
-        "Vec" | "HistoryBuffer" => Some(ARRAY_VEC),
-        _ => no_message(word),
-    }
-}
-
-/// Why a word can't be in any type of a message, if it can't.
-pub fn no_word(word: &str) -> Option<&'static str> {
-    match word {
-        "f32" => Some("` is no message: take `LE<u32>` of its bits"),
-        "f64" => Some("` is no message: take `LE<u64>` of its bits"),
-        "Self" => Some(HOLDS_ITSELF),
-        _ if is_among(word, &["!", "?"]) => Some(NO_TYPE),
-        _ => None,
+/// Why a type that isn't the crate's own can't be in a message, by where it is from and its name; empty if it can.
+pub fn no_message(from: &str, name: &str) -> &'static str {
+    let of_heapless = said_of(OF_HEAPLESS, name);
+    if from == "heapless" && !of_heapless.is_empty() {
+        of_heapless
+    } else if name.starts_with("NonZero") || name.starts_with("Atomic") {
+        "write the integer, and check it where it is read"
+    } else {
+        said_of(NO_MESSAGES, name)
     }
 }

@@ -1,102 +1,117 @@
-//! What the names of a file stand for, and where the names of a type lead.
-use declaration_parser::tokens::{Token, first_letter, is_among};
-
-/// What precedes a name that is declared.
-const DECLARING: &[&str] = &["struct", "enum", "union", "type", "mod", "trait", "const"];
+//! Where the names of a file come from, and the words of a type with the paths that they are in.
+use declaration_parser::tokens::{Token, first_letter, is_among, is_of_word};
+use std::alloc::{AllocError, Global};
 
 /// What begins a path within the crate.
-const OF_THE_CRATE: &[&str] = &["crate", "self", "super"];
+pub const OF_THE_CRATE: &[&str] = &["crate", "self", "super"];
 
-/// The libraries of the language, all of which are `std` in Rattle.
-const OF_THE_LANGUAGE: &[&str] = &["alloc", "core", "std"];
-
-/// The word at a place; nothing if there is none.
-pub fn word_at(words: &[Token], place: usize) -> &str {
-    match words.get(place) {
-        Some(token) => token.text.as_str(),
-        None => "",
-    }
+/// The names that a file has, each with where it is from: the first word of the `use` that brings it in, or `self` if the file
+/// declares it.
+#[derive(Drop)]
+pub struct Scope<'a> {
+    origins: Vec<(&'a str, &'a str)>,
 }
 
-/// Whether `::` precedes the word at a place.
-pub fn is_led(words: &[Token], place: usize) -> bool {
-    place > 1
-        && word_at(words, place.saturating_sub(1)) == ":"
-        && word_at(words, place.saturating_sub(2)) == ":"
-}
-
-/// Whether `::` follows the word at a place.
-pub fn leads(words: &[Token], place: usize) -> bool {
-    word_at(words, place.saturating_add(1)) == ":" && word_at(words, place.saturating_add(2)) == ":"
-}
-
-/// The first word of the path that the word at a place is in.
-pub fn head_of(words: &[Token], place: usize) -> &str {
-    let mut first = place;
-    for _ in 0..place {
-        if !is_led(words, first) {
-            break;
+impl<'a> Scope<'a> {
+    /// The names that a file of these tokens has.
+    pub fn of(alloc: Global, tokens: &'a [Token]) -> Result<Scope<'a>, AllocError> {
+        let mut origins = Vec::new(alloc);
+        let mut before = "";
+        let mut head = "";
+        for token in tokens {
+            let word = token.text.as_str();
+            if is_among(
+                before,
+                &["struct", "enum", "union", "type", "mod", "trait", "const"],
+            ) {
+                origins.push((word, "self"))?;
+            } else if !head.is_empty() && is_among(word, &[";", ",", "}"]) {
+                origins.push((before, head))?;
+            }
+            match (before, word) {
+                ("use", ":") => continue,
+                ("use", _) => head = word,
+                (_, ";") => head = "",
+                _ => {}
+            }
+            before = word;
         }
-        first = first.saturating_sub(3);
+        Ok(Scope { origins })
     }
-    word_at(words, first)
+
+    /// Where a name is from; empty if the file doesn't have it.
+    pub fn origin(&self, name: &str) -> &'a str {
+        for (known, from) in &self.origins {
+            if *known == name {
+                return from;
+            }
+        }
+        ""
+    }
+}
+
+/// A word of a type or of a bound; the colons of a path are no words.
+#[derive(Clone, Copy, Drop)]
+pub struct Word<'a> {
+    pub text: &'a str,
+    pub line: usize,
+    /// The first word of the path that it is in, perhaps itself; a colon if `::` begins the path.
+    pub head: &'a str,
+    /// Whether `::` precedes it, and whether `::` follows it.
+    pub is_led: bool,
+    pub leads: bool,
+}
+
+/// What follows `::` at the start of these tokens, if they begin so.
+fn behind_colons(tokens: &[Token]) -> Option<&[Token]> {
+    match tokens {
+        [first, second, behind @ ..] if first.text.as_str() == ":" && second.text.as_str() == ":" =>
+            Some(behind),
+        _ => None,
+    }
+}
+
+/// The words that these tokens are.
+pub fn words_of(alloc: Global, tokens: &[Token]) -> Result<Vec<Word<'_>>, AllocError> {
+    let mut words = Vec::new(alloc);
+    let mut rest = behind_colons(tokens).unwrap_or(tokens);
+    let mut is_led = rest.len() < tokens.len();
+    let mut head = ":";
+    for _ in 0..tokens.len() {
+        let [token, behind @ ..] = rest else {
+            break;
+        };
+        let text = token.text.as_str();
+        let further = behind_colons(behind);
+        let leads = further.is_some();
+        if !is_led {
+            head = text;
+        }
+        let line = token.line;
+        words.push(Word {
+            text,
+            line,
+            head,
+            is_led,
+            leads,
+        })?;
+        is_led = leads;
+        rest = further.unwrap_or(behind);
+    }
+    Ok(words)
 }
 
 /// Whether a word begins with a small letter.
 pub fn is_small(word: &str) -> bool {
-    match first_letter(word) {
-        Some(first) => first.is_lowercase(),
-        None => false,
-    }
+    matches!(first_letter(word), Some(first) if first.is_lowercase())
 }
 
 /// Whether a word begins with a capital letter.
 pub fn is_capital(word: &str) -> bool {
-    match first_letter(word) {
-        Some(first) => first.is_uppercase(),
-        None => false,
-    }
+    matches!(first_letter(word), Some(first) if first.is_uppercase())
 }
 
-/// Whether a word is a path's head that is `std`'s in Rattle.
-pub fn is_of_the_language(head: &str) -> bool {
-    is_among(head, OF_THE_LANGUAGE)
-}
-
-/// Whether a path that begins so stays in the crate.
-pub fn is_of_the_crate(head: &str) -> bool {
-    is_among(head, OF_THE_CRATE)
-}
-
-/// Where a file has a name from: the first word of the `use` that brings it in, and `self` where the file declares it.
-pub fn origin<'a>(tokens: &'a [Token], name: &str) -> Option<&'a str> {
-    let mut before = "";
-    let mut head = "";
-    for token in tokens {
-        let word = token.text.as_str();
-        if word == name && is_among(before, DECLARING) {
-            return Some("self");
-        }
-        if before == name && !head.is_empty() && is_among(word, &[";", ",", "}"]) {
-            return Some(head);
-        }
-        if before == "use" && word == ":" {
-            continue;
-        }
-        if before == "use" {
-            head = word;
-        } else if word == ";" {
-            head = "";
-        }
-        before = word;
-    }
-    None
-}
-
-/// Whether a name is the file's own, or one of the crate's.
-pub fn is_own(tokens: &[Token], name: &str) -> bool {
-    match origin(tokens, name) {
-        Some(head) => is_of_the_crate(head),
-        None => false,
-    }
+/// Whether a word begins as a name, a number or a lifetime does.
+pub fn is_wordy(word: &str) -> bool {
+    matches!(first_letter(word), Some(first) if is_of_word(first) || first == '\'')
 }

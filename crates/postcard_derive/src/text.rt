@@ -2,8 +2,8 @@
 use std::alloc::{AllocError, Global};
 use std::fmt::Write;
 
-/// A text that is made. Where memory runs out its other calls go on, and [`finished`](Text::finished) says so at the end:
-/// so those who write it need not ask at each piece.
+/// A text that is made. If memory runs out, its other calls go on, and [`finished`](Text::finished) says so at the end: so
+/// those who write it need not ask at each piece.
 #[derive(Drop)]
 pub struct Text {
     pub alloc: Global,
@@ -21,6 +21,11 @@ impl Text {
         }
     }
 
+    /// Notes whether memory ran out for something that the text needs.
+    pub fn note(&mut self, failed: bool) {
+        self.failed = self.failed || failed;
+    }
+
     /// Appends a piece.
     pub fn put(&mut self, piece: &str) {
         let failed = self.whole.push_str(piece).is_err();
@@ -34,6 +39,18 @@ impl Text {
         }
     }
 
+    /// Appends these with commas between them, and what opens and closes them; nothing if there are none.
+    pub fn put_each(&mut self, open: &str, pieces: &[&str], close: &str) {
+        let mut before = open;
+        for piece in pieces {
+            self.put_all(&[before, piece]);
+            before = ", ";
+        }
+        if !pieces.is_empty() {
+            self.put(close);
+        }
+    }
+
     /// Appends a piece so many times.
     pub fn put_times(&mut self, count: usize, piece: &str) {
         for _ in 0..count {
@@ -41,44 +58,11 @@ impl Text {
         }
     }
 
-    /// Appends a number.
-    pub fn put_number(&mut self, number: usize) {
+    /// Appends a piece and a number.
+    pub fn put_numbered(&mut self, piece: &str, number: usize) {
+        self.put(piece);
         let failed = write!(self.whole, "{number}").is_err();
         self.note(failed);
-    }
-
-    /// Appends a text that was made apart.
-    pub fn put_text(&mut self, other: &Text) {
-        self.put(other.as_str());
-        self.note(other.failed);
-    }
-
-    /// Notes whether memory ran out for something that the text needs.
-    pub fn note(&mut self, failed: bool) {
-        self.failed = self.failed || failed;
-    }
-
-    /// The text so far.
-    pub fn as_str(&self) -> &str {
-        self.whole.as_str()
-    }
-
-    /// Whether nothing was appended.
-    pub fn is_empty(&self) -> bool {
-        self.whole.is_empty()
-    }
-
-    /// How long it is, in bytes.
-    pub fn len(&self) -> usize {
-        self.whole.len()
-    }
-
-    /// How long its last line is so far, in bytes.
-    pub fn column(&self) -> usize {
-        match self.whole.rsplit_once('\n') {
-            Some((_, line)) => line.len(),
-            None => self.len(),
-        }
     }
 
     /// The whole text, if there was memory for it.

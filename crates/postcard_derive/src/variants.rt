@@ -1,0 +1,144 @@
+//! The implementations of an enum, whose shape holds its variants in fours, and then one by one.
+use crate::fields::{HELD, HELD_ALONE, LENT, LENT_ALONE, TAKEN, TYPE};
+use crate::text::Text;
+use declaration_parser::declaration::VariantOf;
+use declaration_parser::tokens::is_among;
+
+/// The constructors of shapes.
+const OF_SHAPES: &[&str] = &["V0", "V1", "V2", "V3", "More", "This", "Other", "Last"];
+
+/// Where ghost text has them from.
+const FROM: &str = "    ghost use Rattle.postcard_tree.specs.declared.variants.";
+
+/// The position of a variant's shape: after so many fours, and after so many single ones. And how what holds it there begins:
+/// as a type, as a pattern, and in ghost text.
+#[derive(Clone, Copy, Drop)]
+struct Place {
+    fours: usize,
+    ones: usize,
+    holder: [&'static str; 3],
+}
+
+/// The place of a variant among so many.
+fn place_of(index: usize, count: usize) -> Place {
+    let fours = count.saturating_sub(1) / 4;
+    let in_fours = fours.saturating_mul(4);
+    let holder = match index % 4 {
+        _ if index.saturating_add(1) == count => ["Last<", "Last::Last(", "Last "],
+        _ if index >= in_fours => ["Variant<", "Variant::This(", "This "],
+        0 => ["Variants4<", "Variants4::V0(", "V0 "],
+        1 => ["", "Variants4::V1(", "V1 "],
+        2 => ["", "Variants4::V2(", "V2 "],
+        _ => ["", "Variants4::V3(", "V3 "],
+    };
+    Place {
+        fours: fours.min(index / 4),
+        ones: index.saturating_sub(in_fours),
+        holder,
+    }
+}
+
+impl Text {
+    /// Appends what ghost text brings in.
+    pub fn put_brought_in(&mut self, name: &str, variants: &[VariantOf], path: &str) {
+        self.put_all(&["    ghost use Rattle.", path, ".", name, ".TheVariants.{"]);
+        let mut before = "";
+        for variant in variants {
+            self.put_all(&[before, variant.name]);
+            if is_among(variant.name, OF_SHAPES) {
+                self.put_all(&[" as The", variant.name]);
+            }
+            before = ", ";
+        }
+        self.put("};\n");
+        if variants.len() > 4 {
+            self.put_all(&[FROM, "Variants4.TheVariants.{V0, V1, V2, V3, More};\n"]);
+        }
+        if variants.len() % 4 != 1 {
+            self.put_all(&[FROM, "Variant.TheVariants.{This, Other};\n"]);
+        }
+        self.put_all(&[FROM, "Last.TheVariants.{Last};\n"]);
+    }
+
+    /// Appends the value of a variant as its shape, in ghost text.
+    fn put_seen(&mut self, variant: &VariantOf, place: Place) {
+        let is_renamed = is_among(variant.name, OF_SHAPES);
+        self.put_all(&["| ", if is_renamed { "The" } else { "" }, variant.name]);
+        let fields = &variant.fields.items;
+        for field in fields {
+            self.put_numbered(" x", field.place);
+        }
+        self.put(" ↦ ");
+        self.put_times(place.fours, "More (");
+        self.put_times(place.ones, "Other (");
+        let [_, _, constructor] = place.holder;
+        self.put(constructor);
+        if fields.is_empty() {
+            self.put("tt");
+        } else {
+            self.put_tuple_or(fields, HELD, HELD_ALONE);
+        }
+        self.put_times(place.fours.saturating_add(place.ones), ")");
+        self.put("\n");
+    }
+
+    /// Appends which value the shape of a variant stands for.
+    fn put_made(&mut self, name: &str, variant: &VariantOf, place: Place) {
+        let [_, constructor, _] = place.holder;
+        self.put_times(place.ones, "Variant::Other(");
+        self.put(constructor);
+        self.put_tuple(&variant.fields.items, TAKEN);
+        self.put_times(place.ones.saturating_add(1), ")");
+        self.put_all(&[" => ", name, "::"]);
+        self.put_value(variant.name, &variant.fields);
+        self.put(",\n");
+    }
+
+    /// Appends how a variant is written.
+    fn put_sent(&mut self, name: &str, index: usize, variant: &VariantOf) {
+        self.put_all(&[name, "::"]);
+        self.put_value(variant.name, &variant.fields);
+        let fields = &variant.fields.items;
+        if fields.is_empty() {
+            self.put_numbered(" => serializer.serialize_unit_variant(", index);
+        } else {
+            self.put_numbered(" => serializer.serialize_newtype_variant(", index);
+            self.put(if fields.len() > 1 { ", &" } else { ", " });
+            self.put_tuple_or(fields, LENT, LENT_ALONE);
+        }
+        self.put("),\n");
+    }
+
+    /// Appends what a word stands for in an enum of these variants.
+    pub fn put_of_enum(&mut self, name: &str, variants: &[VariantOf], word: &str) {
+        let count = variants.len();
+        if word == "sent" {
+            self.put("        match self {\n");
+        }
+        for (index, variant) in variants.iter().enumerate() {
+            let place = place_of(index, count);
+            match word {
+                "types" => {
+                    let [open, _, _] = place.holder;
+                    self.put_all(&[if index > 0 { ", " } else { "" }, open]);
+                    self.put_tuple(&variant.fields.items, TYPE);
+                }
+                "seen" => self.put_seen(variant, place),
+                "made" => {
+                    if index > 0 && index % 4 == 0 {
+                        self.put("Variants4::More(it) => match it {\n");
+                    }
+                    self.put_made(name, variant, place);
+                }
+                _ => self.put_sent(name, index, variant),
+            }
+        }
+        let fours = count.saturating_sub(1) / 4;
+        match word {
+            "types" => self.put_times(count.saturating_sub(fours.saturating_mul(3)), ">"),
+            "made" => self.put_times(fours, "},\n"),
+            "sent" => self.put("        }\n"),
+            _ => {}
+        }
+    }
+}
