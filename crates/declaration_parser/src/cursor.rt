@@ -118,6 +118,13 @@ impl<'a> Cursor<'a> {
         self.faults.note(list.push(item).is_err());
     }
 
+    /// The same, unless something is wrong.
+    pub fn keep<T: Drop>(&mut self, list: &mut Vec<T>, item: T) {
+        if !self.is_wrong {
+            self.push(list, item);
+        }
+    }
+
     /// The tokens that weren't read, also if something is wrong.
     pub fn left(&self) -> &'a [Token] {
         if self.is_wrong {

@@ -10,6 +10,7 @@ pub mod cursor;
 pub mod declaration;
 pub mod faults;
 mod head;
+pub mod items;
 mod marks;
 pub mod parser;
 pub mod reading;
