@@ -44,7 +44,7 @@ pub enum ItemKind {
     Constant,
     Import,
     Crate,
-    /// The rules of a macro, a call, and a call within the words of another item.
+    /// The rules of a macro, a call, and a call within the words of another item or an attribute of the whole file.
     Rules,
     Call,
     Hidden,
@@ -216,10 +216,12 @@ impl<'a> Walk<'a> {
         let is_quiet = words.len() > self.quiet;
         if let Some((inside, rest)) = passed_over(words)
             && (!is_quiet || rest.len() >= self.quiet)
+            && !matches!(front(words), Word::Brace)
         {
             item.kind = match front(words) {
-                _ if is_quiet => ItemKind::Hidden,
                 Word::Rules => ItemKind::Rules,
+                Word::Hash => ItemKind::Hidden,
+                _ if is_quiet => ItemKind::Hidden,
                 _ => ItemKind::Call,
             };
             let (call, _) = words.split_at(words.len().saturating_sub(rest.len()));
@@ -261,6 +263,8 @@ impl<'a> Walk<'a> {
                 self.take(item, ItemKind::Crate, behind_first(rest), &[";"]);
             }
             Word::Brace => self.open(Kind::Body, "", words),
+            // Attributes may follow a `pub` that begins none of these.
+            _ if item.is_public => return words,
             _ => {}
         }
         rest

@@ -4,12 +4,8 @@ ghost use Rattle.declaration_parser.specs.Marked.{is_marking};
 
 use crate::faults::Faults;
 use crate::marks::{is_almost_mark, is_almost_way, is_mark, way_of};
-use crate::words::ALMOST_WAY;
+use crate::words::{ALMOST, ALMOST_WAY};
 use std::alloc::{AllocError, Global};
-
-/// What is said of a mark after code.
-const ALMOST: &str =
-    "` marks nothing: a line of its own does, `// message` or `// message: Serialize`\n";
 
 /// What is said of a mark in what is skipped.
 const INSIDE_COMMENT: &str =
@@ -57,7 +53,7 @@ const WORDS: &[(&str, Word)] = &[
 ];
 
 /// Which of the words that are compared a token is.
-#[derive(Clone, Copy, Debug, PartialEq, Eq, Drop)]
+#[derive(Clone, Copy, Drop)]
 pub enum Word {
     Hash,
     Bang,
@@ -145,7 +141,6 @@ struct Tokens<'a> {
     /// The places of the tokens that opened groups which aren't closed yet.
     open: Vec<usize>,
     faults: Faults<'a>,
-    failed: bool,
 }
 
 /// Returns the tokens of the text of a file. What is wrong is reported with the file's name, unless that is empty.
@@ -268,7 +263,6 @@ impl<'a> Tokens<'a> {
             found: Vec::new(alloc),
             open: Vec::new(alloc),
             faults: Faults::new(alloc),
-            failed: false,
         }
     }
 
@@ -501,19 +495,16 @@ impl<'a> Tokens<'a> {
 
     /// Appends a token.
     fn push(&mut self, text: &str, word: Word, line: usize) {
-        let failed = match String::from_str(self.alloc, text) {
-            Ok(text) => {
-                let token = Token {
-                    text,
-                    word,
-                    line,
-                    span: 0,
-                };
-                self.found.push(token).is_err()
-            }
-            Err(_) => true,
+        let Ok(text) = String::from_str(self.alloc, text) else {
+            return self.faults.note(true);
         };
-        self.failed = self.failed || failed;
+        let token = Token {
+            text,
+            word,
+            line,
+            span: 0,
+        };
+        self.faults.note(self.found.push(token).is_err());
     }
 
     /// Notes where a group begins, with the token that is next, or how many tokens it has.
@@ -521,7 +512,7 @@ impl<'a> Tokens<'a> {
         let place = self.found.len();
         match word {
             Word::Paren | Word::Bracket | Word::Brace => {
-                self.failed = self.open.push(place).is_err() || self.failed;
+                self.faults.note(self.open.push(place).is_err());
             }
             Word::Close => {
                 if let Some(first) = self.open.pop()
@@ -536,9 +527,6 @@ impl<'a> Tokens<'a> {
 
     /// What was read, if there was memory for it.
     fn finished(self, file: String) -> Result<Read, AllocError> {
-        if self.failed {
-            return Err(AllocError);
-        }
         Ok(Read {
             file,
             tokens: self.found,
