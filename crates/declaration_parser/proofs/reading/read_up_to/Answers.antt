@@ -2,8 +2,8 @@ use Rattle.std.proofs.Common.{length, ◌-◌}
 use Rattle.declaration_parser.proofs.StandingLemmas.{gone_behind, gone_nowhere}
 use Rattle.declaration_parser.proofs.reading.read_up_to.Goals as goal
 
-pub returns-then-clause-stands : goal.returns-then-clause-stands
-returns-then-clause-stands c silent = gone_nowhere c.args.found.now.items c.args.tokens.now
+pub returns-then-tokens-item-clause-stands : goal.returns-then-tokens-item-clause-stands
+returns-then-tokens-item-clause-stands c silent = gone_nowhere c.args.found.now.items c.args.tokens.now
 
 pub returns-clause-stands : goal.returns-clause-stands
 returns-clause-stands c silent =
