@@ -71,6 +71,17 @@ gone_to_end before found tokens rest e h =
     let whole : tokens ≡ h.front = h.whole ∙ ap (λ z. h.front ++ z) e ∙ append-nil h.front in
     subst (λ z. Accounts before found z) (sym whole) h.accounts
 
+-- to the end, but for what is skipped there
+pub gone_past : (before found : List Declaration) (tokens rest : List Token) → GoneOver before found tokens rest → NoMark rest → Accounts before found tokens
+gone_past before found tokens rest h k =
+    gone_to_end before found tokens [] refl (gone_on before found found tokens rest [] h (gone_front found found rest rest [] (sym (append-nil rest)) (accounts_skipped found rest k)))
+
+-- what is skipped, and then more
+pub gone_behind : (found more : List Declaration) (tokens skipped rest left : List Token) (n : ℕ) → skipped ≡ take n tokens → rest ≡ drop n tokens → NoMark skipped → GoneOver found more rest left → GoneOver found more tokens left
+gone_behind found more tokens skipped rest left n s e k h =
+    let whole : tokens ≡ skipped ++ rest = sym (take-append-drop n tokens) ∙ ap (λ z. z ++ drop n tokens) (sym s) ∙ ap (λ z. skipped ++ z) (sym e) in
+    gone_on found found more tokens rest left (gone_front found found tokens skipped rest whole (accounts_skipped found skipped k)) h
+
 -- what was gone over is all that there is
 pub all_declared : (found : List Declaration) (tokens : List Token) → AreGoneOver found tokens → AreDeclaredIn found tokens
 all_declared found tokens gone =

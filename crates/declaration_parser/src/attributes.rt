@@ -1,12 +1,8 @@
-//! Attributes, as slices of tokens.
-use crate::declaration::Marks;
-use crate::tokens::{Token, is_among, is_comment_mark, opens};
+//! Groups, parts and attributes, as slices of tokens.
+use crate::tokens::{Token, Word, first_letter, is_among, is_comment_mark};
 
 /// Names that mark if they are in a derive, or before a name there; and `self`, which a `use` may have for one.
 const RENAMED: &[&str] = &["Deserialize", "Serialize", "self", "serde", "serde_derive"];
-
-/// Crates that have derives of their own called as serde's are.
-const NOT_OF_SERDE: &[&str] = &["miniserde", "rkyv"];
 
 /// The text of the first of these tokens; nothing if there is none.
 pub fn first_word(tokens: &[Token]) -> &str {
@@ -24,22 +20,45 @@ pub fn last_word(tokens: &[Token]) -> &str {
     }
 }
 
-/// The content of the group that the first token opens, and what follows it; nothing if it opens none that is closed.
-pub fn group(tokens: &[Token]) -> Option<(&[Token], &[Token])> {
+/// Which word the first is.
+pub fn front(tokens: &[Token]) -> Word {
     match tokens {
-        [open, rest @ ..] if open.span > 1 => {
-            let length = (open.span - 2).min(rest.len());
-            let (inside, close) = rest.split_at(length);
-            match close {
-                [_, behind @ ..] => Some((inside, behind)),
-                _ => Some((inside, &[])),
-            }
-        }
+        [token, ..] => token.word,
+        _ => Word::Other,
+    }
+}
+
+/// The line of the first; 0 if there is none.
+pub fn line_at(tokens: &[Token]) -> usize {
+    match tokens {
+        [token, ..] => token.line,
+        _ => 0,
+    }
+}
+
+/// A name without what makes it one.
+pub fn plain_name(word: &str) -> &str {
+    word.strip_prefix("r#").unwrap_or(word)
+}
+
+/// The name that the first is, if it is one.
+pub fn name_at(tokens: &[Token]) -> Option<&str> {
+    let word = plain_name(first_word(tokens));
+    match first_letter(word) {
+        Some(first) if first.is_alphabetic() || first == '_' => Some(word),
         _ => None,
     }
 }
 
-/// What follows the first token, or the group that it opens.
+/// What follows the first alone.
+pub fn behind_first(tokens: &[Token]) -> &[Token] {
+    match tokens {
+        [_, rest @ ..] => rest,
+        _ => &[],
+    }
+}
+
+/// What follows the first, or the group that it opens.
 pub fn behind(tokens: &[Token]) -> &[Token] {
     match tokens {
         [first, ..] => {
@@ -50,46 +69,45 @@ pub fn behind(tokens: &[Token]) -> &[Token] {
     }
 }
 
-/// What is between the brackets of the attribute at the start, which is of what follows it.
-pub fn attribute(tokens: &[Token]) -> Option<(&[Token], &[Token])> {
+/// The content of the group that the first token opens, and what follows it; nothing if it opens none that is closed.
+pub fn group(tokens: &[Token]) -> Option<(&[Token], &[Token])> {
     match tokens {
-        [hash, rest @ ..] if hash.text.as_str() == "#" && first_word(rest) == "[" => group(rest),
+        [open, rest @ ..] if open.span > 1 => {
+            let (inside, close) = rest.split_at((open.span - 2).min(rest.len()));
+            Some((inside, behind_first(close)))
+        }
         _ => None,
-    }
-}
-
-/// What a call of a macro, or an attribute of all that a file has, holds at the start, and what follows it. The words before
-/// what it holds have no brackets.
-pub fn passed_over(tokens: &[Token]) -> Option<(&[Token], &[Token])> {
-    let rest = match tokens {
-        [_, mark, rest @ ..] if mark.text.as_str() == "!" => rest,
-        _ => return None,
-    };
-    match rest {
-        [name, inside @ ..] if !opens(name.text.as_str()) => group(inside),
-        _ => group(rest),
-    }
-}
-
-/// The content of the parentheses after the first word.
-pub fn held(words: &[Token]) -> &[Token] {
-    match words {
-        [_, rest @ ..] if first_word(rest) == "(" => match group(rest) {
-            Some((inside, _)) => inside,
-            None => &[],
-        },
-        _ => &[],
     }
 }
 
 /// What precedes the first of these words that nothing encloses, and what begins with it.
 pub fn up_to<'a>(tokens: &'a [Token], ends: &[&str]) -> (&'a [Token], &'a [Token]) {
+    parted(tokens, ends, false)
+}
+
+/// The same of types: `<` and `>` enclose too, but for the `>` of an arrow.
+pub fn type_up_to<'a>(tokens: &'a [Token], ends: &[&str]) -> (&'a [Token], &'a [Token]) {
+    parted(tokens, ends, true)
+}
+
+/// As [`up_to`], or of types.
+fn parted<'a>(tokens: &'a [Token], ends: &[&str], is_type: bool) -> (&'a [Token], &'a [Token]) {
     let mut rest = tokens;
+    let mut depth: usize = 0;
     for _ in 0..tokens.len() {
-        if rest.is_empty() || is_among(first_word(rest), ends) {
+        if rest.is_empty() || (depth == 0 && is_among(first_word(rest), ends)) {
             break;
         }
-        rest = behind(rest);
+        let word = if is_type { front(rest) } else { Word::Other };
+        depth = match word {
+            Word::Less => depth.saturating_add(1),
+            Word::Greater => depth.saturating_sub(1),
+            _ => depth,
+        };
+        rest = match word {
+            Word::Dash => behind(behind_first(rest)),
+            _ => behind(rest),
+        };
     }
     tokens.split_at(tokens.len().saturating_sub(rest.len()))
 }
@@ -97,9 +115,46 @@ pub fn up_to<'a>(tokens: &'a [Token], ends: &[&str]) -> (&'a [Token], &'a [Token
 /// What precedes the first comma that nothing encloses, and what follows it.
 pub fn first_part(tokens: &[Token]) -> (&[Token], &[Token]) {
     let (part, rest) = up_to(tokens, &[","]);
-    match rest {
-        [_, behind @ ..] => (part, behind),
-        _ => (part, &[]),
+    (part, behind_first(rest))
+}
+
+/// What is between the brackets of the attribute at the start, which is of what follows it.
+pub fn attribute(tokens: &[Token]) -> Option<(&[Token], &[Token])> {
+    match tokens {
+        [hash, rest @ ..] if matches!((hash.word, front(rest)), (Word::Hash, Word::Bracket)) =>
+            group(rest),
+        _ => None,
+    }
+}
+
+/// What follows an attribute, or a comment, at the start; a mark counts if it is wanted.
+pub fn behind_attribute(tokens: &[Token], with_marks: bool) -> Option<&[Token]> {
+    match (attribute(tokens), front(tokens)) {
+        (Some((_, behind)), _) => Some(behind),
+        (None, Word::Comment) => Some(behind_first(tokens)),
+        (None, Word::Mark) if with_marks => Some(behind_first(tokens)),
+        _ => None,
+    }
+}
+
+/// What a call of a macro, or an attribute of all that a file has, holds at the start, and what follows it. The words before
+/// what it holds have no brackets.
+pub fn passed_over(tokens: &[Token]) -> Option<(&[Token], &[Token])> {
+    match tokens {
+        [_, mark, rest @ ..] if matches!(mark.word, Word::Bang) => match front(rest) {
+            Word::Paren | Word::Bracket | Word::Brace => group(rest),
+            _ => group(behind_first(rest)),
+        },
+        _ => None,
+    }
+}
+
+/// The content of the parentheses after the first word.
+pub fn held(words: &[Token]) -> &[Token] {
+    let rest = behind_first(words);
+    match (front(rest), group(rest)) {
+        (Word::Paren, Some((inside, _))) => inside,
+        _ => &[],
     }
 }
 
@@ -126,28 +181,18 @@ pub fn has_mark(words: &[Token]) -> bool {
     false
 }
 
-/// Whether one of these words is a derive that marks a declaration.
-pub fn has_derive(words: &[Token]) -> bool {
-    let mut is_derive = false;
-    for token in words {
-        let word = token.text.as_str();
-        if is_derive && matches!(word, "Serialize" | "Deserialize") {
-            return true;
-        }
-        is_derive = word == "derive" || (is_derive && word != ")" && word != "]");
-    }
-    false
-}
-
 /// Whether a derive among these words has this name.
 pub fn is_derived(words: &[Token], name: &str) -> bool {
     let mut is_derive = false;
     for token in words {
-        let word = token.text.as_str();
-        if is_derive && word == name {
+        if is_derive && token.text.as_str() == name {
             return true;
         }
-        is_derive = word == "derive" || (is_derive && word != ")" && word != "]");
+        is_derive = match token.word {
+            Word::Derive => true,
+            Word::Close => false,
+            _ => is_derive,
+        };
     }
     false
 }
@@ -156,69 +201,14 @@ pub fn is_derived(words: &[Token], name: &str) -> bool {
 pub fn renamed_derive(tokens: &[Token]) -> Option<&Token> {
     let mut rest = tokens;
     for _ in 0..tokens.len() {
-        let [own, behind @ ..] = rest else {
-            break;
-        };
-        if let [by, name, ..] = behind
-            && by.text.as_str() == "as"
+        if let [own, by, name, ..] = rest
+            && matches!(by.word, Word::As)
             && is_among(own.text.as_str(), RENAMED)
             && is_derived(tokens, name.text.as_str())
         {
             return Some(name);
         }
-        rest = behind;
+        rest = behind_first(rest);
     }
     None
-}
-
-/// Whether a derive's name is one of serde's, by what precedes it: nothing, or any path that isn't another crate's, since
-/// serde's derives are passed on by others too.
-fn is_of_serde(path: &[Token]) -> bool {
-    match path {
-        [_] => true,
-        [.., krate, _, _, _] => !is_among(krate.text.as_str(), NOT_OF_SERDE),
-        _ => false,
-    }
-}
-
-/// Adds what the derives of these names mark, and says whether one does.
-pub fn add_derived(names: &[Token], marks: &mut Marks) -> bool {
-    let mut derives = false;
-    let mut rest = names;
-    for _ in 0..names.len() {
-        let (part, behind) = first_part(rest);
-        let name = last_word(part);
-        let is_known = is_of_serde(part);
-        let writes = is_known && matches!(name, "Serialize" | "Serialize_repr");
-        let reads = is_known && matches!(name, "Deserialize" | "Deserialize_repr");
-        marks.written = marks.written || writes;
-        marks.read = marks.read || reads;
-        derives = derives || writes || reads;
-        rest = behind;
-    }
-    derives
-}
-
-/// Adds what an attribute marks, by its words; and says under which condition it does, if it does under one.
-pub fn add_marks<'a>(words: &'a [Token], marks: &mut Marks) -> Option<&'a [Token]> {
-    match first_word(words) {
-        "derive" => {
-            add_derived(held(words), marks);
-            None
-        }
-        "cfg_attr" => {
-            let (condition, attributes) = first_part(held(words));
-            let mut derives = false;
-            let mut rest = attributes;
-            for _ in 0..attributes.len() {
-                let (part, behind) = first_part(rest);
-                if first_word(part) == "derive" {
-                    derives = add_derived(held(part), marks) || derives;
-                }
-                rest = behind;
-            }
-            if derives { Some(condition) } else { None }
-        }
-        _ => None,
-    }
 }

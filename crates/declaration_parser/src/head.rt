@@ -1,10 +1,19 @@
 //! What precedes a declaration: attributes, and comments that mark.
-ghost use Rattle.std.specs.Prelude.{◌≡◌, ◌<◌, ◌++◌, length, IsTrue};
+ghost use Rattle.std.specs.Prelude.{◌≡◌, ◌++◌};
 
-use crate::attributes::{add_marks, attribute};
+use crate::attributes::{attribute, first_part, first_word, front, held, last_word};
 use crate::declaration::Marks;
-use crate::tokens::{Token, is_comment_mark};
+use crate::tokens::{Token, Word, is_among};
 use crate::words::{HAS_BY_ITSELF, NO_MARK};
+
+/// Crates that have derives of their own called as serde's are.
+const NOT_OF_SERDE: &[&str] = &["miniserde", "rkyv"];
+
+/// Nothing is marked.
+const UNMARKED: Marks = Marks {
+    written: false,
+    read: false,
+};
 
 /// What is wrong with a comment that marks.
 #[derive(Clone, Copy, Drop)]
@@ -21,14 +30,13 @@ pub struct Marking<'a> {
     pub marks: Marks,
     /// The condition of the derive that marks; empty if there is none.
     pub condition: &'a [Token],
-    /// Whether derives mark, and whether they alone do.
-    has_derive: bool,
+    /// Whether derives alone mark.
     pub is_derived: bool,
-    /// The first thing that is wrong.
+    /// The first thing that is wrong with comments. Beside a derive that marks a comment may be a headline.
     pub wrong: Option<Mismark<'a>>,
 }
 
-/// Comments and attributes at the start of tokens, what they mark, and the tokens after them.
+/// Comments and attributes, what they mark, and the tokens after them.
 #[derive(Clone, Copy, Drop)]
 pub struct Head<'a> {
     pub attributes: &'a [Token],
@@ -36,36 +44,68 @@ pub struct Head<'a> {
     pub marking: Marking<'a>,
 }
 
-impl<'a> Marking<'a> {
-    /// Nothing is marked.
-    fn new() -> Marking<'a> {
-        Marking {
-            marks: Marks {
-                written: false,
-                read: false,
-            },
-            condition: &[],
-            has_derive: false,
-            is_derived: true,
-            wrong: None,
-        }
+impl Marks {
+    /// Whether something is marked.
+    fn are_some(self) -> bool {
+        self.written || self.read
     }
 
-    /// Adds what an attribute marks, by its words. Beside a derive that marks a comment may be a headline.
-    fn add_attribute(&mut self, words: &'a [Token]) {
-        let mut derived = Marks {
-            written: false,
-            read: false,
-        };
-        if let Some(condition) = add_marks(words, &mut derived) {
-            self.condition = condition;
+    /// What is marked here or there.
+    fn and(self, others: Marks) -> Marks {
+        Marks {
+            written: self.written || others.written,
+            read: self.read || others.read,
         }
-        self.marks.written = self.marks.written || derived.written;
-        self.marks.read = self.marks.read || derived.read;
-        self.has_derive = self.has_derive || derived.written || derived.read;
-        if self.has_derive {
-            self.wrong = None;
+    }
+}
+
+/// What a derive of this name marks, by what precedes it: nothing, or any path that isn't another crate's, since serde's derives
+/// are passed on by others too.
+fn marks_of_derive(path: &[Token]) -> Marks {
+    let is_of_serde = match path {
+        [_] => true,
+        [.., krate, _, _, _] => !is_among(krate.text.as_str(), NOT_OF_SERDE),
+        _ => false,
+    };
+    let name = last_word(path);
+    Marks {
+        written: is_of_serde && matches!(name, "Serialize" | "Serialize_repr"),
+        read: is_of_serde && matches!(name, "Deserialize" | "Deserialize_repr"),
+    }
+}
+
+/// What an attribute marks, if it is a derive.
+fn derived_by(words: &[Token]) -> Marks {
+    let mut marks = UNMARKED;
+    if !matches!(front(words), Word::Derive) {
+        return marks;
+    }
+    let mut rest = held(words);
+    for _ in 0..words.len() {
+        let (path, behind) = first_part(rest);
+        marks = marks.and(marks_of_derive(path));
+        rest = behind;
+    }
+    marks
+}
+
+impl<'a> Marking<'a> {
+    /// Adds what an attribute marks, by its words, and says whether it marks.
+    fn add_attribute(&mut self, words: &'a [Token]) -> bool {
+        let mut derived = derived_by(words);
+        if first_word(words) == "cfg_attr" {
+            let (condition, mut rest) = first_part(held(words));
+            for _ in 0..words.len() {
+                let (part, behind) = first_part(rest);
+                derived = derived.and(derived_by(part));
+                rest = behind;
+            }
+            if derived.are_some() {
+                self.condition = condition;
+            }
         }
+        self.marks = self.marks.and(derived);
+        derived.are_some()
     }
 
     /// Adds what a comment `// message` marks.
@@ -97,49 +137,52 @@ impl<'a> Marking<'a> {
             "MaxSize" | "MaxWritten" | "Exact" => HAS_BY_ITSELF,
             _ => NO_MARK,
         };
-        if self.wrong.is_none() && !self.has_derive {
+        if self.wrong.is_none() {
             self.wrong = Some(Mismark { line, word, why });
         }
     }
-}
 
-impl Head<'_> {
+    /// What attributes and comments mark.
+    fn of(attributes: &'a [Token]) -> Marking<'a> {
+        let mut marking = Marking {
+            marks: UNMARKED,
+            condition: &[],
+            is_derived: true,
+            wrong: None,
+        };
+        let mut has_derive = false;
+        let mut rest = attributes;
+        for _ in 0..attributes.len() {
+            if let Some((words, behind)) = attribute(rest) {
+                has_derive = marking.add_attribute(words) || has_derive;
+                rest = behind;
+            } else if let [token, behind @ ..] = rest {
+                if matches!(token.word, Word::Mark) {
+                    marking.add_comment(token);
+                }
+                rest = behind;
+            }
+        }
+        if has_derive {
+            marking.wrong = None;
+        }
+        marking
+    }
+
     /// Whether a declaration is marked, or was meant to be.
-    pub fn is_marked(&self) -> bool
-        ensures { IsTrue result → 0 < length self.now.attributes.now }
-    {
-        let marks = self.marking.marks;
-        let is_meant = marks.written || marks.read || self.marking.wrong.is_some();
-        !self.attributes.is_empty() && is_meant
+    pub fn is_meant(&self) -> bool {
+        self.marks.are_some() || self.wrong.is_some()
     }
 }
 
-/// Takes comments and attributes up to something else, and adds up what they mark.
-pub fn head_of<'a>(tokens: &'a [Token]) -> Head<'a>
+/// Takes so many attributes and comments, and adds up what they mark.
+pub fn head_of<'a>(tokens: &'a [Token], length: usize) -> Head<'a>
     ensures { result.attributes.now ++ result.behind.now ≡ tokens.now }
 {
-    let mut marking = Marking::new();
-    let mut rest = tokens;
-    for _ in 0..tokens.len() {
-        let [token, behind @ ..] = rest else {
-            break;
-        };
-        if let Some((words, after)) = attribute(rest) {
-            marking.add_attribute(words);
-            rest = after;
-        } else if is_comment_mark(token.text.as_str()) {
-            marking.add_comment(token);
-            rest = behind;
-        } else if token.text.as_str().starts_with("//") {
-            rest = behind;
-        } else {
-            break;
-        }
-    }
-    let (attributes, behind) = tokens.split_at(tokens.len().saturating_sub(rest.len()));
+    let (attributes, behind) = tokens.split_at(length.min(tokens.len()));
     Head {
         attributes,
         behind,
-        marking,
+        marking: Marking::of(attributes),
     }
 }

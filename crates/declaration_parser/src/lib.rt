@@ -6,9 +6,11 @@
 #![tactic(auto)]
 
 pub mod attributes;
+pub mod cursor;
 pub mod declaration;
 pub mod faults;
 mod head;
+pub mod items;
 mod marks;
 pub mod parser;
 pub mod reading;

@@ -4,40 +4,37 @@ ghost use Rattle.declaration_parser.specs.Marked.{NoMark};
 ghost use Rattle.declaration_parser.specs.Silent.{SaysNothing};
 ghost use Rattle.declaration_parser.specs.Standing.{Accounts, AreDeclaredIn, GoneOver, tokens_in};
 
-use crate::attributes::{behind, first_word, has_derive, passed_over, renamed_derive};
+use crate::attributes::{first_word, front, has_mark, is_derived, line_at, renamed_derive};
 use crate::declaration::Declaration;
 use crate::faults::Faults;
 use crate::head::{Head, head_of};
+use crate::items::{Item, ItemKind, Walk, behind_public};
 use crate::parser::by_hand::ByHand;
 use crate::parser::{Parser, Purpose};
-use crate::tokens::{Read, Token, is_among, is_comment_mark};
+use crate::tokens::{Read, Token, Word, is_comment_mark};
 use crate::words::{ALMOST, IN_MACRO, IN_WORDS, NO_MESSAGES_MARKED, RENAMES};
 use std::alloc::{AllocError, Global};
 
-/// Whether a struct or an enum is at the start of these tokens.
-fn begins_declaration(tokens: &[Token]) -> bool {
-    let rest = match tokens {
-        [public, rest @ ..] if public.text.as_str() == "pub" => match first_word(rest) {
-            "(" => behind(rest),
-            _ => rest,
-        },
-        _ => tokens,
-    };
-    is_among(first_word(rest), &["struct", "enum"])
+/// What the declarations of a file are read with.
+#[derive(Clone, Copy, Drop)]
+struct Job<'a, 'b> {
+    alloc: Global,
+    purpose: Purpose,
+    file: &'a Read,
+    by_hand: &'b ByHand<'a>,
 }
 
 /// Refuses comments that are almost marks, before a declaration that isn't marked.
 fn refuse_almost(head: &Head<'_>, faults: &mut Faults<'_>)
     ensures { SaysNothing faults.new → SaysNothing faults.old }
 {
-    if !begins_declaration(head.behind) {
+    if !matches!(front(behind_public(head.behind)), Word::Struct | Word::Enum) {
         return;
     }
     for token in head.attributes {
-        let word = token.text.as_str();
-        if word.starts_with("//") && !is_comment_mark(word) {
+        if matches!(token.word, Word::Comment) {
             faults.put_line_number(token.line);
-            faults.put_all(&["`", word, ALMOST]);
+            faults.put_all(&["`", token.text.as_str(), ALMOST]);
         }
     }
 }
@@ -65,57 +62,43 @@ fn refuse_mark(tokens: &[Token], why: &str, faults: &mut Faults<'_>)
     }
 }
 
-/// Whether what a call of a macro holds is marked; of one that is defined only by comments.
-fn is_marked_inside(name: &str, inside: &[Token]) -> bool {
-    first_mark(inside).is_some() || (name != "macro_rules" && has_derive(inside))
+/// Whether an item is the call of a macro that holds something marked; of rules only by comments.
+fn is_marked_call(item: &Item<'_>) -> bool {
+    let is_derived = match item.kind {
+        ItemKind::Call | ItemKind::Hidden => is_derived(item.inside, "Serialize")
+            || is_derived(item.inside, "Deserialize"),
+        _ => false,
+    };
+    is_derived || has_mark(item.inside)
 }
 
 /// Refuses a call of a macro that holds something marked, and says whether it did.
-fn refuses_call(tokens: &[Token], faults: &mut Faults<'_>) -> bool
+fn refuses_call(item: &Item<'_>, faults: &mut Faults<'_>) -> bool
     ensures silent { SaysNothing faults.new → SaysNothing faults.old }
     ensures said { SaysNothing faults.new → ¬ IsTrue result }
 {
-    if let (Some((inside, _)), [name, ..]) = (passed_over(tokens), tokens) {
-        let word = name.text.as_str();
-        if is_marked_inside(word, inside) {
-            faults.put_line_number(name.line);
-            faults.put_all(&["`", word, IN_MACRO]);
-            return true;
-        }
+    if !is_marked_call(item) {
+        return false;
     }
-    false
+    faults.put_line_number(line_at(item.words));
+    faults.put_all(&["`", first_word(item.words), IN_MACRO]);
+    true
 }
 
-/// How many tokens are skipped if nothing is marked: one, or a call of a macro with all that it holds.
-fn passed_length(tokens: &[Token]) -> usize
-    ensures within { result ≤ length tokens.now }
-    ensures some { 0 < length tokens.now → 0 < result }
-{
-    match passed_over(tokens) {
-        Some((_, behind)) => tokens
-            .len()
-            .saturating_sub(behind.len())
-            .max(1)
-            .min(tokens.len()),
-        None => tokens.len().min(1),
-    }
-}
-
-/// Skips what isn't marked, and returns how many tokens after its attributes are.
-fn pass_over(purpose: Purpose, head: &Head<'_>, faults: &mut Faults<'_>) -> usize
+/// Skips what isn't marked, and returns how many tokens after its attributes: those of a call.
+fn pass_over(purpose: Purpose, head: &Head<'_>, item: &Item<'_>, faults: &mut Faults<'_>) -> usize
     ensures silent { SaysNothing faults.new → SaysNothing faults.old }
     ensures within { result ≤ length head.now.behind.now }
-    ensures some { 0 < length head.now.behind.now → 0 < result }
     ensures no_mark { SaysNothing faults.new
         → NoMark (head.now.attributes.now ++ take result head.now.behind.now) }
 {
-    let length = passed_length(head.behind);
+    let length = item.passed().min(head.behind.len());
     let (passed, _) = head.behind.split_at(length);
     if purpose == Purpose::Implementations {
         refuse_almost(head, faults);
     }
     refuse_mark(head.attributes, ALMOST, faults);
-    if !refuses_call(head.behind, faults) {
+    if !refuses_call(item, faults) {
         refuse_mark(passed, ALMOST, faults);
     }
     length
@@ -148,10 +131,7 @@ fn keep<'a>(
 /// Reads what is marked, and returns how many tokens after its attributes it takes. What is wrong is kept with it, and hides
 /// the tokens after it that were not read.
 fn add_declaration<'a>(
-    alloc: Global,
-    purpose: Purpose,
-    file: &'a Read,
-    by_hand: &ByHand<'a>,
+    job: Job<'a, '_>,
     head: &Head<'a>,
     found: &mut Vec<Declaration<'a>>,
     faults: &mut Faults<'a>,
@@ -161,8 +141,8 @@ fn add_declaration<'a>(
     ensures stands { SaysNothing faults.new → Accounts found.old.items found.new.items
         (head.now.attributes.now ++ take result head.now.behind.now) }
 {
-    let mut parser = Parser::new(alloc, purpose, file, head);
-    let declaration = parser.declaration(head.attributes, by_hand);
+    let mut parser = Parser::new(job.alloc, job.purpose, job.file, head);
+    let declaration = parser.declaration(head.attributes, job.by_hand);
     let (left, wrong) = parser.finished();
     let length = head.behind.len().saturating_sub(left.len());
     let (words, _) = head.behind.split_at(length);
@@ -171,30 +151,47 @@ fn add_declaration<'a>(
     length
 }
 
-/// Reads what is at the start of tokens: a declaration, or what is skipped. Returns the tokens after it.
+/// Reads an item at the start of tokens: a declaration, or what is skipped. Returns the tokens after it.
 fn read_front<'a>(
-    alloc: Global,
-    purpose: Purpose,
-    file: &'a Read,
-    by_hand: &ByHand<'a>,
+    job: Job<'a, '_>,
+    item: &Item<'a>,
     tokens: &'a [Token],
     found: &mut Vec<Declaration<'a>>,
     faults: &mut Faults<'a>,
 ) -> &'a [Token]
     ensures silent { SaysNothing faults.new → SaysNothing faults.old }
-    ensures fewer { 0 < length tokens.now → length result.now < length tokens.now }
     ensures stands { SaysNothing faults.new
         → GoneOver found.old.items found.new.items tokens.now result.now }
 {
-    let head = head_of(tokens);
-    if head.is_marked() {
-        let taken = add_declaration(alloc, purpose, file, by_hand, &head, found, faults);
+    let head = head_of(tokens, item.attributes.len());
+    if head.marking.is_meant() {
+        let taken = add_declaration(job, &head, found, faults);
         let (_, rest) = head.behind.split_at(taken);
         return rest;
     }
-    let passed = pass_over(purpose, &head, faults);
+    let passed = pass_over(job.purpose, &head, item, faults);
     let (_, rest) = head.behind.split_at(passed);
     rest
+}
+
+/// Reads an item of which so many tokens are left, and what precedes it. What a declaration has taken isn't read anew.
+fn read_up_to<'a>(
+    job: Job<'a, '_>,
+    item: &Item<'a>,
+    tokens: &'a [Token],
+    found: &mut Vec<Declaration<'a>>,
+    faults: &mut Faults<'a>,
+) -> &'a [Token]
+    ensures silent { SaysNothing faults.new → SaysNothing faults.old }
+    ensures stands { SaysNothing faults.new
+        → GoneOver found.old.items found.new.items tokens.now result.now }
+{
+    if tokens.len() < item.left {
+        return tokens;
+    }
+    let (skipped, rest) = tokens.split_at(tokens.len() - item.left);
+    refuse_mark(skipped, ALMOST, faults);
+    read_front(job, item, rest, found, faults)
 }
 
 /// Refuses another name of a derive of serde's, by which a type would be marked that isn't found.
@@ -223,10 +220,21 @@ fn add_declarations<'a>(
     faults.put(file.faults.as_str());
     faults.turn_to(file.file.as_str());
     refuse_renamed(&file.tokens, faults);
+    let mut walk = Walk::new(alloc);
+    walk.add_file("");
+    walk.read_file(0, &file.tokens);
+    faults.note(walk.failed);
+    let job = Job {
+        alloc,
+        purpose,
+        file,
+        by_hand,
+    };
     let mut rest: &'a [Token] = &file.tokens;
-    while !rest.is_empty() {
-        rest = read_front(alloc, purpose, file, by_hand, rest, found, faults);
+    for item in &walk.items {
+        rest = read_up_to(job, item, rest, found, faults);
     }
+    refuse_mark(rest, ALMOST, faults);
 }
 
 /// The types of all files that implement one of serde's traits by hand.

@@ -4,12 +4,8 @@ ghost use Rattle.declaration_parser.specs.Marked.{is_marking};
 
 use crate::faults::Faults;
 use crate::marks::{is_almost_mark, is_almost_way, is_mark, way_of};
-use crate::words::ALMOST_WAY;
+use crate::words::{ALMOST, ALMOST_WAY};
 use std::alloc::{AllocError, Global};
-
-/// What is said of a mark after code.
-const ALMOST: &str =
-    "` marks nothing: a line of its own does, `// message` or `// message: Serialize`\n";
 
 /// What is said of a mark in what is skipped.
 const INSIDE_COMMENT: &str =
@@ -18,8 +14,85 @@ const INSIDE_COMMENT: &str =
 /// The same in a text.
 const INSIDE_TEXT: &str = "` stands in a text, where it marks nothing: write it otherwise\n";
 
-/// What follows a comment that is almost a mark, for it to be reported.
-const BEFORE: &[&str] = &["#", "pub", "struct", "enum"];
+/// The words that are compared, and which they are.
+const WORDS: &[(&str, Word)] = &[
+    ("#", Word::Hash),
+    ("!", Word::Bang),
+    ("$", Word::Dollar),
+    ("*", Word::Star),
+    (",", Word::Comma),
+    (":", Word::Colon),
+    (";", Word::End),
+    ("-", Word::Dash),
+    ("<", Word::Less),
+    (">", Word::Greater),
+    ("(", Word::Paren),
+    ("[", Word::Bracket),
+    ("{", Word::Brace),
+    (")", Word::Close),
+    ("]", Word::Close),
+    ("}", Word::Close),
+    ("as", Word::As),
+    ("const", Word::Constant),
+    ("derive", Word::Derive),
+    ("enum", Word::Enum),
+    ("extern", Word::Extern),
+    ("fn", Word::Function),
+    ("for", Word::For),
+    ("impl", Word::Impl),
+    ("macro_rules", Word::Rules),
+    ("mod", Word::Module),
+    ("pub", Word::Public),
+    ("struct", Word::Struct),
+    ("trait", Word::Impl),
+    ("type", Word::Alias),
+    ("union", Word::Union),
+    ("use", Word::Import),
+    ("Deserialize", Word::Deserialize),
+    ("Serialize", Word::Serialize),
+];
+
+/// Which of the words that are compared a token is.
+#[derive(Clone, Copy, Drop)]
+pub enum Word {
+    Hash,
+    Bang,
+    Dollar,
+    Star,
+    Comma,
+    Colon,
+    End,
+    Dash,
+    Less,
+    Greater,
+    Paren,
+    Bracket,
+    Brace,
+    /// What closes one of these.
+    Close,
+    As,
+    Constant,
+    Derive,
+    Enum,
+    Extern,
+    Function,
+    For,
+    /// `impl` and `trait`.
+    Impl,
+    Rules,
+    Module,
+    Public,
+    Struct,
+    Alias,
+    Union,
+    Import,
+    Deserialize,
+    Serialize,
+    /// A comment that marks a declaration, and one that is almost that.
+    Mark,
+    Comment,
+    Other,
+}
 
 /// A word, a lifetime, a number, a text, a character or a mark, and the line where it begins. A comment `// message` is one
 /// token, and so is one that is almost that, if a declaration may follow it. One that says how a field is sent is the tokens of
@@ -27,6 +100,7 @@ const BEFORE: &[&str] = &["#", "pub", "struct", "enum"];
 #[derive(Drop)]
 pub struct Token {
     pub text: String,
+    pub word: Word,
     pub line: usize,
     /// How many tokens the group has that it opens, with its two marks; 0 if it opens none, or one that isn't closed.
     pub span: usize,
@@ -67,7 +141,6 @@ struct Tokens<'a> {
     /// The places of the tokens that opened groups which aren't closed yet.
     open: Vec<usize>,
     faults: Faults<'a>,
-    failed: bool,
 }
 
 /// Returns the tokens of the text of a file. What is wrong is reported with the file's name, unless that is empty.
@@ -103,6 +176,22 @@ pub fn is_comment_mark(token: &str) -> bool
     ensures { result ≡ is_marking token.now }
 {
     is_mark(token)
+}
+
+/// Which of the words that are compared a token is, by its text.
+fn word_of(text: &str) -> Word {
+    for (known, word) in WORDS {
+        if *known == text {
+            return *word;
+        }
+    }
+    if is_mark(text) {
+        Word::Mark
+    } else if text.starts_with("//") {
+        Word::Comment
+    } else {
+        Word::Other
+    }
 }
 
 /// Whether a word is one of these.
@@ -174,7 +263,6 @@ impl<'a> Tokens<'a> {
             found: Vec::new(alloc),
             open: Vec::new(alloc),
             faults: Faults::new(alloc),
-            failed: false,
         }
     }
 
@@ -394,50 +482,51 @@ impl<'a> Tokens<'a> {
 
     /// Appends a token, and before it a comment that is almost a mark, if a declaration may begin with it.
     fn put(&mut self, text: &str, line: usize) {
+        let word = word_of(text);
         if let Some((comment, line)) = self.almost
-            && is_among(text, BEFORE)
+            && matches!(word, Word::Hash | Word::Public | Word::Struct | Word::Enum)
         {
-            self.push(comment, line);
+            self.push(comment, Word::Comment, line);
         }
         self.almost = None;
-        self.push(text, line);
+        self.count_group(word);
+        self.push(text, word, line);
     }
 
     /// Appends a token.
-    fn push(&mut self, text: &str, line: usize) {
-        self.count_group(text);
-        let failed = match String::from_str(self.alloc, text) {
-            Ok(text) => {
-                let token = Token {
-                    text,
-                    line,
-                    span: 0,
-                };
-                self.found.push(token).is_err()
-            }
-            Err(_) => true,
+    fn push(&mut self, text: &str, word: Word, line: usize) {
+        let Ok(text) = String::from_str(self.alloc, text) else {
+            return self.faults.note(true);
         };
-        self.failed = self.failed || failed;
+        let token = Token {
+            text,
+            word,
+            line,
+            span: 0,
+        };
+        self.faults.note(self.found.push(token).is_err());
     }
 
     /// Notes where a group begins, with the token that is next, or how many tokens it has.
-    fn count_group(&mut self, text: &str) {
+    fn count_group(&mut self, word: Word) {
         let place = self.found.len();
-        if opens(text) {
-            self.failed = self.open.push(place).is_err() || self.failed;
-        } else if closes(text)
-            && let Some(first) = self.open.pop()
-            && let Some(token) = self.found.get_mut(first)
-        {
-            token.span = place.saturating_sub(first).saturating_add(1);
+        match word {
+            Word::Paren | Word::Bracket | Word::Brace => {
+                self.faults.note(self.open.push(place).is_err());
+            }
+            Word::Close => {
+                if let Some(first) = self.open.pop()
+                    && let Some(token) = self.found.get_mut(first)
+                {
+                    token.span = place.saturating_sub(first).saturating_add(1);
+                }
+            }
+            _ => {}
         }
     }
 
     /// What was read, if there was memory for it.
     fn finished(self, file: String) -> Result<Read, AllocError> {
-        if self.failed {
-            return Err(AllocError);
-        }
         Ok(Read {
             file,
             tokens: self.found,

@@ -1,5 +1,15 @@
 //! The words that the parser knows, and what is said of them.
 
+/// Whether a word is in a list, which has blanks between them.
+pub fn is_listed(word: &str, list: &str) -> bool {
+    for known in list.split_whitespace() {
+        if known == word {
+            return true;
+        }
+    }
+    false
+}
+
 /// How many fields a struct or a variant can have.
 pub const MOST_FIELDS: usize = 36;
 
@@ -81,19 +91,14 @@ pub const OTHER_WAY: &str =
     "` sends the field in ways not known here: write the type that is on the wire in its place";
 
 /// Words of serde's attributes that change no byte.
-pub const NO_BYTES: &[&str] = &[
-    "alias",
-    "borrow",
-    "bound",
-    "crate",
-    "default",
-    "deny_unknown_fields",
-    "expecting",
-    "rename",
-    "rename_all",
-    "rename_all_fields",
-    "transparent",
-];
+pub const NO_BYTES: &str = "
+    alias borrow bound crate default deny_unknown_fields expecting rename rename_all
+    rename_all_fields transparent
+";
+
+/// What is said of another type's bytes.
+const OTHER_BYTES: &str =
+    "` sends another type's bytes: mark that type, and write it where this one is a field";
 
 /// Words of serde's attributes that do, and what is said of each.
 pub const OF_SERDE: &[(&str, &str)] = &[
@@ -124,18 +129,9 @@ pub const OF_SERDE: &[(&str, &str)] = &[
     ("serialize_with", OTHER_WAY),
     ("deserialize_with", OTHER_WAY),
     ("with", OTHER_WAY),
-    (
-        "from",
-        "` sends another type's bytes: mark that type, and write it where this one is a field",
-    ),
-    (
-        "try_from",
-        "` sends another type's bytes: mark that type, and write it where this one is a field",
-    ),
-    (
-        "into",
-        "` sends another type's bytes: mark that type, and write it where this one is a field",
-    ),
+    ("from", OTHER_BYTES),
+    ("try_from", OTHER_BYTES),
+    ("into", OTHER_BYTES),
     (
         "skip",
         "` of a variant counts it on one side alone: take the variant out where it is the last",
@@ -143,83 +139,19 @@ pub const OF_SERDE: &[(&str, &str)] = &[
 ];
 
 /// Attributes of declarations that change no byte: those of the language, and helpers of derives that are often met.
-pub const OF_ITEMS: &[&str] = &[
-    "allow",
-    "arbitrary",
-    "archive",
-    "archive_attr",
-    "arg",
-    "automatically_derived",
-    "backtrace",
-    "br",
-    "brw",
-    "builder",
-    "bw",
-    "cbor",
-    "cfg",
-    "clap",
-    "clippy",
-    "command",
-    "defmt",
-    "deku",
-    "deny",
-    "deprecated",
-    "deref",
-    "derivative",
-    "derive",
-    "diagnostic",
-    "display",
-    "doc",
-    "educe",
-    "error",
-    "expect",
-    "facet",
-    "forbid",
-    "from",
-    "garde",
-    "get",
-    "getset",
-    "into",
-    "max_size",
-    "must_use",
-    "n",
-    "non_exhaustive",
-    "num_enum",
-    "postcard",
-    "proptest",
-    "repr",
-    "rkyv",
-    "rustfmt",
-    "schema",
-    "schemars",
-    "set",
-    "source",
-    "specta",
-    "strum",
-    "strum_discriminants",
-    "ts",
-    "tsify",
-    "typeshare",
-    "validate",
-    "value",
-    "warn",
-    "zeroize",
-];
+pub const OF_ITEMS: &str = "
+    allow arbitrary archive archive_attr arg automatically_derived backtrace br brw builder bw
+    cbor cfg clap clippy command defmt deku deny deprecated deref derivative derive diagnostic
+    display doc educe error expect facet forbid from garde get getset into max_size must_use n
+    non_exhaustive num_enum postcard proptest repr rkyv rustfmt schema schemars set source
+    specta strum strum_discriminants ts tsify typeshare validate value warn zeroize
+";
 
 /// Names that are brought in beside the types.
-pub const OF_POSTCARD: &[&str] = &[
-    "AsShape",
-    "Flavor",
-    "Last",
-    "MatchesShape",
-    "Readable",
-    "Serialize",
-    "Serializer",
-    "ShapeOf",
-    "Shaped",
-    "Variant",
-    "Variants4",
-];
+pub const OF_POSTCARD: &str = "
+    AsShape Flavor Last MatchesShape Readable Serialize Serializer ShapeOf Shaped Variant
+    Variants4
+";
 
 /// Names of type parameters in the implementations.
 pub const OF_IMPLEMENTATIONS: &[&str] = &["F", "Taken"];

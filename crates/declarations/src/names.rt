@@ -5,6 +5,7 @@ mod uses;
 
 use crate::known::KNOWN_CRATES;
 use declaration_parser::declaration::Declaration;
+use declaration_parser::items::{Kind, Scope, Walk};
 use declaration_parser::tokens::{Read, Token, is_among};
 pub use rule::{Found, Path, Space};
 use std::alloc::{AllocError, Global};
@@ -39,30 +40,6 @@ struct Item<'a> {
     is_conditional: bool,
 }
 
-/// What a scope is.
-#[derive(Clone, Copy, PartialEq, Eq, Drop)]
-enum Kind {
-    File,
-    Module,
-    /// A module with a file of its own, at its name, and one whose file has another name.
-    Outline,
-    Misnamed,
-    /// The body of a function, which sees what surrounds it.
-    Body,
-    /// What belongs to a type or a trait: no name of it is seen.
-    Impl,
-}
-
-/// A file, a module that is written in one, or a body.
-#[derive(Clone, Copy, Drop)]
-struct Scope<'a> {
-    kind: Kind,
-    name: &'a str,
-    file: usize,
-    /// The scope round it; of a file its own.
-    outer: usize,
-}
-
 /// What a `use` brings into a scope: the last name of a path, by this name; all of it by `*`.
 #[derive(Clone, Copy, Drop)]
 struct Import<'a> {
@@ -83,14 +60,6 @@ struct Stand {
     count: usize,
 }
 
-/// What was said before an item of what follows.
-#[derive(Clone, Copy, Drop)]
-struct Before {
-    is_conditional: bool,
-    is_public: bool,
-    has_path: bool,
-}
-
 /// The names of files. If memory runs out for one, [`failed`](Scopes::failed) says so.
 #[derive(Drop)]
 pub struct Scopes<'a> {
@@ -108,9 +77,6 @@ pub struct Scopes<'a> {
     handed: Vec<&'a str>,
     /// The words in tables of endpoints and topics.
     endpoints: Vec<&'a str>,
-    /// Scopes whose words aren't read yet, and these.
-    pending: Vec<(usize, &'a [Token])>,
-    before: Before,
     pub failed: bool,
 }
 
@@ -170,10 +136,17 @@ impl<'a> Scopes<'a> {
         files: &'a [Read],
         declared: &[Declaration<'a>],
     ) -> Result<Scopes<'a>, AllocError> {
+        let mut walk = Walk::new(alloc);
+        for read in files {
+            walk.add_file(module_of_file(read.file.as_str()));
+        }
+        for (file, read) in files.iter().enumerate() {
+            walk.read_file(file, &read.tokens);
+        }
         let mut names = Scopes {
             alloc,
             files,
-            scopes: Vec::new(alloc),
+            scopes: walk.scopes,
             items: Vec::new(alloc),
             imports: Vec::new(alloc),
             stands: Vec::new(alloc),
@@ -181,15 +154,9 @@ impl<'a> Scopes<'a> {
             makers: Vec::new(alloc),
             handed: Vec::new(alloc),
             endpoints: Vec::new(alloc),
-            pending: Vec::new(alloc),
-            before: Before {
-                is_conditional: false,
-                is_public: false,
-                has_path: false,
-            },
-            failed: false,
+            failed: walk.failed,
         };
-        names.read_files();
+        names.read_items(&walk.items);
         for (index, it) in declared.iter().enumerate() {
             names.mark(index, it);
         }
@@ -197,42 +164,6 @@ impl<'a> Scopes<'a> {
             return Err(AllocError);
         }
         Ok(names)
-    }
-
-    /// Adds a scope, and gives its place.
-    fn add_scope(&mut self, kind: Kind, name: &'a str, file: usize, outer: usize) -> usize {
-        let place = self.scopes.len();
-        let scope = Scope {
-            kind,
-            name,
-            file,
-            outer,
-        };
-        self.failed = self.scopes.push(scope).is_err() || self.failed;
-        place
-    }
-
-    /// Adds a scope in another, whose words are these.
-    fn add_inner(&mut self, kind: Kind, name: &'a str, outer: usize, words: &'a [Token]) {
-        let file = self.file_at(outer);
-        let scope = self.add_scope(kind, name, file, outer);
-        self.failed = self.pending.push((scope, words)).is_err() || self.failed;
-    }
-
-    /// Adds what a name stands for in a scope.
-    fn add(&mut self, scope: usize, name: &'a str, line: usize, what: What<'a>) {
-        let item = Item {
-            name,
-            what,
-            scope,
-            line,
-            is_conditional: self.before.is_conditional,
-        };
-        if matches!(self.kind_of(scope), Kind::Impl) {
-            return;
-        }
-        self.failed = self.items.push(item).is_err() || self.failed;
-        self.failed = put(&mut self.named, name) || self.failed;
     }
 
     /// What a scope is.
@@ -324,9 +255,16 @@ impl<'a> Scopes<'a> {
 
     /// Adds a scope for words that are in no file, which sees what the files declare.
     pub fn add_outside(&mut self) -> usize {
-        let file = self.files.len();
         let place = self.scopes.len();
-        self.add_scope(Kind::File, "", file, place)
+        let scope = Scope {
+            kind: Kind::File,
+            name: "",
+            file: self.files.len(),
+            outer: place,
+            end: 0,
+        };
+        self.failed = self.scopes.push(scope).is_err() || self.failed;
+        place
     }
 
     /// Whether a file declares a name, or brings it in from what isn't known.

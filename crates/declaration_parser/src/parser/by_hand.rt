@@ -1,6 +1,7 @@
 //! Types of which one side is derived, and the other written by hand.
 use super::Parser;
-use crate::tokens::Token;
+use crate::attributes::{behind_first, first_word, front, type_up_to, up_to};
+use crate::tokens::{Token, Word};
 use crate::words::BY_HAND;
 use std::alloc::{AllocError, Global};
 use std::collections::BTreeMap;
@@ -12,57 +13,10 @@ pub struct ByHand<'a> {
     read: BTreeMap<&'a str, ()>,
 }
 
-/// The position of a word in the head of an `impl`.
-#[derive(Drop)]
-struct ImplHead {
-    /// How many `<` the words after it are within.
-    depth: usize,
-    is_head: bool,
-    /// The traits that were named in it.
-    writes: bool,
-    reads: bool,
-    /// Whether the type is next, or a name of the path that leads to it; and whether it may go on.
-    is_next: bool,
-    is_path: bool,
-}
-
-impl ImplHead {
-    /// In none.
-    fn none() -> ImplHead {
-        ImplHead {
-            depth: 0,
-            is_head: false,
-            writes: false,
-            reads: false,
-            is_next: false,
-            is_path: false,
-        }
-    }
-
-    /// At the start of one.
-    fn begin(&mut self) {
-        self.is_head = true;
-        self.writes = false;
-        self.reads = false;
-        self.depth = 0;
-    }
-
-    /// Reads a word.
-    fn go_over(&mut self, word: &str) {
-        let is_first = self.is_head && self.depth == 0 && word == "for";
-        let is_name = self.is_next && word != ":";
-        self.is_path = is_first || is_name || (self.is_path && word == ":");
-        self.is_next = is_first || (self.is_path && word == ":");
-        match word {
-            "impl" => self.begin(),
-            "<" => self.depth = self.depth.saturating_add(1),
-            ">" => self.depth = self.depth.saturating_sub(1),
-            "{" | ";" => self.is_head = false,
-            "Serialize" if self.depth == 0 => self.writes = true,
-            "Deserialize" if self.depth == 0 => self.reads = true,
-            _ => {}
-        }
-    }
+/// Whether a trait of this name is before the `for` of an `impl`.
+fn is_of(words: &[Token], name: &str) -> bool {
+    let (_, rest) = type_up_to(words, &[name, "for"]);
+    first_word(rest) == name
 }
 
 /// Adds a name.
@@ -84,16 +38,35 @@ impl<'a> ByHand<'a> {
 
     /// Adds those among these tokens. An error is left if memory runs out, and some of them are missing then.
     pub fn add_all(&mut self, tokens: &'a [Token]) -> Result<(), AllocError> {
-        let mut head = ImplHead::none();
-        for token in tokens {
-            let word = token.text.as_str();
-            if head.is_next && head.writes {
-                add(&mut self.written, word)?;
+        let mut rest = tokens;
+        for _ in 0..tokens.len() {
+            if matches!(front(rest), Word::Impl) {
+                let (words, _) = up_to(behind_first(rest), &["{", ";"]);
+                self.add_impl(words)?;
             }
-            if head.is_next && head.reads {
-                add(&mut self.read, word)?;
+            rest = behind_first(rest);
+        }
+        Ok(())
+    }
+
+    /// Adds the type after `for`, with all names of the path that leads to it.
+    fn add_impl(&mut self, words: &'a [Token]) -> Result<(), AllocError> {
+        let writes = is_of(words, "Serialize");
+        let reads = is_of(words, "Deserialize");
+        let (_, of) = type_up_to(words, &["for"]);
+        let mut is_next = true;
+        for token in behind_first(of) {
+            let is_name = !matches!(token.word, Word::Colon);
+            if is_name && !is_next {
+                break;
             }
-            head.go_over(word);
+            if is_name && writes {
+                add(&mut self.written, token.text.as_str())?;
+            }
+            if is_name && reads {
+                add(&mut self.read, token.text.as_str())?;
+            }
+            is_next = !is_name;
         }
         Ok(())
     }
@@ -102,13 +75,14 @@ impl<'a> ByHand<'a> {
 impl<'a> Parser<'a> {
     /// Refuses a type of which one side alone is derived, and the other is written by hand.
     pub(super) fn check_by_hand(&mut self, by_hand: &ByHand<'_>) {
-        let (names, other) = match (self.is_derived, self.marks.written, self.marks.read) {
+        let marks = self.marking.marks;
+        let (names, other) = match (self.marking.is_derived, marks.written, marks.read) {
             (true, true, false) => (&by_hand.read, "Deserialize"),
             (true, false, true) => (&by_hand.written, "Serialize"),
             _ => return,
         };
-        if names.contains_key(self.name) {
-            self.refuse(other, BY_HAND);
+        if names.contains_key(self.at.name) {
+            self.at.refuse(other, BY_HAND);
         }
     }
 }

@@ -1,13 +1,14 @@
 //! What attributes say of the bytes.
 use super::Parser;
 use crate::attributes::{
-    attribute, first_part, first_word, has_mark, held, is_derived, last_word, same_words,
+    attribute, behind_first, first_part, first_word, has_mark, held, is_derived, last_word,
+    same_words,
 };
 use crate::declaration::Layout;
 use crate::tokens::{Token, is_among};
 use crate::words::{
     ALMOST_WAY, HIDDEN_MARK, LEFT_OUT, NO_BYTES, OF_ITEMS, OF_SERDE, ON_SOME_DEVICES, ONE_SIDE,
-    OTHER_CONDITION, REPR, UNKNOWN, WAY_OF_SERDE,
+    OTHER_CONDITION, REPR, UNKNOWN, WAY_OF_SERDE, is_listed,
 };
 
 /// The position of an attribute.
@@ -50,90 +51,79 @@ fn without_comment(words: &[Token]) -> &[Token] {
 impl<'a> Parser<'a> {
     /// Reads attributes, and gathers what they say of the bytes. What is wrong is reported by their lines.
     pub(super) fn said(&mut self, attributes: &'a [Token], at: At) -> Said {
-        let line = self.line;
-        let said = self.gathered(attributes, at);
-        self.line = line;
-        said
-    }
-
-    /// As [`said`](Parser::said), at the line of the last attribute.
-    fn gathered(&mut self, attributes: &'a [Token], at: At) -> Said {
         let mut said = Said {
             not_written: false,
             not_read: false,
             layout: Layout::Own,
         };
+        let line = self.at.line;
         let mut rest = attributes;
         for _ in 0..attributes.len() {
-            rest = match (attribute(rest), rest) {
-                (Some((words, behind)), _) => {
+            rest = match attribute(rest) {
+                Some((words, behind)) => {
                     self.read_attribute(words, attributes, at, &mut said);
                     behind
                 }
-                (None, [_, behind @ ..]) => behind,
-                _ => break,
+                None => behind_first(rest),
             };
         }
+        self.at.line = line;
         said
     }
 
     /// Reads an attribute, which is one of these.
     fn read_attribute(&mut self, words: &'a [Token], all: &'a [Token], at: At, said: &mut Said) {
         if let [word, ..] = words {
-            self.line = word.line;
+            self.at.line = word.line;
         }
         if has_mark(words) {
-            self.wrong(&[HIDDEN_MARK]);
+            self.at.wrong(&[HIDDEN_MARK]);
         }
         if first_word(words) != "cfg_attr" {
-            self.check_item(words, all, at);
-            return self.read_plain(words, at, false, said);
+            return self.read_plain(words, all, at, false, said);
         }
-        let (condition, attributes) = first_part(held(words));
-        let is_other = !same_words(condition, self.condition);
-        let mut rest = attributes;
-        for _ in 0..attributes.len() {
+        let (condition, mut rest) = first_part(held(words));
+        let is_other = !same_words(condition, self.marking.condition);
+        for _ in 0..words.len() {
             let (part, behind) = first_part(rest);
             if !part.is_empty() {
-                self.check_item(part, all, at);
-                self.read_plain(part, at, is_other, said);
+                self.read_plain(part, all, at, is_other, said);
             }
             rest = behind;
         }
     }
 
-    /// Reads an attribute that has no condition, or another one than the derive.
-    fn read_plain(&mut self, words: &'a [Token], at: At, is_other: bool, said: &mut Said) {
+    /// Reads an attribute that has no condition, or another one than the derive. One of a declaration has to be of the language,
+    /// or the helper of a derive among these whose path begins with its name.
+    fn read_plain(
+        &mut self,
+        words: &'a [Token],
+        all: &'a [Token],
+        at: At,
+        is_other: bool,
+        said: &mut Said,
+    ) {
         let name = first_word(words);
+        let is_free = at != At::Item || is_listed(name, OF_ITEMS) || is_derived(all, name);
         match name {
             "serde" => self.read_serde(held(words), at, is_other, said),
             "serde_as" | "serde_with" if last_word(words) == "serde_as" => {}
             "with" => self.read_way(words, at, said),
-            "cfg" | "cfg_attr" if at != At::Item => self.refuse(name, ON_SOME_DEVICES),
+            _ if name.starts_with("serde") || !is_free => self.at.refuse(name, UNKNOWN),
+            "cfg" | "cfg_attr" if at != At::Item => self.at.refuse(name, ON_SOME_DEVICES),
             "derive" => self.read_derive(held(words)),
-            _ if name.starts_with("serde") => self.refuse(name, UNKNOWN),
             _ => {}
-        }
-    }
-
-    /// Refuses an attribute of a declaration that isn't known: of the language, or the helper of a derive among these whose path
-    /// begins with its name.
-    fn check_item(&mut self, words: &[Token], all: &[Token], at: At) {
-        let name = first_word(words);
-        let is_known = is_among(name, OF_ITEMS) || is_derived(all, name);
-        if at == At::Item && !is_known && !name.starts_with("serde") && name != "with" {
-            self.refuse(name, UNKNOWN);
         }
     }
 
     /// Reads a comment that says how a field is sent, or only seems meant to.
     fn read_way(&mut self, words: &'a [Token], at: At, said: &mut Said) {
         match words {
-            [_, comment] if !self.is_derived => {
-                self.wrong(&["`// ", comment.text.as_str(), ALMOST_WAY]);
+            [_, comment] if !self.marking.is_derived => {
+                self.at.wrong(&["`// ", comment.text.as_str(), ALMOST_WAY]);
             }
             [_, _] => {}
-            _ if self.is_derived => self.refuse("with", WAY_OF_SERDE),
+            _ if self.marking.is_derived => self.at.refuse("with", WAY_OF_SERDE),
             _ => self.read_changing("with", words, at, said),
         }
     }
@@ -145,10 +135,10 @@ impl<'a> Parser<'a> {
             let (part, behind) = first_part(rest);
             let name = last_word(part);
             if is_among(name, &["Serialize_repr", "Deserialize_repr"]) {
-                self.refuse(name, REPR);
+                self.at.refuse(name, REPR);
             }
             if is_among(name, &["SerializeDisplay", "DeserializeFromStr"]) {
-                self.refuse(name, "` sends a text: where it is a field, write `String`");
+                self.at.refuse(name, "` sends a text: where it is a field, write `String`");
             }
             rest = behind;
         }
@@ -161,10 +151,10 @@ impl<'a> Parser<'a> {
             let (part, behind) = first_part(rest);
             let part = without_comment(part);
             let name = first_word(part);
-            if !name.is_empty() && !is_among(name, NO_BYTES) {
+            if !name.is_empty() && !is_listed(name, NO_BYTES) {
                 self.read_changing(name, part, at, said);
                 if is_other {
-                    self.refuse(name, OTHER_CONDITION);
+                    self.at.refuse(name, OTHER_CONDITION);
                 }
             }
             rest = behind;
@@ -188,7 +178,7 @@ impl<'a> Parser<'a> {
             }
             ("skip_serializing", "") if is_field => said.not_written = true,
             ("skip_deserializing", "") if is_field => said.not_read = true,
-            ("skip_serializing_if", _) if is_field && !self.marks.written => {}
+            ("skip_serializing_if", _) if is_field && !self.marking.marks.written => {}
             _ => self.refuse_serde(name),
         }
     }
@@ -197,30 +187,28 @@ impl<'a> Parser<'a> {
     fn refuse_serde(&mut self, name: &str) {
         for (known, why) in OF_SERDE {
             if *known == name {
-                return self.refuse(name, why);
+                return self.at.refuse(name, why);
             }
         }
-        self.refuse(name, UNKNOWN);
+        self.at.refuse(name, UNKNOWN);
     }
 
     /// Whether a field is left out, on all sides that there are.
     pub(super) fn is_left_out(&mut self, said: Said) -> bool {
-        let not_written = self.marks.written && said.not_written;
-        let not_read = self.marks.read && said.not_read;
+        let not_written = self.marking.marks.written && said.not_written;
+        let not_read = self.marking.marks.read && said.not_read;
         if !not_written && !not_read {
             return false;
         }
-        if (self.marks.written && !not_written) || (self.marks.read && !not_read) {
+        if (self.marking.marks.written && !not_written) || (self.marking.marks.read && !not_read) {
             let word = if not_written {
                 "skip_serializing"
             } else {
                 "skip_deserializing"
             };
-            self.refuse(word, ONE_SIDE);
+            self.at.refuse(word, ONE_SIDE);
         }
-        if self.implements() {
-            self.refuse("skip", LEFT_OUT);
-        }
+        self.refuse_in_code(true, "skip", LEFT_OUT);
         true
     }
 }

@@ -1,10 +1,15 @@
-use Rattle.declaration_parser.proofs.StandingLemmas.{gone_on}
+use Rattle.declaration_parser.proofs.StandingLemmas.{gone_on, gone_past}
 use Rattle.declaration_parser.proofs.reading.add_declarations.Goals as goal
 
-pub loop-rest-preserved : goal.loop-rest-preserved
-loop-rest-preserved c =
-    let step = c.read_front-rest in (
-      λ s. c.loop-rest.invariant.0 (step.ensures.silent s),
-      λ s. gone_on c.args.found.now.items c.loop-rest.found.items step.new.found.items c.args.file.now.tokens.items c.loop-rest.rest.now step.result.now
-          (c.loop-rest.invariant.1 (step.ensures.silent s)) (step.ensures.stands s),
+pub loop-item-preserved : goal.loop-item-preserved
+loop-item-preserved c =
+    let step = c.read_up_to-rest in (
+      λ s. c.loop-item.invariant.0 (step.ensures.silent s),
+      λ s. gone_on c.args.found.now.items c.loop-item.found.items step.new.found.items c.args.file.now.tokens.items c.loop-item.rest.now step.result.now
+          (c.loop-item.invariant.1 (step.ensures.silent s)) (step.ensures.stands s),
     )
+
+pub returns-clause-accounts : goal.returns-clause-accounts
+returns-clause-accounts c silent =
+    gone_past c.args.found.now.items c.loop-item.found.items c.args.file.now.tokens.items c.loop-item.rest.now
+    (c.loop-item.invariant.1 (c.refuse_mark.ensures.silent silent)) (c.refuse_mark.ensures.no_mark silent)

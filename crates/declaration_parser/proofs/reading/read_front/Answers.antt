@@ -2,8 +2,8 @@ use Rattle.std.proofs.Common.{◌++◌, take}
 use Rattle.declaration_parser.proofs.StandingLemmas.{accounts_skipped, gone_front, parted}
 use Rattle.declaration_parser.proofs.reading.read_front.Goals as goal
 
-pub returns-then-is_marked-clause-stands : goal.returns-then-is_marked-clause-stands
-returns-then-is_marked-clause-stands c silent =
+pub returns-then-is_meant-clause-stands : goal.returns-then-is_meant-clause-stands
+returns-then-is_meant-clause-stands c silent =
     let head = c.head_of-head.result in
     let front = head.attributes.now ++ take c.add_declaration-taken.result head.behind.now in
     gone_front c.args.found.now.items c.add_declaration-taken.new.found.items c.args.tokens.now front c.split_at.result.1.now

@@ -1,0 +1,341 @@
+//! The items of files, found in one pass, and the scopes that they are in.
+use crate::attributes::{
+    attribute, behind, behind_attribute, behind_first, first_word, front, group, name_at,
+    passed_over, up_to,
+};
+use crate::tokens::{Token, Word};
+use std::alloc::Global;
+
+/// What ends the words of an item before its body.
+const BODY: &[&str] = &["{", ";"];
+
+/// What a scope is.
+#[derive(Clone, Copy, PartialEq, Eq, Drop)]
+pub enum Kind {
+    File,
+    Module,
+    /// A module with a file of its own, at its name, and one whose file has another name.
+    Outline,
+    Misnamed,
+    /// The body of a function, which sees what surrounds it.
+    Body,
+    /// What belongs to a type or a trait: no name of it is seen.
+    Impl,
+}
+
+/// A file, a module that is written in one, or a body.
+#[derive(Clone, Copy, Drop)]
+pub struct Scope<'a> {
+    pub kind: Kind,
+    pub name: &'a str,
+    /// The file by its place among all.
+    pub file: usize,
+    /// The scope round it; of a file its own.
+    pub outer: usize,
+    /// How many tokens of the file are left where it ends.
+    pub end: usize,
+}
+
+/// What an item is.
+#[derive(Clone, Copy, PartialEq, Eq, Drop)]
+pub enum ItemKind {
+    Type,
+    Alias,
+    Constant,
+    Import,
+    Crate,
+    /// The rules of a macro, a call, and a call within the words of another item or an attribute of the whole file.
+    Rules,
+    Call,
+    Hidden,
+    /// What declares no name, after attributes.
+    Other,
+}
+
+/// An item.
+#[derive(Clone, Copy, Drop)]
+pub struct Item<'a> {
+    pub kind: ItemKind,
+    pub scope: usize,
+    /// How many tokens of its file are left where it begins.
+    pub left: usize,
+    /// Its attributes and comments, and whether `pub` is behind them.
+    pub attributes: &'a [Token],
+    pub is_public: bool,
+    /// Its words after the one that says what it is; all of a call, and none of what declares no name.
+    pub words: &'a [Token],
+    /// What a call holds.
+    pub inside: &'a [Token],
+}
+
+/// Goes over the tokens of files. If memory runs out for something, `failed` says so.
+#[derive(Drop)]
+pub struct Walk<'a> {
+    pub scopes: Vec<Scope<'a>>,
+    pub items: Vec<Item<'a>>,
+    /// The scope that is gone over, and how many tokens are left behind the words of an item, in which there is no other.
+    scope: usize,
+    quiet: usize,
+    pub failed: bool,
+}
+
+impl Item<'_> {
+    /// Whether an attribute of this name is before it.
+    pub fn has(&self, name: &str) -> bool {
+        let mut rest = self.attributes;
+        for _ in 0..self.attributes.len() {
+            if let Some((words, _)) = attribute(rest)
+                && first_word(words) == name
+            {
+                return true;
+            }
+            rest = behind_first(rest);
+        }
+        false
+    }
+
+    /// How many tokens after its attributes are passed over with it: those of a call.
+    pub fn passed(&self) -> usize {
+        match self.kind {
+            ItemKind::Rules | ItemKind::Call | ItemKind::Hidden => self.words.len(),
+            _ => 0,
+        }
+    }
+}
+
+/// What follows the attributes, marks and other comments at the start.
+fn behind_attributes(tokens: &[Token]) -> &[Token] {
+    let mut rest = tokens;
+    for _ in 0..tokens.len() {
+        let Some(behind) = behind_attribute(rest, true) else {
+            break;
+        };
+        rest = behind;
+    }
+    rest
+}
+
+/// Whether a name is the first of these tokens.
+fn is_name(tokens: &[Token]) -> bool {
+    name_at(tokens).is_some()
+}
+
+impl<'a> Walk<'a> {
+    /// No files.
+    pub fn new(alloc: Global) -> Walk<'a> {
+        Walk {
+            scopes: Vec::new(alloc),
+            items: Vec::new(alloc),
+            scope: 0,
+            quiet: 0,
+            failed: false,
+        }
+    }
+
+    /// Adds a scope, and gives its place.
+    pub fn add_scope(&mut self, scope: Scope<'a>) -> usize {
+        let place = self.scopes.len();
+        self.failed = self.scopes.push(scope).is_err() || self.failed;
+        place
+    }
+
+    /// Adds the scope of a file after those of others.
+    pub fn add_file(&mut self, name: &'a str) {
+        let place = self.scopes.len();
+        self.add_scope(Scope {
+            kind: Kind::File,
+            name,
+            file: place,
+            outer: place,
+            end: 0,
+        });
+    }
+
+    /// Adds the items of a file, whose scope is at this place.
+    pub fn read_file(&mut self, file: usize, tokens: &'a [Token]) {
+        self.scope = file;
+        self.quiet = tokens.len();
+        let mut rest = tokens;
+        for _ in 0..tokens.len() {
+            if rest.is_empty() {
+                break;
+            }
+            rest = self.read_front(rest);
+        }
+    }
+
+    /// Adds the item at the start, and gives the tokens to go on with: in its words, if there may be attributes in them.
+    fn read_front(&mut self, tokens: &'a [Token]) -> &'a [Token] {
+        self.leave(tokens.len());
+        let words = behind_attributes(tokens);
+        let (attributes, _) = tokens.split_at(tokens.len().saturating_sub(words.len()));
+        let mut item = Item {
+            kind: ItemKind::Other,
+            scope: self.scope,
+            left: tokens.len(),
+            attributes,
+            is_public: false,
+            words: &[],
+            inside: &[],
+        };
+        let rest = self.read_words(&mut item, words);
+        if item.kind != ItemKind::Other || !attributes.is_empty() {
+            self.failed = self.items.push(item).is_err() || self.failed;
+        }
+        rest
+    }
+
+    /// Turns to the scope of what so many tokens are left of.
+    fn leave(&mut self, left: usize) {
+        for _ in 0..self.scopes.len() {
+            match self.scopes.get(self.scope) {
+                Some(it) if it.kind != Kind::File && left <= it.end => self.scope = it.outer,
+                _ => break,
+            }
+        }
+    }
+
+    /// Turns to a scope in this one, which ends there.
+    fn enter(&mut self, kind: Kind, name: &'a str, end: usize) {
+        let outer = self.scope;
+        let file = match self.scopes.get(outer) {
+            Some(it) => it.file,
+            None => 0,
+        };
+        self.scope = self.add_scope(Scope {
+            kind,
+            name,
+            file,
+            outer,
+            end,
+        });
+    }
+
+    /// Reads what follows attributes: a call of a macro, words of an item, or what begins one.
+    fn read_words(&mut self, item: &mut Item<'a>, words: &'a [Token]) -> &'a [Token] {
+        let is_quiet = words.len() > self.quiet;
+        if let Some((inside, rest)) = passed_over(words)
+            && (!is_quiet || rest.len() >= self.quiet)
+            && !matches!(front(words), Word::Brace)
+        {
+            item.kind = match front(words) {
+                Word::Rules => ItemKind::Rules,
+                Word::Hash => ItemKind::Hidden,
+                _ if is_quiet => ItemKind::Hidden,
+                _ => ItemKind::Call,
+            };
+            let (call, _) = words.split_at(words.len().saturating_sub(rest.len()));
+            item.words = call;
+            item.inside = inside;
+            return rest;
+        }
+        if is_quiet {
+            return behind_first(words);
+        }
+        item.is_public = matches!(front(words), Word::Public);
+        let words = behind_public(words);
+        self.read_item(item, words, behind_first(words))
+    }
+
+    /// Reads what an item begins with, and gives what follows: at its name.
+    fn read_item(
+        &mut self,
+        item: &mut Item<'a>,
+        words: &'a [Token],
+        rest: &'a [Token],
+    ) -> &'a [Token] {
+        match front(words) {
+            Word::Module if is_name(rest) => return self.read_module(item, rest),
+            Word::Struct | Word::Enum | Word::Union if is_name(rest) => {
+                let body = self.take(item, ItemKind::Type, rest, BODY);
+                self.quiet = behind(body).len();
+            }
+            Word::Alias if is_name(rest) => {
+                self.take(item, ItemKind::Alias, rest, &[";"]);
+            }
+            Word::Constant if is_name(rest) => self.read_constant(item, rest),
+            Word::Import if first_word(rest) != "<" => {
+                self.take(item, ItemKind::Import, rest, &[";"]);
+            }
+            Word::Function if is_name(rest) => self.read_body(Kind::Body, rest),
+            Word::Impl => self.read_body(Kind::Impl, rest),
+            Word::Extern if first_word(rest) == "crate" => {
+                self.take(item, ItemKind::Crate, behind_first(rest), &[";"]);
+            }
+            Word::Brace => self.open(Kind::Body, "", words),
+            // Attributes may follow a `pub` that begins none of these.
+            _ if item.is_public => return words,
+            _ => {}
+        }
+        rest
+    }
+
+    /// Takes the words of an item up to one of these, and gives what follows them.
+    fn take(
+        &mut self,
+        item: &mut Item<'a>,
+        kind: ItemKind,
+        words: &'a [Token],
+        ends: &[&str],
+    ) -> &'a [Token] {
+        let (whole, rest) = up_to(words, ends);
+        item.kind = kind;
+        item.words = whole;
+        self.quiet = rest.len();
+        rest
+    }
+
+    /// Turns to the scope of the group at the start, if there is one.
+    fn open(&mut self, kind: Kind, name: &'a str, words: &'a [Token]) {
+        if let Some((_, after)) = group(words) {
+            self.enter(kind, name, after.len());
+        }
+    }
+
+    /// Reads a constant, at its name. What its value holds may declare types for itself.
+    fn read_constant(&mut self, item: &mut Item<'a>, words: &'a [Token]) {
+        if !matches!(front(behind_first(words)), Word::Colon) {
+            return;
+        }
+        let end = self.take(item, ItemKind::Constant, words, &[";"]).len();
+        let (_, value) = up_to(item.words, &["="]);
+        self.quiet = end.saturating_add(value.len());
+        self.enter(Kind::Body, "", end);
+    }
+
+    /// Reads a function, or what belongs to a type, up to its body or a semicolon.
+    fn read_body(&mut self, kind: Kind, words: &'a [Token]) {
+        let (_, body) = up_to(words, BODY);
+        self.quiet = behind_first(body).len();
+        self.open(kind, "", body);
+    }
+
+    /// Reads a module, at its name, and gives what is in it or follows it.
+    fn read_module(&mut self, item: &mut Item<'a>, words: &'a [Token]) -> &'a [Token] {
+        let name = name_at(words).unwrap_or("");
+        let rest = behind_first(words);
+        if group(rest).is_some() {
+            self.open(Kind::Module, name, rest);
+            return behind_first(rest);
+        }
+        let outer = self.scope;
+        let kind = if item.has("path") {
+            Kind::Misnamed
+        } else {
+            Kind::Outline
+        };
+        self.enter(kind, name, 0);
+        self.scope = outer;
+        rest
+    }
+}
+
+/// What follows `pub`, with what it is limited to.
+pub fn behind_public(tokens: &[Token]) -> &[Token] {
+    let rest = behind_first(tokens);
+    match (front(tokens), front(rest)) {
+        (Word::Public, Word::Paren) => behind(rest),
+        (Word::Public, _) => rest,
+        _ => tokens,
+    }
+}
