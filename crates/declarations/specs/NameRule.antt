@@ -1,5 +1,5 @@
 -- What a name is answered as.
-use Rattle.std.specs.Prelude.{◌≡◌, ℕ, List, [], ◌∷◌}
+use Rattle.std.specs.Prelude.{◌≡◌, ◌⊎◌, ℕ, List, [], ◌∷◌}
 use Rattle.declarations.specs.Candidates.{candidates}
 use Rattle.declarations.specs.declared.names.Item.{Item}
 use Rattle.declarations.specs.declared.names.Scope.{Scope}
@@ -27,6 +27,19 @@ IsStepAnswer all found.Not = all ≡ []
 IsStepAnswer all (found.Wrong why) = Unit {0}
 IsStepAnswer all found.Two = Unit {0}
 IsStepAnswer all found.Outside = Unit {0}
+
+-- a step is answered, or has no candidate and is passed
+abbrev pub IsAnsweredOrPassed : List Item → Found → Type 0
+IsAnsweredOrPassed all result = (all ≡ []) ⊎ IsStepAnswer all result
+
+-- that a name is nowhere is answered only if there is no candidate
+abbrev pub IsNowhereIfNone : List Item → Found → Type 0
+IsNowhereIfNone all (found.In it scope) = Unit {0}
+IsNowhereIfNone all (found.Known name) = Unit {0}
+IsNowhereIfNone all found.Not = all ≡ []
+IsNowhereIfNone all (found.Wrong why) = Unit {0}
+IsNowhereIfNone all found.Two = Unit {0}
+IsNowhereIfNone all found.Outside = Unit {0}
 
 -- This is what one item declares, in this scope, and the item is the only candidate of a step.
 pub record IsOnlyCandidate (scopes : List Scope) (items : List Item) (name : List ℕ) (space : Space) (it : What)

@@ -67,6 +67,20 @@ impl<'a> Scopes<'a> {
         false
     }
 
+    /// The only module of this name that is written in another.
+    fn child_of(&self, module: usize, name: &str) -> Option<usize> {
+        let mut found = None;
+        for (place, it) in self.scopes.iter().enumerate() {
+            if it.kind == Kind::Module && it.outer == module && it.name == name {
+                if found.is_some() {
+                    return None;
+                }
+                found = Some(place);
+            }
+        }
+        found
+    }
+
     /// Whether a module of a step has one of this name in it.
     fn is_child_in(&self, step: Step<'a>, name: &str) -> bool {
         for place in 0..self.scopes.len() {
@@ -244,17 +258,22 @@ impl<'a> Scopes<'a> {
         }
     }
 
-    /// Where a path leads by the name of its last module: to those of that name, unless a `use` may bring in another.
+    /// Where a path leads by the name of its last module: to its only child of that name, or to those
+    /// of that name, unless a `use` may bring in another.
     fn named_lead(&self, module: usize, path: Path<'a>) -> Lead<'a> {
-        let (at, is_first) = (path.before, path.count == 1);
+        let at = path.before;
+        let is_first = path.count == 1 && !path.is_absolute;
         if self.is_misnamed(at) {
             return Lead::Wrong(BROUGHT_IN);
         }
-        if is_first
-            && let Some(it) = self.import_of(module, at)
-            && !is_called(it.last, at)
-        {
-            return Lead::Wrong(RENAMED);
+        match self.import_of(module, at) {
+            Some(it) if is_first && !is_called(it.last, at) => return Lead::Wrong(RENAMED),
+            None if is_first => {
+                if let Some(child) = self.child_of(module, at) {
+                    return Lead::In(Step::Scope(child));
+                }
+            }
+            _ => {}
         }
         let own = if is_first {
             Step::Scope(module)

@@ -1,7 +1,7 @@
 //! What a name stands for: the only candidate of the first step that has one, or nothing.
 ghost use Rattle.std.specs.Prelude.{[]};
 ghost use Rattle.declarations.specs.Candidates.{candidates};
-ghost use Rattle.declarations.specs.NameRule.{IsAnswerOf, IsOnlyOfAStep, IsStepAnswer};
+ghost use Rattle.declarations.specs.NameRule.{IsAnswerOf, IsAnsweredOrPassed, IsNowhereIfNone, IsOnlyOfAStep, IsStepAnswer};
 ghost use Rattle.declarations.specs.declared.names.candidates.Space.TheVariants as space;
 
 use super::candidates::{Only, Space, Step};
@@ -144,16 +144,28 @@ impl<'a> Scopes<'a> {
             && !self.is_at_times(it.scope, it.name, it.is_conditional)
     }
 
-    /// What a name stands for where a scope uses it.
+    /// What a name stands for where a scope uses it: what the scope has, before what is round it.
     pub fn find(&self, scope: usize, name: &'a str, space: Space) -> Found<'a>
         ensures only { IsOnlyOfAStep self.now.scopes.items self.now.items.items name.now space result }
+        ensures own { IsAnsweredOrPassed
+            (candidates self.now.scopes.items (Step.Scope scope) name.now space self.now.items.items) result }
+        ensures last { IsNowhereIfNone
+            (candidates self.now.scopes.items Step.All name.now space self.now.items.items) result }
+    {
+        match self.own(scope, name, space) {
+            Found::Not => self.around(scope, name, space),
+            found => found,
+        }
+    }
+
+    /// What a name stands for that a scope doesn't have: what a body's surroundings have, or what is beyond its module.
+    fn around(&self, scope: usize, name: &'a str, space: Space) -> Found<'a>
+        ensures only { IsOnlyOfAStep self.now.scopes.items self.now.items.items name.now space result }
+        ensures last { IsNowhereIfNone
+            (candidates self.now.scopes.items Step.All name.now space self.now.items.items) result }
     {
         let mut at = scope;
         for _ in 0..self.scopes.len() {
-            match self.own(at, name, space) {
-                Found::Not => {}
-                found => return found,
-            }
             if !self.is_inner(at) {
                 break;
             }
@@ -162,6 +174,10 @@ impl<'a> Scopes<'a> {
                 return Found::Wrong(BY_STAR);
             }
             at = self.outer_of(at);
+            match self.own(at, name, space) {
+                Found::Not => {}
+                found => return found,
+            }
         }
         self.beyond(self.module_of(scope), name, space)
     }
@@ -169,6 +185,8 @@ impl<'a> Scopes<'a> {
     /// What a scope itself declares or brings in under a name.
     fn own(&self, scope: usize, name: &'a str, space: Space) -> Found<'a>
         ensures only { IsOnlyOfAStep self.now.scopes.items self.now.items.items name.now space result }
+        ensures own { IsAnsweredOrPassed
+            (candidates self.now.scopes.items (Step.Scope scope) name.now space self.now.items.items) result }
     {
         let step = Step::Scope(scope);
         let brought = self.brought(step, name, space);
@@ -245,6 +263,8 @@ impl<'a> Scopes<'a> {
     /// What a name stands for that neither a module nor a body in it declares or brings in.
     fn beyond(&self, module: usize, name: &'a str, space: Space) -> Found<'a>
         ensures only { IsOnlyOfAStep self.now.scopes.items self.now.items.items name.now space result }
+        ensures last { IsNowhereIfNone
+            (candidates self.now.scopes.items Step.All name.now space self.now.items.items) result }
     {
         let stars = self.stars_of(module);
         let is_type = space == Space::Types;
@@ -261,19 +281,38 @@ impl<'a> Scopes<'a> {
         }
         let file = Step::File(self.file_at(module));
         let near = if stars.is_inside { Step::All } else { file };
-        let found = match self.step(near, name, space) {
-            Found::Not => self.step(Step::All, name, space),
-            found => found,
-        };
-        let found = match found {
-            Found::Not if is_type && is_known(name) => Found::Known(name),
-            found => found,
-        };
+        let found = self.in_files(near, name, space);
         match found {
             Found::In(..) | Found::Known(_)
                 if stars.is_inside && self.may_pass(file, &found, name, space) => Found::Wrong(
                 BY_STAR,
             ),
+            found => found,
+        }
+    }
+
+    /// What a name stands for by a step, or by all files, or if it is known.
+    fn in_files(&self, near: Step<'a>, name: &'a str, space: Space) -> Found<'a>
+        ensures only { IsOnlyOfAStep self.now.scopes.items self.now.items.items name.now space result }
+        ensures near { IsAnsweredOrPassed
+            (candidates self.now.scopes.items near.entry name.now space self.now.items.items) result }
+        ensures last { IsNowhereIfNone
+            (candidates self.now.scopes.items Step.All name.now space self.now.items.items) result }
+    {
+        match self.step(near, name, space) {
+            Found::Not => self.in_all(name, space),
+            found => found,
+        }
+    }
+
+    /// What a name stands for by all files, or if it is known.
+    fn in_all(&self, name: &'a str, space: Space) -> Found<'a>
+        ensures only { IsOnlyOfAStep self.now.scopes.items self.now.items.items name.now space result }
+        ensures answer { IsStepAnswer
+            (candidates self.now.scopes.items Step.All name.now space self.now.items.items) result }
+    {
+        match self.step(Step::All, name, space) {
+            Found::Not if space == Space::Types && is_known(name) => Found::Known(name),
             found => found,
         }
     }
