@@ -51,6 +51,8 @@ enum Kind {
     /// A module with a file of its own, at its name, and one whose file has another name.
     Outline,
     Misnamed,
+    /// Beside a module: that it stands under a condition.
+    Conditional,
     /// The body of a function, which sees what surrounds it.
     Body,
     /// What belongs to a type or a trait: no name of it is seen.

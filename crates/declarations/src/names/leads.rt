@@ -3,7 +3,7 @@ ghost use Rattle.declarations.specs.Candidates.{candidates, TellsOnly};
 
 use super::candidates::{Only, Space, Step, is_called, is_within, only_of};
 use super::path::Path;
-use super::rule::{BROUGHT_IN, RENAMED};
+use super::rule::{BROUGHT_IN, BY_MODULE, RENAMED};
 use super::{Import, Item, Kind, Scopes, is_known_crate};
 
 /// Where a path leads.
@@ -81,10 +81,22 @@ impl<'a> Scopes<'a> {
         found
     }
 
-    /// Whether a module of a step has one of this name in it.
+    /// How many modules of this name a module has in it under a condition.
+    fn conditions_of(&self, module: usize, name: &str) -> usize {
+        let mut count: usize = 0;
+        for it in &self.scopes {
+            if it.kind == Kind::Conditional && it.outer == module && it.name == name {
+                count = count.saturating_add(1);
+            }
+        }
+        count
+    }
+
+    /// Whether a module of a step has one of this name in it, under each condition.
     fn is_child_in(&self, step: Step<'a>, name: &str) -> bool {
         for place in 0..self.scopes.len() {
-            if self.is_in(place, step) && self.has_child(place, name) {
+            let is_it = self.is_in(place, step) && self.has_child(place, name);
+            if is_it && self.conditions_of(place, name) == 0 {
                 return true;
             }
         }
@@ -183,9 +195,14 @@ impl<'a> Scopes<'a> {
     fn root_lead(&self, module: usize, root: &'a str) -> Lead<'a> {
         let is_own = self.is_rooted(module, root);
         match self.import_of(module, root) {
+            Some(it) if it.is_conditional && !it.is_crate => Lead::Doubtful,
             Some(it) if is_own && it.path.before != root => Lead::Doubtful,
             Some(it) if !is_own && it.path.root != root => self.import_lead(it),
-            _ if is_own => Lead::In(Step::Scope(module)),
+            _ if is_own => match self.conditions_of(module, root) {
+                0 => Lead::In(Step::Scope(module)),
+                1 => Lead::Wrong(BY_MODULE),
+                _ => Lead::Doubtful,
+            },
             _ => self.free_lead(module, root),
         }
     }

@@ -172,18 +172,21 @@ impl<'a> Scopes<'a> {
             return words;
         };
         let rest = behind_one(words);
-        let has_path = self.before.has_path;
+        let before = self.before;
+        let file = self.file_at(scope);
         self.before = NOTHING_BEFORE;
+        if before.is_conditional {
+            self.add_scope(Kind::Conditional, name, file, scope);
+        }
         if let Some((inside, after)) = group(rest) {
             self.add_inner(Kind::Module, name, scope, inside);
             return after;
         }
-        let kind = if has_path {
+        let kind = if before.has_path {
             Kind::Misnamed
         } else {
             Kind::Outline
         };
-        let file = self.file_at(scope);
         self.add_scope(kind, name, file, scope);
         rest
     }

@@ -15,6 +15,10 @@ use declaration_parser::faults::Faults;
 const AT_TIMES: &str =
     "` stands under a condition, without which it is another: call it otherwise, or leave that one out";
 
+/// What is said of a name in a module that is under a condition, if its path may lead to a crate.
+pub(super) const BY_MODULE: &str =
+    "` is in a module that stands under a condition: write `self::` or `crate::` before its path";
+
 /// What is said of a name that comes from elsewhere.
 pub(super) const BROUGHT_IN: &str =
     "` is brought in by a `use`: name the file of its declaration too, or write the type that is on the wire";
