@@ -158,14 +158,18 @@ impl<'a> Scopes<'a> {
             )
     }
 
+    /// Whether the first name of a `use` is a module's own, or a crate's of these files.
+    fn is_inside(&self, it: &Import<'a>) -> bool {
+        let root = it.path.first(it.last);
+        let is_own = !it.path.is_absolute && self.is_rooted(self.module_of(it.scope), root);
+        is_own || self.has_crate(root)
+    }
+
     /// Whether a `use` may bring in a module of this name from outside.
     fn is_brought(&self, name: &str) -> bool {
         for it in &self.imports {
-            let root = it.path.first(it.last);
-            let is_own = !it.path.is_absolute && self.is_rooted(self.module_of(it.scope), root);
-            let is_inside = is_own || self.has_crate(root);
-            let is_named = it.name == name && (it.last != name || !is_inside);
-            if is_named || (it.is_glob && it.is_public && !is_inside) {
+            let is_it = (it.is_glob && it.is_public) || it.name == name;
+            if is_it && (!self.is_inside(it) || (!it.is_glob && it.last != name)) {
                 return true;
             }
         }
@@ -209,13 +213,10 @@ impl<'a> Scopes<'a> {
 
     /// Where a name leads that a `use` brings in, as the first of a path: inside only if its module is there.
     fn import_lead(&self, it: &Import<'a>) -> Lead<'a> {
-        let module = self.module_of(it.scope);
-        let root = it.path.first(it.last);
-        let is_own = !it.path.is_absolute && self.is_rooted(module, root);
-        if !is_own && !self.has_crate(root) {
-            return self.crate_lead(root);
+        if !self.is_inside(it) {
+            return self.crate_lead(it.path.first(it.last));
         }
-        match self.place_lead(module, it.path) {
+        match self.place_lead(self.module_of(it.scope), it.path) {
             Lead::In(step) if it.path.before == it.last || self.is_child_in(step, it.last) =>
                 Lead::In(step),
             Lead::In(_) if self.has_type(Step::All, it.last) => Lead::Type,
