@@ -17,6 +17,8 @@ pub enum Kind {
     /// A module with a file of its own, at its name, and one whose file has another name.
     Outline,
     Misnamed,
+    /// Beside a module: that it stands under a condition.
+    Conditional,
     /// The body of a function, which sees what surrounds it.
     Body,
     /// What belongs to a type or a trait: no name of it is seen.
@@ -211,6 +213,13 @@ impl<'a> Walk<'a> {
         });
     }
 
+    /// Adds a scope in this one, none of whose words are here.
+    fn note(&mut self, kind: Kind, name: &'a str) {
+        let outer = self.scope;
+        self.enter(kind, name, 0);
+        self.scope = outer;
+    }
+
     /// Reads what follows attributes: a call of a macro, words of an item, or what begins one.
     fn read_words(&mut self, item: &mut Item<'a>, words: &'a [Token]) -> &'a [Token] {
         let is_quiet = words.len() > self.quiet;
@@ -314,18 +323,19 @@ impl<'a> Walk<'a> {
     fn read_module(&mut self, item: &mut Item<'a>, words: &'a [Token]) -> &'a [Token] {
         let name = name_at(words).unwrap_or("");
         let rest = behind_first(words);
+        if item.has("cfg") {
+            self.note(Kind::Conditional, name);
+        }
         if group(rest).is_some() {
             self.open(Kind::Module, name, rest);
             return behind_first(rest);
         }
-        let outer = self.scope;
         let kind = if item.has("path") {
             Kind::Misnamed
         } else {
             Kind::Outline
         };
-        self.enter(kind, name, 0);
-        self.scope = outer;
+        self.note(kind, name);
         rest
     }
 }

@@ -1,1 +1,3 @@
+pub mod Candidates
+pub mod NameRule
 pub mod TypeWords

@@ -1,13 +1,17 @@
 //! The names of files: what each module declares, and what a `use` brings into it.
+mod candidates;
+mod leads;
+mod path;
 mod reading;
 mod rule;
 mod uses;
 
 use crate::known::KNOWN_CRATES;
+pub use candidates::Space;
 use declaration_parser::declaration::Declaration;
 use declaration_parser::items::{Kind, Scope, Walk};
 use declaration_parser::tokens::{Read, Token, is_among};
-pub use rule::{Found, Path, Space};
+pub use rule::{Found, Path};
 use std::alloc::{AllocError, Global};
 use std::collections::BTreeMap;
 
@@ -108,20 +112,6 @@ fn module_of_file(file: &str) -> &str {
         return last_of(folder);
     }
     stem
-}
-
-/// Whether two names are one, if a crate's has `_` for the `-` of its folder.
-fn is_same_name(name: &str, other: &str) -> bool {
-    if name.len() != other.len() {
-        return false;
-    }
-    for (first, second) in name.chars().zip(other.chars()) {
-        let is_line = first == '-' && second == '_';
-        if first != second && !is_line {
-            return false;
-        }
-    }
-    true
 }
 
 /// Keeps a name.

@@ -1,0 +1,349 @@
+//! Where paths lead: to modules of these files, to what is known, or out of them.
+ghost use Rattle.declarations.specs.Candidates.{candidates, TellsOnly};
+
+use super::candidates::{Only, Space, Step, is_called, is_within, only_of};
+use super::path::Path;
+use super::rule::{BROUGHT_IN, BY_MODULE, RENAMED};
+use super::{Import, Item, Kind, Scopes, is_known_crate};
+
+/// Where a path leads.
+#[derive(Clone, Copy, Drop)]
+pub(super) enum Lead<'a> {
+    /// To modules of these files.
+    In(Step<'a>),
+    /// To what belongs to a type, as a variant does.
+    Type,
+    Known,
+    Outside,
+    Doubtful,
+    /// Not to be followed, for this reason.
+    Wrong(&'static str),
+}
+
+/// Whether a name is that of a module by where it is used.
+fn is_relative(root: &str) -> bool {
+    matches!(root, "crate" | "self" | "super")
+}
+
+impl<'a> Scopes<'a> {
+    /// The candidates of a step.
+    pub(super) fn only(&self, step: Step<'a>, name: &str, space: Space) -> Only<'_, 'a>
+        ensures only { TellsOnly result
+            (candidates self.now.scopes.items step.entry name.now space self.now.items.items) }
+    {
+        only_of(&self.items, &self.scopes, step, name, space)
+    }
+
+    /// Whether a scope is one of a step's.
+    pub(super) fn is_in(&self, scope: usize, step: Step<'a>) -> bool {
+        is_within(&self.scopes, step, scope)
+    }
+
+    /// Whether a scope is in a module, as a body is.
+    pub(super) fn is_inner(&self, scope: usize) -> bool {
+        matches!(self.kind_of(scope), Kind::Body | Kind::Impl)
+    }
+
+    /// The module round a body; of others the scope itself.
+    pub(super) fn module_of(&self, scope: usize) -> usize {
+        let mut at = scope;
+        for _ in 0..self.scopes.len() {
+            if !self.is_inner(at) {
+                break;
+            }
+            at = self.outer_of(at);
+        }
+        at
+    }
+
+    /// Whether a module has one of this name in it.
+    pub(super) fn has_child(&self, module: usize, name: &str) -> bool {
+        for (place, it) in self.scopes.iter().enumerate() {
+            let is_module = matches!(it.kind, Kind::Module | Kind::Outline | Kind::Misnamed);
+            if is_module && it.outer == module && place != module && it.name == name {
+                return true;
+            }
+        }
+        false
+    }
+
+    /// The only module of this name that is written in another.
+    fn child_of(&self, module: usize, name: &str) -> Option<usize> {
+        let mut found = None;
+        for (place, it) in self.scopes.iter().enumerate() {
+            if it.kind == Kind::Module && it.outer == module && it.name == name {
+                if found.is_some() {
+                    return None;
+                }
+                found = Some(place);
+            }
+        }
+        found
+    }
+
+    /// How many modules of this name a module has in it under a condition.
+    fn conditions_of(&self, module: usize, name: &str) -> usize {
+        let mut count: usize = 0;
+        for it in &self.scopes {
+            if it.kind == Kind::Conditional && it.outer == module && it.name == name {
+                count = count.saturating_add(1);
+            }
+        }
+        count
+    }
+
+    /// Whether a module of a step has one of this name in it, under each condition.
+    fn is_child_in(&self, step: Step<'a>, name: &str) -> bool {
+        for place in 0..self.scopes.len() {
+            let is_it = self.is_in(place, step) && self.has_child(place, name);
+            if is_it && self.conditions_of(place, name) == 0 {
+                return true;
+            }
+        }
+        false
+    }
+
+    /// Whether these files have a module of this name, or a crate by its folder.
+    pub fn has_module(&self, name: &str) -> bool {
+        for place in 0..self.scopes.len() {
+            if is_within(&self.scopes, Step::Module(name), place) {
+                return true;
+            }
+        }
+        false
+    }
+
+    /// Whether a file of its name isn't a module's, which an attribute says.
+    fn is_misnamed(&self, name: &str) -> bool {
+        for it in &self.scopes {
+            if it.kind == Kind::Misnamed && it.name == name {
+                return true;
+            }
+        }
+        false
+    }
+
+    /// Whether a crate of these files has this name.
+    fn has_crate(&self, name: &str) -> bool {
+        for it in &self.scopes {
+            if it.kind == Kind::File && is_called(it.name, name) && self.is_root_file(it.file) {
+                return true;
+            }
+        }
+        false
+    }
+
+    /// The import of a module or a crate by this name, if a module has it.
+    fn import_of(&self, module: usize, name: &str) -> Option<&Import<'a>> {
+        for it in &self.imports {
+            if it.name == name && (it.scope == module || it.is_crate) {
+                return Some(it);
+            }
+        }
+        None
+    }
+
+    /// Whether a step has a type of this name.
+    pub(super) fn has_type(&self, step: Step<'a>, name: &str) -> bool {
+        !matches!(self.only(step, name, Space::Types), Only::Nothing)
+    }
+
+    /// Whether the first name of a path is that of a module, or of what the module declares.
+    fn is_rooted(&self, module: usize, root: &str) -> bool {
+        is_relative(root)
+            || self.has_child(module, root)
+            || !matches!(
+                self.only(Step::Scope(module), root, Space::Types),
+                Only::Nothing
+            )
+    }
+
+    /// Whether the first name of a `use` is a module's own, or a crate's of these files.
+    fn is_inside(&self, it: &Import<'a>) -> bool {
+        let root = it.path.first(it.last);
+        let is_own = !it.path.is_absolute && self.is_rooted(self.module_of(it.scope), root);
+        is_own || self.has_crate(root)
+    }
+
+    /// Whether a `use` may bring in a module of this name from outside.
+    fn is_brought(&self, name: &str) -> bool {
+        for it in &self.imports {
+            let is_it = (it.is_glob && it.is_public) || it.name == name;
+            if is_it && (!self.is_inside(it) || (!it.is_glob && it.last != name)) {
+                return true;
+            }
+        }
+        false
+    }
+
+    /// Where a `use` leads; one with `*` to what it brings in.
+    pub(super) fn lead_of(&self, it: &Import<'a>) -> Lead<'a> {
+        self.lead(self.module_of(it.scope), it.path, it.last)
+    }
+
+    /// Where a path of a module leads.
+    pub(super) fn lead(&self, module: usize, path: Path<'a>, last: &'a str) -> Lead<'a> {
+        let root = path.first(last);
+        let lead = if path.is_absolute {
+            self.crate_lead(root)
+        } else {
+            self.root_lead(module, root)
+        };
+        match lead {
+            Lead::In(_) if path.count > 0 => self.place_lead(module, path),
+            lead => lead,
+        }
+    }
+
+    /// Where the first name of a path leads: a module's own before those that a `use` brings in, before a crate's.
+    fn root_lead(&self, module: usize, root: &'a str) -> Lead<'a> {
+        let is_own = self.is_rooted(module, root);
+        match self.import_of(module, root) {
+            Some(it) if it.is_conditional && !it.is_crate => Lead::Doubtful,
+            Some(it) if is_own && it.path.before != root => Lead::Doubtful,
+            Some(it) if !is_own && it.path.root != root => self.import_lead(it),
+            _ if is_own => match self.conditions_of(module, root) {
+                0 => Lead::In(Step::Scope(module)),
+                1 => Lead::Wrong(BY_MODULE),
+                _ => Lead::Doubtful,
+            },
+            _ => self.free_lead(module, root),
+        }
+    }
+
+    /// Where a name leads that a `use` brings in, as the first of a path: inside only if its module is there.
+    fn import_lead(&self, it: &Import<'a>) -> Lead<'a> {
+        if !self.is_inside(it) {
+            return self.crate_lead(it.path.first(it.last));
+        }
+        match self.place_lead(self.module_of(it.scope), it.path) {
+            Lead::In(step) if it.path.before == it.last || self.is_child_in(step, it.last) =>
+                Lead::In(step),
+            Lead::In(_) if self.has_type(Step::All, it.last) => Lead::Type,
+            _ => Lead::Doubtful,
+        }
+    }
+
+    /// Where a first name leads that a module neither declares nor brings in by name.
+    fn free_lead(&self, module: usize, root: &'a str) -> Lead<'a> {
+        let is_module = self.has_star(module) && self.has_module(root);
+        match self.crate_lead(root) {
+            Lead::Known if is_module => Lead::Doubtful,
+            Lead::Outside if is_module && self.is_by_star(module, root) => Lead::In(Step::Scope(
+                module,
+            )),
+            lead => lead,
+        }
+    }
+
+    /// Whether a `*` of a module leads to one that has a module of this name in it.
+    fn is_by_star(&self, module: usize, name: &str) -> bool {
+        for it in &self.imports {
+            if it.is_glob
+                && it.scope == module
+                && self.is_rooted(module, it.path.root)
+                && let Lead::In(step) = self.place_lead(module, it.path)
+                && self.is_child_in(step, name)
+            {
+                return true;
+            }
+        }
+        false
+    }
+
+    /// Where the name of a crate leads.
+    fn crate_lead(&self, root: &'a str) -> Lead<'a> {
+        if self.has_crate(root) {
+            Lead::In(Step::Module(root))
+        } else if is_known_crate(root) {
+            Lead::Known
+        } else {
+            Lead::Outside
+        }
+    }
+
+    /// Where a path leads whose first name is one of these files.
+    fn place_lead(&self, module: usize, path: Path<'a>) -> Lead<'a> {
+        let scope = match path.before {
+            "" | "self" => Some(module),
+            "crate" => self.root_of(module),
+            "super" => self.above(module, path.ups),
+            _ => return self.named_lead(module, path),
+        };
+        match scope {
+            Some(scope) => Lead::In(Step::Scope(scope)),
+            None => Lead::Outside,
+        }
+    }
+
+    /// Where a path leads by the name of its last module: to its only child of that name, or to those
+    /// of that name, unless a `use` may bring in another.
+    fn named_lead(&self, module: usize, path: Path<'a>) -> Lead<'a> {
+        let at = path.before;
+        let is_first = path.count == 1 && !path.is_absolute;
+        if self.is_misnamed(at) {
+            return Lead::Wrong(BROUGHT_IN);
+        }
+        match self.import_of(module, at) {
+            Some(it) if is_first && !is_called(it.last, at) => return Lead::Wrong(RENAMED),
+            None if is_first => {
+                if let Some(child) = self.child_of(module, at) {
+                    return Lead::In(Step::Scope(child));
+                }
+            }
+            _ => {}
+        }
+        let own = if is_first {
+            Step::Scope(module)
+        } else {
+            Step::All
+        };
+        if self.has_module(at) {
+            if is_first || !self.is_brought(at) {
+                Lead::In(Step::Module(at))
+            } else {
+                Lead::Doubtful
+            }
+        } else if self.has_type(own, at) {
+            Lead::Type
+        } else {
+            Lead::Outside
+        }
+    }
+
+    /// Whether a first name leads out of the files.
+    pub fn is_foreign(&self, scope: usize, root: &'a str) -> bool {
+        let mut path = Path::new();
+        path.go(root);
+        let lead = self.lead(self.module_of(scope), path, "");
+        matches!(lead, Lead::Known | Lead::Outside)
+    }
+
+    /// The module so many round another, if these files have it.
+    fn above(&self, module: usize, ups: usize) -> Option<usize> {
+        let mut at = module;
+        for _ in 0..ups {
+            at = if self.kind_of(at) == Kind::File {
+                self.parent_of(at)?
+            } else {
+                self.outer_of(at)
+            };
+        }
+        Some(at)
+    }
+
+    /// The only module that names a file as the one of a module in it.
+    fn parent_of(&self, root: usize) -> Option<usize> {
+        let own = self.module_name(root);
+        let mut found = None;
+        for it in &self.scopes {
+            if it.kind == Kind::Outline && it.name == own && it.outer != root {
+                if found.is_some() {
+                    return None;
+                }
+                found = Some(it.outer);
+            }
+        }
+        found
+    }
+}
