@@ -6,6 +6,7 @@
 #![tactic(auto)]
 
 pub mod attributes;
+pub mod cursor;
 pub mod declaration;
 pub mod faults;
 mod head;
