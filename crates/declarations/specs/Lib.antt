@@ -1,1 +1,2 @@
+pub mod KnownNodes
 pub mod TypeWords
