@@ -1,3 +1,4 @@
 pub mod Candidates
+pub mod KnownNodes
 pub mod NameRule
 pub mod TypeWords

@@ -1,20 +1,7 @@
 -- Which words stand for types that hold no other.
 use Rattle.std.specs.Prelude.{◌≡◌, ◌⊎◌, ℕ, List, codes}
-use Rattle.schema_table.specs.declared.integer.IntegerType.{IntegerType}
-use Rattle.schema_table.specs.declared.integer.IntegerType.TheVariants as types
 use Rattle.schema_table.specs.declared.node.Node.{Node}
 use Rattle.schema_table.specs.declared.node.Node.TheVariants as node
-
--- the word of an integer type of 16 bits or more
-abbrev pub IsIntegerWord : IntegerType → List ℕ → Type 0
-IsIntegerWord types.U16 word = word ≡ codes "u16"
-IsIntegerWord types.U32 word = word ≡ codes "u32"
-IsIntegerWord types.U64 word = word ≡ codes "u64"
-IsIntegerWord types.U128 word = word ≡ codes "u128"
-IsIntegerWord types.I16 word = word ≡ codes "i16"
-IsIntegerWord types.I32 word = word ≡ codes "i32"
-IsIntegerWord types.I64 word = word ≡ codes "i64"
-IsIntegerWord types.I128 word = word ≡ codes "i128"
 
 -- a word of the node's type
 abbrev pub IsWordOf : Node → List ℕ → Type 0

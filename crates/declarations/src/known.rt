@@ -1,6 +1,6 @@
 //! The types that are known by their words, and their nodes.
-ghost use Rattle.std.specs.Prelude.{ℕ, List, IfSome};
-ghost use Rattle.declarations.specs.TypeWords.{IsIntegerWord, IsWordOf};
+ghost use Rattle.std.specs.Prelude.{IfSome};
+ghost use Rattle.declarations.specs.TypeWords.{IsWordOf};
 
 use declaration_parser::tokens::is_among;
 use schema_table::{IntegerType, Node};
@@ -26,127 +26,112 @@ const PRIMITIVE: &[&str] = &[
     "u32", "u64", "u128", "usize",
 ];
 
-/// How a known type holds others.
+/// What a known type makes of what is in `<` and `>` after its name: `K` and `V`, `T` or nothing, and a length.
 #[derive(Clone, Copy, PartialEq, Eq, Drop)]
 pub enum KnownForm {
     /// What is in it is sent as it is.
     Inner,
     Option,
-    /// A list; with a length after the type one of at most so many.
+    /// A list, of `u8` a buffer; one of at most so many, if a length follows.
     List,
-    Set,
-    ListUpTo,
-    /// The same, if a kind is between the type and the length.
+    /// The same, if a kind and a length follow.
     Heap,
+    /// A list of at most so many.
+    ListUpTo,
+    /// A list, also of `u8`.
+    Set,
     Outcome,
     Map,
     MapUpTo,
     TextUpTo,
+    /// Bytes of a length that is sent.
+    Bytes,
     /// An integer's bytes in this order.
     Little,
     Big,
-    /// Bytes of a length that is sent.
-    Bytes,
     Phantom,
 }
 
-/// The known types that hold others, or a length.
-const FORMS: &[(&str, KnownForm)] = &[
-    ("Arc", KnownForm::Inner),
-    ("ArrayString", KnownForm::TextUpTo),
-    ("ArrayVec", KnownForm::ListUpTo),
-    ("BE", KnownForm::Big),
-    ("BTreeMap", KnownForm::Map),
-    ("BTreeSet", KnownForm::List),
-    ("BinaryHeap", KnownForm::Heap),
-    ("Box", KnownForm::Inner),
-    ("ByteArray", KnownForm::Bytes),
-    ("Cell", KnownForm::Inner),
-    ("Cow", KnownForm::Inner),
-    ("Deque", KnownForm::ListUpTo),
-    ("FnvIndexMap", KnownForm::MapUpTo),
-    ("FnvIndexSet", KnownForm::ListUpTo),
-    ("HashMap", KnownForm::Map),
-    ("HashSet", KnownForm::Set),
-    ("LE", KnownForm::Little),
-    ("LinearMap", KnownForm::MapUpTo),
-    ("LinkedList", KnownForm::List),
-    ("Mutex", KnownForm::Inner),
+/// The known types that hold others, or a length: their names, and their form.
+const ROWS: &[(&str, KnownForm)] = &[
+    ("Arc Box Cell Cow Mutex Rc RefCell", KnownForm::Inner),
+    ("Reverse RwLock Saturating Wrapping", KnownForm::Inner),
     ("Option", KnownForm::Option),
-    ("PhantomData", KnownForm::Phantom),
-    ("Rc", KnownForm::Inner),
-    ("RefCell", KnownForm::Inner),
+    ("BTreeSet LinkedList Vec VecDeque", KnownForm::List),
+    ("BinaryHeap", KnownForm::Heap),
+    ("ArrayVec Deque FnvIndexSet", KnownForm::ListUpTo),
+    ("HashSet", KnownForm::Set),
     ("Result", KnownForm::Outcome),
-    ("Reverse", KnownForm::Inner),
-    ("RwLock", KnownForm::Inner),
-    ("Saturating", KnownForm::Inner),
-    ("Vec", KnownForm::List),
-    ("VecDeque", KnownForm::List),
-    ("Wrapping", KnownForm::Inner),
+    ("BTreeMap HashMap", KnownForm::Map),
+    ("FnvIndexMap LinearMap", KnownForm::MapUpTo),
+    ("ArrayString String", KnownForm::TextUpTo),
+    ("ByteArray", KnownForm::Bytes),
+    ("LE", KnownForm::Little),
+    ("BE", KnownForm::Big),
+    ("PhantomData", KnownForm::Phantom),
 ];
 
 /// Types that aren't read, and as what they are sent.
-pub const SENT_AS: &[(&str, &str)] = &[
+const SENT_AS: &[(&str, &str)] = &[
     ("AtomicBool", "bool"),
-    ("AtomicI16", "i16"),
-    ("AtomicI32", "i32"),
-    ("AtomicI64", "i64"),
-    ("AtomicI8", "i8"),
-    ("AtomicU16", "u16"),
-    ("AtomicU32", "u32"),
-    ("AtomicU64", "u64"),
-    ("AtomicU8", "u8"),
+    ("AtomicI8 NonZeroI8", "i8"),
+    ("AtomicI16 NonZeroI16", "i16"),
+    ("AtomicI32 NonZeroI32", "i32"),
+    ("AtomicI64 NonZeroI64", "i64"),
+    ("NonZeroI128", "i128"),
+    ("AtomicU8 NonZeroU8", "u8"),
+    ("AtomicU16 NonZeroU16", "u16"),
+    ("AtomicU32 NonZeroU32", "u32"),
+    ("AtomicU64 NonZeroU64", "u64"),
+    ("NonZeroU128", "u128"),
+    ("NonZero", "the integer in it"),
     (
         "Bound",
         "enum Bound<T> { Unbounded, Included(T), Excluded(T) }",
     ),
     ("CStr", "&'a [u8]"),
     ("CString", "Vec<u8>"),
-    ("Duration", "(u64, u32)"),
+    ("Duration SystemTime", "(u64, u32)"),
     ("IpAddr", "enum IpAddr { V4([u8; 4]), V6([u8; 16]) }"),
     ("Ipv4Addr", "[u8; 4]"),
     ("Ipv6Addr", "[u8; 16]"),
-    ("NonZero", "the integer in it"),
-    ("NonZeroI128", "i128"),
-    ("NonZeroI16", "i16"),
-    ("NonZeroI32", "i32"),
-    ("NonZeroI64", "i64"),
-    ("NonZeroI8", "i8"),
-    ("NonZeroU128", "u128"),
-    ("NonZeroU16", "u16"),
-    ("NonZeroU32", "u32"),
-    ("NonZeroU64", "u64"),
-    ("NonZeroU8", "u8"),
     (
         "OsString",
         "enum OsString { Unix(Vec<u8>), Windows(Vec<u16>) }",
     ),
     ("Path", "&'a str"),
     ("PathBuf", "String"),
-    ("Range", "(T, T)"),
-    ("RangeFrom", "(T,)"),
-    ("RangeInclusive", "(T, T)"),
-    ("RangeTo", "(T,)"),
+    ("Range RangeInclusive", "(T, T)"),
+    ("RangeFrom RangeTo", "(T,)"),
     (
         "SocketAddr",
         "enum SocketAddr { V4(([u8; 4], u16)), V6(([u8; 16], u16)) }",
     ),
     ("SocketAddrV4", "([u8; 4], u16)"),
     ("SocketAddrV6", "([u8; 16], u16)"),
-    ("SystemTime", "(u64, u32)"),
 ];
+
+/// Whether a text with blanks between names has this name.
+fn has_name(names: &str, word: &str) -> bool {
+    names.split(' ').any(|name| name == word)
+}
 
 /// The node of a type that holds no other, by its word.
 pub fn plain_node(word: &str) -> Option<Node>
     ensures { IfSome result (λ node. IsWordOf node word.now) }
 {
-    if let Some(of) = integer_type(word) {
-        return Some(integer_node(of));
-    }
     Some(match word {
         "bool" => Node::Bool,
         "u8" => Node::U8,
         "i8" => Node::I8,
+        "u16" => Node::U16,
+        "u32" => Node::U32,
+        "u64" => Node::U64,
+        "u128" => Node::U128,
+        "i16" => Node::I16,
+        "i32" => Node::I32,
+        "i64" => Node::I64,
+        "i128" => Node::I128,
         "usize" => Node::U64,
         "isize" => Node::I64,
         "char" => Node::Char,
@@ -158,10 +143,10 @@ pub fn plain_node(word: &str) -> Option<Node>
     })
 }
 
-/// How the known type of this name holds others, if it does.
+/// The form of the known type of this name, if it holds others or a length.
 pub fn form_of(word: &str) -> Option<KnownForm> {
-    for (name, form) in FORMS {
-        if *name == word {
+    for (names, form) in ROWS {
+        if has_name(names, word) {
             return Some(*form);
         }
     }
@@ -185,53 +170,12 @@ pub fn is_known(word: &str) -> bool {
 
 /// As what a type is sent that isn't read, if that is known.
 pub fn sent_as(word: &str) -> Option<&'static str> {
-    for (name, sent) in SENT_AS {
-        if *name == word {
+    for (names, sent) in SENT_AS {
+        if has_name(names, word) {
             return Some(*sent);
         }
     }
     None
-}
-
-/// An integer type that may be sent as its bytes, by its word.
-pub fn integer_type(word: &str) -> Option<IntegerType>
-    ensures { IfSome result (λ of. IsIntegerWord of word.now) }
-{
-    Some(match word {
-        "u16" => IntegerType::U16,
-        "u32" => IntegerType::U32,
-        "u64" => IntegerType::U64,
-        "u128" => IntegerType::U128,
-        "i16" => IntegerType::I16,
-        "i32" => IntegerType::I32,
-        "i64" => IntegerType::I64,
-        "i128" => IntegerType::I128,
-        _ => return None,
-    })
-}
-
-/// The node of such a type.
-fn integer_node(of: IntegerType) -> Node
-    ensures { (word : List ℕ) → IsIntegerWord of word → IsWordOf result word }
-{
-    match of {
-        IntegerType::U16 => Node::U16,
-        IntegerType::U32 => Node::U32,
-        IntegerType::U64 => Node::U64,
-        IntegerType::U128 => Node::U128,
-        IntegerType::I16 => Node::I16,
-        IntegerType::I32 => Node::I32,
-        IntegerType::I64 => Node::I64,
-        IntegerType::I128 => Node::I128,
-    }
-}
-
-/// The node of a list of a type; of bytes it is a buffer.
-pub fn list_node(is_byte: bool, element: usize) -> Node {
-    if is_byte {
-        return Node::Bytes;
-    }
-    Node::List(element)
 }
 
 /// The integer type of a node that writes one as a varint.

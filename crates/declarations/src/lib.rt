@@ -7,7 +7,6 @@
 
 mod builder;
 mod known;
-mod literals;
 mod names;
 mod near;
 mod numbers;

@@ -1,6 +1,6 @@
-//! Numbers of a type, and what is computed of them.
+//! Numbers as Rust writes them, their types, and what is computed of them.
 use declaration_parser::attributes::first_word;
-use declaration_parser::tokens::Token;
+use declaration_parser::tokens::{Token, first_letter};
 
 /// What the types of numbers have at most, and how many bits they have. A `usize` has 32 bits on most devices.
 const OF_NUMBERS: &[(&str, u64, u64)] = &[
@@ -21,64 +21,14 @@ pub struct Number {
     pub most: u64,
 }
 
-/// What is between two numbers.
-#[derive(Clone, Copy, PartialEq, Eq, Drop)]
-pub enum Operator {
-    Left,
-    Right,
-    Plus,
-    Minus,
-    Times,
-    By,
-    Rest,
-}
-
-/// What a type of numbers has at most.
-pub fn greatest(word: &str) -> Option<u64> {
-    for (name, most, _) in OF_NUMBERS {
+/// What a type of numbers has at most, and how many bits: 0 if devices differ.
+pub fn width_of(word: &str) -> Option<(u64, u64)> {
+    for (name, most, bits) in OF_NUMBERS {
         if *name == word {
-            return Some(*most);
+            return Some((*most, *bits));
         }
     }
     None
-}
-
-/// What a type of numbers has under this name, if that is the same on all devices.
-pub fn of_type(word: &str, name: &str) -> Option<Number> {
-    for (known, most, bits) in OF_NUMBERS {
-        if *known == word && *bits > 0 {
-            return match name {
-                "MAX" => Some(Number {
-                    value: *most,
-                    most: *most,
-                }),
-                "BITS" => Some(Number {
-                    value: *bits,
-                    most: 0xFFFF_FFFF,
-                }),
-                _ => None,
-            };
-        }
-    }
-    None
-}
-
-/// A number times two, so many times.
-fn doubled(number: u64, times: u64) -> Option<u64> {
-    let mut doubled = number;
-    for _ in 0..times.min(64) {
-        doubled = doubled.checked_mul(2)?;
-    }
-    Some(doubled)
-}
-
-/// A number halved so many times. What shifts all bits out isn't computed, as Rust has it.
-fn halved(number: u64, times: u64) -> Option<u64> {
-    if times < 64 {
-        Some(number >> times)
-    } else {
-        None
-    }
 }
 
 impl Number {
@@ -94,50 +44,68 @@ impl Number {
     }
 }
 
-impl Operator {
-    /// The operator of this level at the start of words, and the words after it: shifts have 3, sums 2, products 1.
-    pub fn at(words: &[Token], level: u32) -> Option<(Operator, &[Token])> {
-        let [first, rest @ ..] = words else {
-            return None;
-        };
-        let operator = match (level, first.text.as_str()) {
-            (3, "<") => return Operator::shift(Operator::Left, "<", rest),
-            (3, ">") => return Operator::shift(Operator::Right, ">", rest),
-            (2, "+") => Operator::Plus,
-            (2, "-") => Operator::Minus,
-            (1, "*") => Operator::Times,
-            (1, "/") => Operator::By,
-            (1, "%") => Operator::Rest,
-            _ => return None,
-        };
-        Some((operator, rest))
-    }
-
-    /// A shift, whose second word is next.
-    fn shift<'a>(self, word: &str, words: &'a [Token]) -> Option<(Operator, &'a [Token])> {
-        if first_word(words) != word {
-            return None;
+/// The operator of a level at the start of words, and the words after it: shifts have 3, sums 2, products 1.
+pub fn operator_at(words: &[Token], level: u32) -> Option<(char, &[Token])> {
+    let (first, rest) = words.split_first()?;
+    let operator = first_letter(first.text.as_str())?;
+    match (level, operator) {
+        (2, '+' | '-') | (1, '*' | '/' | '%') => Some((operator, rest)),
+        (3, '<' | '>') if first_word(rest) == first.text.as_str() => {
+            let (_, rest) = rest.split_first()?;
+            Some((operator, rest))
         }
-        let (_, rest) = words.split_first()?;
-        Some((self, rest))
+        _ => None,
     }
+}
 
-    /// What it makes of two numbers, if their type has that. Of a shift the second has a type of its own.
-    pub fn of_two(self, first: Number, second: Number) -> Option<Number> {
-        let most = match self {
-            Operator::Left | Operator::Right => first.most,
-            _ => first.most.min(second.most),
-        };
-        let value = match self {
-            Operator::Left => doubled(first.value, second.value)?,
-            Operator::Right => halved(first.value, second.value)?,
-            Operator::Plus => first.value.checked_add(second.value)?,
-            Operator::Minus => first.value.checked_sub(second.value)?,
-            Operator::Times => first.value.checked_mul(second.value)?,
-            Operator::By if second.value > 0 => first.value / second.value,
-            Operator::Rest if second.value > 0 => first.value % second.value,
-            _ => return None,
-        };
-        Number { value, most }.within(most)
+/// Two to the power of so much.
+fn power_of_two(times: u64) -> Option<u64> {
+    1u64.checked_shl(u32::try_from(times).ok()?)
+}
+
+/// What an operator makes of two numbers, if their type has that. Of a shift the second has a type of its own. What shifts all
+/// bits out isn't computed, as Rust has it.
+pub fn computed_of(operator: char, first: Number, second: Number) -> Option<Number> {
+    let most = match operator {
+        '<' | '>' => first.most,
+        _ => first.most.min(second.most),
+    };
+    let value = match operator {
+        '<' => first.value.checked_mul(power_of_two(second.value)?)?,
+        '>' => first.value.checked_div(power_of_two(second.value)?)?,
+        '+' => first.value.checked_add(second.value)?,
+        '-' => first.value.checked_sub(second.value)?,
+        '*' => first.value.checked_mul(second.value)?,
+        '/' => first.value.checked_div(second.value)?,
+        _ => first.value.checked_rem(second.value)?,
+    };
+    Number { value, most }.within(most)
+}
+
+/// What the word before the digits of a number says: their radix, and how many letters it has.
+fn radix_of(word: &str) -> (u64, usize) {
+    match word.get(..2) {
+        Some("0x") => (16, 2),
+        Some("0b") => (2, 2),
+        Some("0o") => (8, 2),
+        _ => (10, 0),
     }
+}
+
+/// A number by its digits, as Rust writes it, and the type that follows them, which may be left out.
+pub fn literal(word: &str) -> Option<(u64, &str)> {
+    let (radix, front) = radix_of(word);
+    let mut length = front;
+    let mut number: Option<u64> = None;
+    for character in word.get(front..)?.chars() {
+        if character != '_' {
+            let digit = u64::from(character.to_digit(16).unwrap_or(16));
+            if digit >= radix {
+                break;
+            }
+            number = Some(number.unwrap_or(0).checked_mul(radix)?.checked_add(digit)?);
+        }
+        length = length.saturating_add(1);
+    }
+    Some((number?, word.get(length..)?))
 }

@@ -1,6 +1,5 @@
 //! Paths among the words of types and lengths.
 use crate::names::Path;
-use declaration_parser::attributes::first_word;
 use declaration_parser::parser::plain_name;
 use declaration_parser::tokens::{Token, first_letter};
 
@@ -21,43 +20,28 @@ fn is_name(word: &str) -> bool {
     }
 }
 
-/// What follows `::`, if words begin with it.
-fn behind_colons(words: &[Token]) -> Option<&[Token]> {
-    match words {
-        [first, second, rest @ ..] if first.text.as_str() == ":" && second.text.as_str() == ":" =>
-            Some(rest),
-        _ => None,
-    }
-}
-
 /// The path at the start of words.
 pub fn path_at(words: &[Token]) -> PathAt<'_> {
     let mut path = Path::new();
     let mut last = "";
     let mut rest = words;
     for _ in 0..words.len() {
-        if let Some(behind) = behind_colons(rest) {
-            if last.is_empty() {
-                path.begin();
-            } else {
-                path.go(last);
+        match rest {
+            [one, two, behind @ ..] if one.text.as_str() == ":" && two.text.as_str() == ":" => {
+                if last.is_empty() {
+                    path.begin();
+                } else {
+                    path.go(last);
+                }
+                last = "";
+                rest = behind;
             }
-            last = "";
-            rest = behind;
-        } else if last.is_empty() && is_name(first_word(rest)) {
-            last = plain_name(first_word(rest));
-            rest = behind_first(rest);
-        } else {
-            break;
+            [name, behind @ ..] if last.is_empty() && is_name(name.text.as_str()) => {
+                last = plain_name(name.text.as_str());
+                rest = behind;
+            }
+            _ => break,
         }
     }
     PathAt { path, last, rest }
-}
-
-/// The words after the first.
-fn behind_first(words: &[Token]) -> &[Token] {
-    match words {
-        [_, rest @ ..] => rest,
-        _ => &[],
-    }
 }

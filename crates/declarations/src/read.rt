@@ -7,8 +7,9 @@ use crate::{Named, Schema};
 use declaration_parser::declaration::Declaration;
 use declaration_parser::parser::Purpose;
 use declaration_parser::reading::declarations;
-use declaration_parser::tokens::{Read, Token, tokens_of};
+use declaration_parser::tokens::{Read, tokens_of};
 use std::alloc::{AllocError, Global};
+use std::collections::BTreeMap;
 
 /// What is said if no file is named.
 const NO_FILE: &str = "no file of declarations is named\n";
@@ -57,71 +58,65 @@ pub enum Outcome {
     Wrong(String),
 }
 
-/// The names of declared types without parameters, one for each.
-fn named(alloc: Global, declared: &[Declaration<'_>]) -> Result<Vec<Named>, AllocError> {
-    let mut types = Vec::new(alloc);
-    for it in declared {
-        if !has_type_parameters(it) {
-            let name = String::from_str(alloc, it.name)?;
-            types.push(Named {
-                name,
-                line: it.line,
-            })?;
+/// What files declare.
+#[derive(Drop)]
+pub struct Declared<'a> {
+    pub all: Vec<Declaration<'a>>,
+    pub names: Scopes<'a>,
+    /// The scope of words that are in no file, but asked for.
+    pub asked: usize,
+    /// Of each whether another of its name precedes it in its module.
+    twice: Vec<bool>,
+    /// What is wrong with the files, a line each.
+    faults: String,
+}
+
+impl<'a> Declared<'a> {
+    /// What these files declare.
+    fn new(alloc: Global, files: &'a [Read]) -> Result<Declared<'a>, AllocError> {
+        let (all, faults) = declarations(alloc, Purpose::Schemas, files)?;
+        let mut names = Scopes::new(alloc, files, &all)?;
+        let mut met = BTreeMap::new(alloc);
+        let mut twice = Vec::new(alloc);
+        for (index, it) in all.iter().enumerate() {
+            match met.insert((names.scope_of(index), it.name), ()) {
+                Ok(before) => twice.push(before.is_some())?,
+                Err(_) => return Err(AllocError),
+            }
         }
+        let asked = names.add_outside();
+        Ok(Declared {
+            all,
+            names,
+            asked,
+            twice,
+            faults,
+        })
     }
-    Ok(types)
+
+    /// Whether another declaration of the same module has this one's name, and precedes it.
+    pub fn is_twice(&self, index: usize) -> bool {
+        self.twice.get(index).copied().unwrap_or(false)
+    }
 }
 
-/// All that is wrong with declarations themselves.
-fn wrong_of(faults: String, declared: &[Declaration<'_>]) -> Result<String, AllocError> {
-    let mut lines = faults;
-    for it in declared {
-        lines.push_str(it.wrong.as_str())?;
+/// The tokens of each file.
+fn tokens_in(alloc: Global, sources: &[Source]) -> Result<Vec<Read>, AllocError> {
+    let mut files = Vec::new(alloc);
+    for source in sources {
+        let read = tokens_of(alloc, source.file.as_str(), source.text.as_str())?;
+        files.push(read)?;
     }
-    Ok(lines)
+    Ok(files)
 }
 
-/// The table of all declared types without parameters, in their order.
-fn table_of<'a>(
-    alloc: Global,
-    declared: &[Declaration<'a>],
-    scopes: &Scopes<'a>,
-    asked: usize,
-) -> Result<Schema, Error>
-    ensures named { IfOk result (λ s. length s.names.items ≡ length s.nodes.items) }
-    ensures declared { IfOk result (λ s. length s.types.items ≤ length s.nodes.items) }
-{
-    let mut builder = Builder::new(alloc, declared, scopes, asked);
-    builder.owe_all();
-    builder.make_owed();
-    let (nodes, names) = builder.finished()?;
-    let types = named(alloc, declared)?;
-    if types.len() > nodes.len() {
-        return Err(Error::OutOfMemory);
+/// Notes what is wrong with declarations themselves.
+fn refuse_wrong(declared: &Declared<'_>, faults: &mut String) -> Result<(), AllocError> {
+    faults.push_str(declared.faults.as_str())?;
+    for it in &declared.all {
+        faults.push_str(it.wrong.as_str())?;
     }
-    Ok(Schema {
-        types,
-        nodes,
-        names,
-    })
-}
-
-/// The table of the declarations that these files have.
-fn read_all(alloc: Global, files: &[Read]) -> Result<Schema, Error>
-    ensures named { IfOk result (λ s. length s.names.items ≡ length s.nodes.items) }
-    ensures declared { IfOk result (λ s. length s.types.items ≤ length s.nodes.items) }
-{
-    if files.is_empty() {
-        return Err(Error::Wrong(String::from_str(alloc, NO_FILE)?));
-    }
-    let (declared, faults) = declarations(alloc, Purpose::Schemas, files)?;
-    let wrong = wrong_of(faults, &declared)?;
-    if !wrong.is_empty() {
-        return Err(Error::Wrong(wrong));
-    }
-    let mut scopes = Scopes::new(alloc, files, &declared)?;
-    let asked = scopes.add_outside();
-    table_of(alloc, &declared, &scopes, asked)
+    Ok(())
 }
 
 /// Returns one table of the marked declarations of a text: those after a line `// message`, or with `Serialize` or
@@ -141,24 +136,6 @@ pub fn read_schema(alloc: Global, text: &str) -> Result<Schema, Error>
     read_all(alloc, &[read])
 }
 
-/// The tokens of each file.
-fn tokens_in(alloc: Global, sources: &[Source]) -> Result<Vec<Read>, AllocError> {
-    let mut files = Vec::new(alloc);
-    for source in sources {
-        let read = tokens_of(alloc, source.file.as_str(), source.text.as_str())?;
-        files.push(read)?;
-    }
-    Ok(files)
-}
-
-/// The tokens of each file, and after them those of words.
-fn tokens_with(alloc: Global, sources: &[Source], words: &str) -> Result<Vec<Read>, AllocError> {
-    let mut files = tokens_in(alloc, sources)?;
-    let read = tokens_of(alloc, "", words)?;
-    files.push(read)?;
-    Ok(files)
-}
-
 /// Returns what [`read_schema`] does, of the declarations of all these files.
 ///
 /// # Errors
@@ -171,30 +148,42 @@ pub fn read_sources(alloc: Global, sources: &[Source]) -> Result<Schema, Error>
     read_all(alloc, &files)
 }
 
-/// The table of the type that words say, which are asked for, and its place there.
-fn table_asked<'a>(
-    alloc: Global,
-    declared: &[Declaration<'a>],
-    scopes: &Scopes<'a>,
-    asked: usize,
-    words: &'a [Token],
-) -> Result<(Schema, usize), Error>
-    ensures named { IfOk result (λ r. length r.0.names.items ≡ length r.0.nodes.items) }
-    ensures within { IfOk result (λ r. r.1 < length r.0.nodes.items) }
+/// The table of all declared types without parameters, in their order.
+fn read_all(alloc: Global, files: &[Read]) -> Result<Schema, Error>
+    ensures named { IfOk result (λ s. length s.names.items ≡ length s.nodes.items) }
+    ensures declared { IfOk result (λ s. length s.types.items ≤ length s.nodes.items) }
 {
-    let mut builder = Builder::new(alloc, declared, scopes, asked);
-    let place = builder.make_asked(words);
-    builder.make_owed();
-    let (nodes, names) = builder.finished()?;
-    if place >= nodes.len() {
+    let mut faults = String::new(alloc);
+    if files.is_empty() {
+        faults.push_str(NO_FILE)?;
+        return Err(Error::Wrong(faults));
+    }
+    let declared = Declared::new(alloc, files)?;
+    refuse_wrong(&declared, &mut faults)?;
+    if !faults.is_empty() {
+        return Err(Error::Wrong(faults));
+    }
+    let mut builder = Builder::new(alloc, &declared);
+    let mut types = Vec::new(alloc);
+    for (index, it) in declared.all.iter().enumerate() {
+        if !has_type_parameters(it) {
+            builder.owe_type(index);
+            let name = String::from_str(alloc, it.name)?;
+            let line = it.line;
+            if types.push(Named { name, line }).is_err() {
+                return Err(Error::OutOfMemory);
+            }
+        }
+    }
+    let made = builder.finished()?;
+    if types.len() > made.nodes.len() {
         return Err(Error::OutOfMemory);
     }
-    let schema = Schema {
-        types: Vec::new(alloc),
-        nodes,
-        names,
-    };
-    Ok((schema, place))
+    Ok(Schema {
+        types,
+        nodes: made.nodes,
+        names: made.names,
+    })
 }
 
 /// Returns the table of a type, given by its words, and its place there.
@@ -210,40 +199,16 @@ pub fn read_type(alloc: Global, sources: &[Source], words: &str) -> Result<(Sche
     ensures named { IfOk result (λ r. length r.0.names.items ≡ length r.0.nodes.items) }
     ensures within { IfOk result (λ r. r.1 < length r.0.nodes.items) }
 {
-    let files = tokens_with(alloc, sources, words)?;
-    let Some((asked_for, files)) = files.split_last() else {
+    let files = tokens_in(alloc, sources)?;
+    let read = tokens_of(alloc, "", words)?;
+    let declared = Declared::new(alloc, &files)?;
+    let mut builder = Builder::new(alloc, &declared);
+    let place = builder.make_asked(&read.tokens);
+    let schema = builder.finished()?;
+    if place >= schema.nodes.len() {
         return Err(Error::OutOfMemory);
-    };
-    let (declared, _) = declarations(alloc, Purpose::Schemas, files)?;
-    let mut scopes = Scopes::new(alloc, files, &declared)?;
-    let asked = scopes.add_outside();
-    table_asked(alloc, &declared, &scopes, asked, &asked_for.tokens)
-}
-
-/// What came of a declared type.
-fn outcome_of<'a>(
-    alloc: Global,
-    declared: &[Declaration<'a>],
-    scopes: &Scopes<'a>,
-    asked: usize,
-    index: usize,
-) -> Result<Outcome, AllocError> {
-    let mut builder = Builder::new(alloc, declared, scopes, asked);
-    let place = builder.owe_type(index);
-    builder.make_owed();
-    match builder.finished() {
-        Ok((nodes, names)) => {
-            let types = Vec::new(alloc);
-            let schema = Schema {
-                types,
-                nodes,
-                names,
-            };
-            Ok(Outcome::Readable(schema, place))
-        }
-        Err(Error::Wrong(lines)) => Ok(Outcome::Wrong(lines)),
-        Err(Error::OutOfMemory) => Err(AllocError),
     }
+    Ok((schema, place))
 }
 
 /// Returns each declared type without parameters, with its table or why it can't be read; and what is wrong with
@@ -257,16 +222,17 @@ pub fn check_sources(
     sources: &[Source],
 ) -> Result<(Vec<CheckedType>, String), Error> {
     let files = tokens_in(alloc, sources)?;
-    let (declared, faults) = declarations(alloc, Purpose::Schemas, &files)?;
-    if declared.is_empty() {
-        return Err(Error::Wrong(faults));
-    }
-    let mut scopes = Scopes::new(alloc, &files, &declared)?;
-    let asked = scopes.add_outside();
-    let mut all = Vec::new(alloc);
-    for (index, it) in declared.iter().enumerate() {
+    let declared = Declared::new(alloc, &files)?;
+    let mut types = Vec::new(alloc);
+    for (index, it) in declared.all.iter().enumerate() {
         if !has_type_parameters(it) {
-            let outcome = outcome_of(alloc, &declared, &scopes, asked, index)?;
+            let mut builder = Builder::new(alloc, &declared);
+            let place = builder.owe_type(index);
+            let outcome = match builder.finished() {
+                Ok(schema) => Outcome::Readable(schema, place),
+                Err(Error::Wrong(lines)) => Outcome::Wrong(lines),
+                Err(Error::OutOfMemory) => return Err(Error::OutOfMemory),
+            };
             let name = String::from_str(alloc, it.name)?;
             let line = it.line;
             let one = CheckedType {
@@ -274,10 +240,13 @@ pub fn check_sources(
                 line,
                 outcome,
             };
-            if all.push(one).is_err() {
+            if types.push(one).is_err() {
                 return Err(Error::OutOfMemory);
             }
         }
     }
-    Ok((all, faults))
+    if declared.all.is_empty() {
+        return Err(Error::Wrong(declared.faults));
+    }
+    Ok((types, declared.faults))
 }

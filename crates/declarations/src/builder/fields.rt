@@ -1,9 +1,8 @@
 //! The nodes of declared types, by their fields and variants.
-use super::{Builder, DEEPEST, Entry};
+use super::{Builder, DEEPEST};
 use crate::Names;
 use crate::known::varint_type;
 use declaration_parser::declaration::{Body, Declaration, Field, Fields, Form, Layout, VariantOf};
-use declaration_parser::tokens::Token;
 use schema_table::Node;
 
 /// What is said of a field that `with` lays out, and whose type it isn't for.
@@ -29,42 +28,56 @@ fn roots_of(layout: Layout) -> &'static [&'static str] {
 }
 
 impl<'a> Builder<'a, '_> {
-    /// The node of a declared type.
+    /// Turns to a declaration.
+    pub(super) fn begin(&mut self, index: usize, it: &Declaration<'a>) {
+        self.turn_to(self.names.scope_of(index));
+        self.index = index;
+        self.words.name = it.name;
+        self.words.variant = "";
+        self.words.field = None;
+    }
+
+    /// Makes the node of a declared type at its place.
     #[cycle(types)]
-    pub(super) fn declaration(&mut self, it: &Declaration<'a>, scope: usize, depth: u32) -> Entry {
-        self.begin(it, scope);
-        match &it.body {
+    pub(super) fn fill(&mut self, it: &Declaration<'a>, place: usize, depth: u32) {
+        let (node, names) = match &it.body {
             Body::Struct(fields) => self.group(fields, depth),
             Body::Enum(variants) => self.choice(variants, depth),
-        }
+        };
+        self.put(place, node, names);
     }
 
     /// A struct of these fields.
     #[cycle(types)]
-    fn group(&mut self, fields: &Fields<'a>, depth: u32) -> Entry {
-        let places = self.places(fields, depth);
-        let names = self.names(fields);
-        Entry {
-            node: Node::Struct(places),
-            names,
+    fn group(&mut self, fields: &Fields<'a>, depth: u32) -> (Node, Names) {
+        let mut places = Vec::new(self.alloc);
+        let mut names = Vec::new(self.alloc);
+        for field in &fields.items {
+            let place = self.field(field, depth);
+            self.words.push(&mut places, place);
+            self.keep_name(&mut names, field.name);
         }
+        let names = match fields.form {
+            Form::Unit => Names::Unit,
+            Form::Tuple if fields.items.len() == 1 && fields.count == 1 => Names::Newtype,
+            Form::Tuple => Names::Tuple,
+            Form::Named => Names::Fields(names),
+        };
+        (Node::Struct(places), names)
     }
 
     /// An enum of these variants.
     #[cycle(types)]
-    fn choice(&mut self, variants: &[VariantOf<'a>], depth: u32) -> Entry {
+    fn choice(&mut self, variants: &[VariantOf<'a>], depth: u32) -> (Node, Names) {
         let mut payloads = Vec::new(self.alloc);
         let mut names = Vec::new(self.alloc);
         for variant in variants {
-            self.at.variant = variant.name;
+            self.words.variant = variant.name;
             let payload = self.payload(&variant.fields, depth);
-            self.keep(&mut payloads, payload);
+            self.words.push(&mut payloads, payload);
             self.keep_name(&mut names, variant.name);
         }
-        Entry {
-            node: Node::Enum(payloads),
-            names: Names::Variants(names),
-        }
+        (Node::Enum(payloads), Names::Variants(names))
     }
 
     /// The place of what a variant holds: of one field without a name its type, else a struct.
@@ -74,49 +87,38 @@ impl<'a> Builder<'a, '_> {
             (Form::Unit, _) => self.add(Node::Struct(Vec::new(self.alloc)), Names::Empty),
             (Form::Tuple, [only]) if fields.count == 1 => self.field(only, depth),
             _ => {
-                let Entry { node, names } = self.group(fields, depth);
+                let (node, names) = self.group(fields, depth);
                 self.add(node, names)
             }
         }
-    }
-
-    /// The places of the types of fields.
-    #[cycle(types)]
-    fn places(&mut self, fields: &Fields<'a>, depth: u32) -> Vec<usize> {
-        let mut places = Vec::new(self.alloc);
-        for field in &fields.items {
-            let place = self.field(field, depth);
-            self.keep(&mut places, place);
-        }
-        places
     }
 
     /// The place of the type of a field.
     #[cycle(types)]
     fn field(&mut self, field: &Field<'a>, depth: u32) -> usize {
         if depth == DEEPEST {
-            self.is_wrong = false;
+            self.words.is_wrong = false;
         }
-        self.at.field = Some((field.place, field.name));
+        self.words.field = Some((field.place, field.name));
         let place = self.whole(field.of, depth);
-        if self.is_wrong || field.layout == Layout::Own {
+        if self.words.is_wrong || field.layout == Layout::Own {
             return place;
         }
         if let [token, ..] = field.of {
-            self.line = token.line;
+            self.words.line = token.line;
         }
         self.laid_out(place, field.layout)
     }
 
     /// The place of a type whose bytes an attribute lays out otherwise.
     fn laid_out(&mut self, place: usize, layout: Layout) -> usize {
-        let of = varint_type(self.nodes.get(place));
         for root in roots_of(layout) {
             if !self.names.is_foreign(self.here, root) {
                 return self.wrong(&[OTHER_CRATE]);
             }
         }
-        match (layout, of, self.nodes.get(place)) {
+        let node = self.nodes.get(place);
+        match (layout, varint_type(node), node) {
             (Layout::Little, Some(of), _) => self.add(Node::LE(of), Names::Nothing),
             (Layout::Big, Some(of), _) => self.add(Node::BE(of), Names::Nothing),
             (Layout::Little | Layout::Big, ..) => self.wrong(&[NO_FIXINT]),
@@ -126,22 +128,6 @@ impl<'a> Builder<'a, '_> {
                 if matches!(self.nodes.get(*inner), Some(Node::Bytes)) => place,
             (Layout::Buffer, ..) => self.wrong(&[NO_BUFFER]),
             _ => self.wrong(&[NO_ARRAY]),
-        }
-    }
-
-    /// What fields are called by.
-    fn names(&mut self, fields: &Fields<'a>) -> Names {
-        match fields.form {
-            Form::Unit => Names::Unit,
-            Form::Tuple if fields.items.len() == 1 && fields.count == 1 => Names::Newtype,
-            Form::Tuple => Names::Tuple,
-            Form::Named => {
-                let mut names = Vec::new(self.alloc);
-                for field in &fields.items {
-                    self.keep_name(&mut names, field.name);
-                }
-                Names::Fields(names)
-            }
         }
     }
 }

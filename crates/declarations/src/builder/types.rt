@@ -1,10 +1,13 @@
 //! The places of types, by their words.
 use super::{Bound, Builder, Given, Made, has_type_parameters};
 use crate::Names;
-use crate::known::{KnownForm, form_of, is_known, plain_node, sent_as};
+use crate::known::{form_of, is_known, plain_node, sent_as};
 use crate::names::{Found, Space, What};
+use crate::near::put_nearest;
 use crate::paths::{PathAt, path_at};
+use declaration_parser::attributes::first_word;
 use declaration_parser::declaration::Declaration;
+use declaration_parser::faults::Faults;
 use declaration_parser::tokens::{Token, is_among, is_lifetime};
 use schema_table::{IntegerType, Node};
 
@@ -30,156 +33,124 @@ const ENDPOINT: &str =
 const HANDED: &str =
     "` isn't declared here, but handed to a macro, which may make it: write its declaration out, in a file of its own";
 
-/// Whether parameters stand for the same.
-fn is_same(first: &[Bound<'_>], second: &[Bound<'_>]) -> bool {
-    if first.len() != second.len() {
-        return false;
-    }
-    for (one, other) in first.iter().zip(second) {
-        if one.given != other.given {
-            return false;
-        }
-    }
-    true
-}
+/// What is said of types that nest too deep, or are too many.
+const TOO_DEEP: &str =
+    "types nest more than 64 deep, or hold themselves by aliases: declare a type for a part";
+
+const TOO_MANY: &str = "the types have more than 100000 parts: read them from fewer files";
+
+const QUALIFIED: &str = "`<..>::` isn't followed here: write the type that it stands for";
+
+const ITSELF: &str =
+    "`Self` isn't followed in a type with parameters: write its name and what they stand for";
 
 impl<'a> Builder<'a, '_> {
     /// The place of the type at the start of the words, which are taken. It may nest in so many words.
     #[cycle(types)]
     pub(super) fn place(&mut self, depth: u32) -> usize {
-        if self.is_wrong {
+        if self.words.is_wrong {
             return 0;
         }
         if depth == 0 {
-            return self.wrong(&[
-                "types nest more than 64 deep, or hold themselves by aliases: declare a type for a part",
-            ]);
+            return self.wrong(&[TOO_DEEP]);
         }
         if self.nodes.len() > MOST_NODES {
-            return self.wrong(&[
-                "the types have more than 100000 parts: read them from fewer files",
-            ]);
+            return self.wrong(&[TOO_MANY]);
         }
-        match self.peek() {
+        match self.words.peek() {
             "&" => {
-                self.step();
-                self.lent();
+                self.words.step();
+                if is_lifetime(self.words.peek()) {
+                    self.words.step();
+                }
+                self.words.take("mut");
                 self.place(depth - 1)
             }
             "(" => {
-                self.step();
+                self.words.step();
                 self.tuple(depth - 1)
             }
             "[" => {
-                self.step();
+                self.words.step();
                 self.array(depth - 1)
             }
-            "<" => self.wrong(&["`<..>::` isn't followed here: write the type that it stands for"]),
+            "<" => self.wrong(&[QUALIFIED]),
             _ => self.named(depth - 1),
         }
-    }
-
-    /// After `&`: takes a lifetime and `mut`, if they are there.
-    fn lent(&mut self) {
-        if is_lifetime(self.peek()) {
-            self.step();
-        }
-        self.take("mut");
     }
 
     /// The place of a type by its name or its path: a parameter, one that the files declare, or one that is known.
     #[cycle(types)]
     fn named(&mut self, depth: u32) -> usize {
-        let at = path_at(self.rest);
-        let word = self.step();
+        let at = path_at(self.words.rest);
+        let word = self.words.step();
         if at.last.is_empty() {
             return self.refuse(word, UNDECLARED);
         }
-        self.rest = at.rest;
-        if at.path.is_empty() {
-            match self.given(at.last) {
-                Some(Given::Type(place)) => return place,
-                Some(Given::Wrong(name, why)) => return self.refuse(name, why),
-                _ => {}
-            }
-            if at.last == "Self" {
-                return self.itself();
-            }
+        self.words.rest = at.rest;
+        let given = if at.path.is_empty() {
+            self.given(at.last)
+        } else {
+            None
+        };
+        match given {
+            Some(Given::Type(place)) => return place,
+            Some(Given::Wrong(name, why)) => return self.refuse(name, why),
+            _ => {}
         }
-        let found = self.found(&at);
-        self.resolved(found, &at, depth)
-    }
-
-    /// What a path stands for where it is read.
-    fn found(&self, at: &PathAt<'a>) -> Found<'a> {
-        let names = self.names;
-        if self.here == self.asked {
-            match names.find_asked(at.path, at.last) {
-                Found::Not => {}
-                found => return found,
-            }
-            if at.path.is_empty() {
-                return if is_known(at.last) {
-                    Found::Known(at.last)
-                } else {
-                    Found::Not
-                };
-            }
+        if at.path.is_empty() && at.last == "Self" {
+            return self.itself();
         }
-        if at.path.is_empty() {
-            return names.find(self.here, at.last, Space::Types);
-        }
-        names.find_by_path(self.here, at.path, at.last, Space::Types)
-    }
-
-    /// The place of the type whose field is read.
-    fn itself(&mut self) -> usize {
-        for made in &self.instances {
-            if self.is_itself(made) {
-                return made.place;
-            }
-        }
-        self.wrong(&[
-            "`Self` isn't followed in a type with parameters: write its name and what they stand for",
-        ])
-    }
-
-    /// Whether a type that was made is the one whose field is read, and has no parameters.
-    fn is_itself(&self, made: &Made<'a>) -> bool {
-        match self.declared.get(made.index) {
-            Some(it) => it.name == self.at.name
-                && !has_type_parameters(it)
-                && self.names.scope_of(made.index) == self.here,
-            None => false,
-        }
-    }
-
-    /// The place of what a path stands for.
-    #[cycle(types)]
-    fn resolved(&mut self, found: Found<'a>, at: &PathAt<'a>, depth: u32) -> usize {
-        match found {
+        match self.found(&at) {
             Found::In(What::Marked(index), _) => self.instance(index, depth),
-            Found::In(What::Alias(words), there) => {
-                self.lifetimes();
-                self.alias(words, there, depth)
-            }
+            Found::In(What::Alias(words), there) => self.alias(words, there, depth),
             Found::Known(name) => self.known(name, depth),
             Found::Wrong(why) => self.refuse(at.last, why),
             Found::Two => self.refuse_two(at.last),
-            Found::Outside => self.refuse_path(at),
+            Found::Outside => self.refuse_path(&at),
             _ => self.unknown(at.last),
         }
     }
 
-    /// Refuses a name that stands for more than one thing, with the paths that say which.
-    pub(super) fn refuse_two(&mut self, word: &str) -> usize {
-        if !self.is_wrong {
-            self.begin_wrong();
-            self.faults.put_all(&["`", word, TWO]);
-            self.names.put_paths(&mut self.faults, word);
-            self.faults.put("\n");
+    /// What a path stands for where it is read, as a type.
+    fn found(&self, at: &PathAt<'a>) -> Found<'a> {
+        if !self.is_asked() {
+            return self.found_in(at, Space::Types);
         }
-        0
+        match self.names.find_asked(at.path, at.last) {
+            Found::Not if !at.path.is_empty() => self.found_in(at, Space::Types),
+            Found::Not if is_known(at.last) => Found::Known(at.last),
+            found => found,
+        }
+    }
+
+    /// What a path stands for in the scope whose words are read.
+    pub(super) fn found_in(&self, at: &PathAt<'a>, space: Space) -> Found<'a> {
+        if at.path.is_empty() {
+            return self.names.find(self.here, at.last, space);
+        }
+        self.names.find_by_path(self.here, at.path, at.last, space)
+    }
+
+    /// The place of the type whose field is read.
+    fn itself(&mut self) -> usize {
+        match self.places.get(&self.index).copied() {
+            Some(place) if self.names.scope_of(self.index) == self.here => place,
+            _ => self.wrong(&[ITSELF]),
+        }
+    }
+
+    /// Refuses a name that stands for more than one thing, with the paths that say which.
+    fn refuse_two(&mut self, word: &str) -> usize {
+        let mut paths = Faults::new(self.alloc);
+        self.names.put_paths(&mut paths, word);
+        match paths.finished() {
+            Ok(paths) => self.wrong(&["`", word, TWO, paths.as_str()]),
+            Err(_) => {
+                self.words.faults.note(true);
+                0
+            }
+        }
     }
 
     /// Refuses a path that leads out of the files.
@@ -198,20 +169,25 @@ impl<'a> Builder<'a, '_> {
         self.wrong(&["`", word, "` is sent as `", sent, "`: write that"])
     }
 
-    /// Refuses a type that isn't known.
+    /// Refuses a type that isn't known: one that is requested with the nearest, and with all that there are.
     fn unknown(&mut self, word: &str) -> usize {
         match sent_as(word) {
             Some(sent) => self.refuse_sent(word, sent),
             None if self.names.is_endpoint(word) => self.refuse(word, ENDPOINT),
             None if self.names.is_handed(word) => self.refuse(word, HANDED),
-            None => self.refuse_unknown(word, UNDECLARED),
+            None => {
+                self.refuse(word, UNDECLARED);
+                if self.is_asked() {
+                    put_nearest(&mut self.words.faults, &self.declared.all, word);
+                }
+                0
+            }
         }
     }
 
     /// What a parameter stands for.
     pub(super) fn given(&self, word: &str) -> Option<Given<'a>> {
-        let bound = self.bound.get(self.scope..)?;
-        for it in bound {
+        for it in self.bound.get(self.scope..)? {
             if it.name == word {
                 return Some(it.given);
             }
@@ -221,27 +197,24 @@ impl<'a> Builder<'a, '_> {
 
     /// After a type without parameters: takes its lifetimes, if it has any.
     fn lifetimes(&mut self) {
-        if !self.take("<") {
+        if !self.words.take("<") {
             return;
         }
-        for _ in 0..self.rest.len() {
-            let word = self.step();
-            if word == ">" {
-                return;
-            }
-            if word != "," && !is_lifetime(word) {
-                self.wrong(&[
-                    "`",
-                    word,
-                    "` can't stand here, where lifetimes alone do: leave it out",
-                ]);
-            }
+        self.skip_lifetimes();
+        let word = self.words.step();
+        if !word.is_empty() && word != ">" {
+            self.wrong(&[
+                "`",
+                word,
+                "` can't stand here, where lifetimes alone do: leave it out",
+            ]);
         }
     }
 
     /// The place of the type that these words of a scope say, which are an alias.
     #[cycle(types)]
     fn alias(&mut self, words: &'a [Token], there: usize, depth: u32) -> usize {
+        self.lifetimes();
         let (scope, before) = (self.scope, self.here);
         self.scope = self.bound.len();
         self.turn_to(there);
@@ -251,113 +224,79 @@ impl<'a> Builder<'a, '_> {
         place
     }
 
-    /// Refuses a type after which nothing stands for its parameters.
-    fn refuse_left_out(&mut self, parameters: &[&str]) {
-        for name in parameters {
-            if !is_lifetime(name) {
-                self.refuse(name, LEFT_OUT);
-                return;
-            }
-        }
-    }
-
     /// What is in angle brackets for the parameters of a type.
     #[cycle(types)]
-    fn arguments(
-        &mut self,
-        parameters: &[&'a str],
-        lengths: &[&'a str],
-        depth: u32,
-    ) -> Vec<Bound<'a>> {
-        let mut given = Vec::new(self.alloc);
-        if !self.take("<") {
-            self.refuse_left_out(parameters);
-            return given;
-        }
-        for name in parameters {
+    fn arguments(&mut self, it: &Declaration<'a>, depth: u32) -> Vec<Bound<'a>> {
+        let mut bound = Vec::new(self.alloc);
+        let is_open = self.words.take("<");
+        for name in &it.parameters {
+            let is_given = is_open && self.words.peek() != ">";
             if is_lifetime(name) {
-                if is_lifetime(self.peek()) {
-                    self.step();
-                    self.take(",");
+                if is_given && is_lifetime(self.words.peek()) {
+                    self.words.step();
+                    self.words.take(",");
                 }
-            } else if self.peek() == ">" {
-                self.refuse(name, LEFT_OUT);
-            } else {
-                let it = if is_among(name, lengths) {
+            } else if is_given {
+                let given = if is_among(name, &it.lengths) {
                     Given::Length(self.length(&[">", ","]))
                 } else {
                     self.argument(depth)
                 };
-                if self.peek() != ">" {
-                    self.owe(",");
+                if self.words.peek() != ">" {
+                    self.words.owe(",");
                 }
-                let failed = given.push(Bound { name, given: it }).is_err();
-                self.faults.note(failed);
+                self.words.push(&mut bound, Bound { name, given });
+            } else {
+                self.refuse(name, LEFT_OUT);
             }
         }
-        self.take(",");
-        self.owe(">");
-        given
+        self.words.take(",");
+        self.words.owe(">");
+        bound
     }
 
     /// What stands for a parameter that is a type. A name that stands for none is wrong only if the parameter is sent.
     #[cycle(types)]
     fn argument(&mut self, depth: u32) -> Given<'a> {
-        let at = path_at(self.rest);
-        let is_alone = match at.rest {
-            [behind, ..] => is_among(behind.text.as_str(), &[",", ">"]),
-            _ => false,
-        };
-        if is_alone && at.path.is_empty() && self.given(at.last).is_none() && at.last != "Self" {
-            match self.found(&at) {
-                Found::Wrong(why) => {
-                    self.rest = at.rest;
-                    return Given::Wrong(at.last, why);
-                }
-                Found::Two => {
-                    self.rest = at.rest;
-                    return Given::Wrong(at.last, TWO);
-                }
-                _ => {}
+        let at = path_at(self.words.rest);
+        let is_alone = at.path.is_empty() && is_among(first_word(at.rest), &[",", ">"]);
+        if is_alone && self.given(at.last).is_none() && at.last != "Self" {
+            let why = match self.found(&at) {
+                Found::Wrong(why) => why,
+                Found::Two => TWO,
+                _ => "",
+            };
+            if !why.is_empty() {
+                self.words.rest = at.rest;
+                return Given::Wrong(at.last, why);
             }
         }
         Given::Type(self.place(depth))
-    }
-
-    /// The place of a type that was made of the same.
-    fn made_before(&self, index: usize, of: &[Bound<'a>]) -> Option<usize> {
-        for it in &self.instances {
-            if it.index == index && is_same(&it.of, of) {
-                return Some(it.place);
-            }
-        }
-        None
     }
 
     /// The place of a declared type, with what is in angle brackets after it.
     #[cycle(types)]
     fn instance(&mut self, index: usize, depth: u32) -> usize {
         let declared = self.declared;
-        let Some(it) = declared.get(index) else {
+        let Some(it) = declared.all.get(index) else {
             return 0;
         };
         if !has_type_parameters(it) {
             self.lifetimes();
-            return match self.made_before(index, &[]) {
-                Some(place) => place,
-                None => self.owe_type(index),
-            };
+            return self.owe_type(index);
         }
-        let of = self.arguments(&it.parameters, &it.lengths, depth);
-        if self.is_wrong {
+        let of = self.arguments(it, depth);
+        if self.words.is_wrong {
             return 0;
         }
-        if let Some(place) = self.made_before(index, &of) {
-            return place;
+        for made in &self.instances {
+            if made.index == index && made.of.as_slice() == of.as_slice() {
+                return made.place;
+            }
         }
         if !it.wrong.is_empty() {
-            self.faults.put(it.wrong.as_str());
-            self.is_wrong = true;
+            self.words.faults.put(it.wrong.as_str());
+            self.words.is_wrong = true;
             return 0;
         }
         self.made(index, it, of, depth)
@@ -373,58 +312,59 @@ impl<'a> Builder<'a, '_> {
         depth: u32,
     ) -> usize {
         let place = self.add(Node::Bool, Names::Nothing);
-        let (at, scope, here) = (self.at, self.scope, self.here);
+        let (scope, here, own) = (self.scope, self.here, self.index);
+        let (name, variant, field) = (self.words.name, self.words.variant, self.words.field);
         self.scope = self.bound.len();
         for bound in &of {
-            let failed = self.bound.push(*bound).is_err();
-            self.faults.note(failed);
+            self.words.push(&mut self.bound, *bound);
         }
-        let failed = self.instances.push(Made { index, of, place }).is_err();
-        self.faults.note(failed);
-        let entry = self.declaration(it, self.names.scope_of(index), depth);
-        self.put(place, entry);
+        self.words
+            .push(&mut self.instances, Made { index, of, place });
+        self.begin(index, it);
+        self.fill(it, place, depth);
         self.bound.truncate(self.scope);
-        self.at = at;
         self.scope = scope;
         self.turn_to(here);
+        self.index = own;
+        self.words.name = name;
+        self.words.variant = variant;
+        self.words.field = field;
         place
     }
 
     /// The place of a known type by its name.
     #[cycle(types)]
     fn known(&mut self, word: &'a str, depth: u32) -> usize {
-        if let Some(form) = form_of(word) {
+        if let Some(form) = form_of(word)
+            && (word != "String" || self.words.peek() == "<")
+        {
             return self.formed(form, depth);
         }
-        match word {
-            "String" if self.peek() == "<" => return self.formed(KnownForm::TextUpTo, depth),
-            "f32" => return self.add(Node::LE(IntegerType::U32), Names::Float),
-            "f64" => return self.add(Node::LE(IntegerType::U64), Names::Float),
-            _ => {}
-        }
-        match plain_node(word) {
-            Some(node) => self.add(node, Names::Nothing),
-            None => self.unknown(word),
+        match (word, plain_node(word)) {
+            ("f32", _) => self.add(Node::LE(IntegerType::U32), Names::Float),
+            ("f64", _) => self.add(Node::LE(IntegerType::U64), Names::Float),
+            (_, Some(node)) => self.add(node, Names::Nothing),
+            _ => self.unknown(word),
         }
     }
 
     /// The place of the type that these words say, and nothing after it.
     #[cycle(types)]
     pub(super) fn whole(&mut self, words: &'a [Token], depth: u32) -> usize {
-        let (rest, line) = (self.rest, self.line);
-        self.rest = words;
+        let (rest, line) = (self.words.rest, self.words.line);
+        self.words.rest = words;
         let mut place = self.place(depth);
-        if let [next, ..] = self.rest {
+        if let [next, ..] = self.words.rest {
             place = self.wrong(&[
                 "`",
                 next.text.as_str(),
                 "` can't stand behind a type: write a known type, or one that is declared and marked",
             ]);
         }
-        if !self.is_wrong {
-            self.rest = rest;
+        if !self.words.is_wrong {
+            self.words.rest = rest;
         }
-        self.line = line;
+        self.words.line = line;
         place
     }
 }
