@@ -32,7 +32,7 @@ enum wire_status {
     WIRE_DONE = 0,
     WIRE_NO_ROOM = 1,   /* the text has `length` bytes, and the room fewer: nothing changed, so call it again with as much room */
     WIRE_WRONG = 2,     /* the declarations or the type can't be taken: the text says why, in lines */
-    WIRE_REFUSED = 3,   /* some lines aren't of the type: the text says why, in lines `line K: ..`; nothing is written */
+    WIRE_REFUSED = 3,   /* wire_write alone: some lines aren't of the type: the text says why, in lines `line K: ..`; nothing is written */
     WIRE_NO_MEMORY = 4, /* malloc gave none: nothing changed */
     WIRE_NULL = 255     /* a pointer is null, and its length isn't 0: nothing changed */
 };

@@ -8,3 +8,7 @@ done = 0
 -- the text doesn't fit the room
 abbrev pub no_room : ℕ
 no_room = 1
+
+-- lines aren't of the type
+abbrev pub refused : ℕ
+refused = 3

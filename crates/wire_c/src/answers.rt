@@ -1,7 +1,8 @@
 //! Results by numbers, and a text in front of the caller's room.
 ghost use Rattle.std.specs.Prelude.{◌≡◌, ◌≢◌, ◌<◌, ◌≤◌, length, take};
 ghost use Rattle.wire_c_lib.specs.Flags.{is_set};
-ghost use Rattle.wire_c.specs.Status.{done, no_room};
+ghost use Rattle.wire_c_lib.specs.Texts.{Refuses};
+ghost use Rattle.wire_c.specs.Status.{done, no_room, refused};
 
 use crate::status::{NO_MEMORY, NO_ROOM, REFUSED, WRONG};
 use wire_c_lib::WireFailure;
@@ -30,6 +31,9 @@ pub(crate) fn said(
 ) -> WireSaid
     ensures length { result.length ≡ length text.now }
     ensures fits { length text.now ≤ length room.old → result.status ≡ status }
+    ensures status { result.status ≢ no_room → result.status ≡ status }
+    ensures longer { status ≢ no_room → result.status ≡ no_room
+        → length room.old < length text.now }
     ensures text { result.status ≢ no_room → take result.length room.new ≡ text.now }
     ensures used { result.status ≢ no_room → result.used ≡ used }
     ensures inside { result.status ≢ no_room → is_set result.inside ≡ is_inside }
@@ -63,6 +67,8 @@ pub(crate) fn said(
 // Why a call has no result: the lines that say so, if there are some.
 pub(crate) fn failed(failure: WireFailure, room: &mut [u8]) -> WireSaid
     ensures status { result.status ≢ done }
+    ensures refused { result.status ≡ refused → Refuses failure (take result.length room.new) }
+    ensures longer { result.status ≡ no_room → length room.old < result.length }
     ensures within { result.status ≢ no_room → result.length ≤ length room.new }
     ensures too_short { result.status ≡ no_room → room.new ≡ room.old }
     ensures used { result.used ≡ 0 }

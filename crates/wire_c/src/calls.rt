@@ -1,9 +1,9 @@
 //! The exports.
-ghost use Rattle.std.specs.Prelude.{◌≡◌, ◌≢◌, ◌≤◌, length, take, true, false};
+ghost use Rattle.std.specs.Prelude.{◌≡◌, ◌≢◌, ◌<◌, ◌≤◌, length, take, true, false};
 ghost use Rattle.wire_c_lib.specs.Flags.{is_set};
 ghost use Rattle.wire_c_lib.specs.Streams.{ReadsStream, IsDoneWith};
-ghost use Rattle.wire_c_lib.specs.Texts.{WritesFrames};
-ghost use Rattle.wire_c.specs.Status.{done, no_room};
+ghost use Rattle.wire_c_lib.specs.Texts.{WritesFrames, RefusesLines};
+ghost use Rattle.wire_c.specs.Status.{done, no_room, refused};
 
 use crate::answers::{WireSaid, failed, said};
 use crate::status::DONE;
@@ -33,6 +33,8 @@ pub extern "C" fn wire_c_read(
         (is_set result.inside) }
     ensures all { result.status ≡ done → is_set terms.now.ends ≡ true
         → (result.used ≡ length stream.now) × (is_set result.inside ≡ false) }
+    ensures unrefused { result.status ≢ refused }
+    ensures longer { result.status ≡ no_room → length room.old < result.length }
     ensures within { result.status ≢ no_room → result.length ≤ length room.new }
     ensures too_short { result.status ≡ no_room → room.new ≡ room.old }
     ensures failed { result.status ≢ done → result.used ≡ 0 }
@@ -68,6 +70,9 @@ pub extern "C" fn wire_c_write(
 ) -> WireSaid
     ensures frames { result.status ≡ done
         → WritesFrames terms.now lines.now (take result.length room.new) }
+    ensures refused { result.status ≡ refused
+        → RefusesLines terms.now lines.now (take result.length room.new) }
+    ensures longer { result.status ≡ no_room → length room.old < result.length }
     ensures within { result.status ≢ no_room → result.length ≤ length room.new }
     ensures too_short { result.status ≡ no_room → room.new ≡ room.old }
     ensures used { result.used ≡ 0 }

@@ -1,8 +1,10 @@
--- The frames of lines that are written by a call that stands alone.
-use Rattle.std.specs.Prelude.{◌≡◌, ℕ, ◌≤◌, Bool, true, List, [], ◌++◌, length}
+-- The frames of lines that are written by a call that stands alone, and its failures.
+use Rattle.std.specs.Prelude.{◌≡◌, ℕ, ◌≤◌, Bool, true, false, List, [], ◌++◌, length, string_bytes}
 use Rattle.wire_lib.specs.declared.send.Sending.{Sending}
 use Rattle.wire_lib.specs.Sent.{LineMade, AreLinesMade, HasMadeBy, AppendedApart, are_all_framed}
 use Rattle.wire_c_lib.specs.declared.terms.WireTerms.{WireTerms}
+use Rattle.wire_c_lib.specs.declared.types.WireFailure.{WireFailure}
+use Rattle.wire_c_lib.specs.declared.types.WireFailure.TheVariants as failure
 use Rattle.wire_c_lib.specs.Flags.{is_set}
 
 -- What was made of a text: of each line that a line feed ends, and of what follows the last one.
@@ -43,3 +45,31 @@ pub record WritesFrames (terms : WireTerms) (text frames : List ℕ) : Type 0 wh
   -- no line is refused
   pub wrongs : List ℕ
   pub frames_are : MakesFrames sending text frames wrongs true
+
+-- What is said of a text's lines that are no values of the type, as these terms say, for some table of types: that of the
+-- declarations. Some line is refused.
+pub record RefusesLines (terms : WireTerms) (text wrongs : List ℕ) : Type 0 where
+  -- as what lines are sent
+  pub sending : Sending
+  -- by this sentinel
+  pub sentinel : sending.sentinel ≡ terms.sentinel
+  -- with a checksum or not
+  pub summed : sending.summed ≡ is_set terms.crc32
+  -- the frames of the other lines, which nobody gets
+  pub frames : List ℕ
+  pub wrongs_are : MakesFrames sending text frames wrongs false
+
+-- This is the text of a refusal of lines; no other failure has one.
+abbrev pub Refuses : WireFailure → List ℕ → Type 0
+Refuses (failure.Refused why) text = text ≡ string_bytes why
+Refuses _ text = ⊥
+
+-- the failure is no refusal of lines
+abbrev pub IsUnrefused : WireFailure → Type 0
+IsUnrefused (failure.Refused why) = ⊥
+IsUnrefused _ = Unit {0}
+
+-- if the failure is a refusal of lines, it says what is wrong with those of this text
+abbrev pub IsOfLines : WireTerms → List ℕ → WireFailure → Type 0
+IsOfLines terms text (failure.Refused why) = RefusesLines terms text (string_bytes why)
+IsOfLines terms text _ = Unit {0}

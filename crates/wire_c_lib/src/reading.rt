@@ -1,7 +1,8 @@
 //! A stream of frames as lines of JSON, chunk by chunk.
-ghost use Rattle.std.specs.Prelude.{◌≡◌, ◌≤◌, true, false, length, IfOk};
+ghost use Rattle.std.specs.Prelude.{◌≡◌, ◌≤◌, true, false, length, IfOk, IfErr};
 ghost use Rattle.wire_c_lib.specs.Flags.{is_set};
 ghost use Rattle.wire_c_lib.specs.Streams.{skipped_in, IsThroughLast, IsDoneWith, TellsStream, ReadsStream};
+ghost use Rattle.wire_c_lib.specs.Texts.{IsUnrefused};
 
 use crate::terms::{Told, WireTerms, is_flag};
 use crate::types::{TypeAt, WireFailure, read_type_of};
@@ -115,6 +116,7 @@ pub fn read(told: Told<'_>, stream: &[u8]) -> Result<ReadLines, WireFailure>
         → IsDoneWith (is_set told.entry.terms.inside) told.entry.terms.sentinel stream.now it.used it.is_inside) }
     ensures all { IfOk result (λ it. is_set told.entry.terms.ends ≡ true
         → (it.used ≡ length stream.now) × (it.is_inside ≡ false)) }
+    ensures unrefused { IfErr result IsUnrefused }
 {
     let WireTerms {
         sentinel,
@@ -128,7 +130,10 @@ pub fn read(told: Told<'_>, stream: &[u8]) -> Result<ReadLines, WireFailure>
         schema,
         place,
         depth,
-    } = read_type_of(told)?;
+    } = match read_type_of(told) {
+        Ok(it) => it,
+        Err(failure) => return Err(failure),
+    };
     let reading = Reading {
         alloc: told.alloc,
         schema: &schema,
@@ -141,7 +146,9 @@ pub fn read(told: Told<'_>, stream: &[u8]) -> Result<ReadLines, WireFailure>
     };
     let is_inside = is_flag(inside);
     let passed = skipped(is_inside, sentinel, stream);
-    let text = lines_of(reading, passed as u64, is_flag(ends), stream)?;
+    let Ok(text) = lines_of(reading, passed as u64, is_flag(ends), stream) else {
+        return Err(WireFailure::OutOfMemory);
+    };
     let (used, is_inside) = if is_flag(ends) {
         (stream.len(), false)
     } else {

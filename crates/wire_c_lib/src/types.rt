@@ -1,7 +1,10 @@
 //! From declarations to the type of the messages.
+ghost use Rattle.std.specs.Prelude.{IfErr};
+ghost use Rattle.wire_c_lib.specs.Texts.{IsUnrefused};
+
 use crate::terms::{Told, is_flag};
 use declarations::{Error, Schema, Source, read_type};
-use std::alloc::{AllocError, Global};
+use std::alloc::Global;
 use wire_lib::DEPTH;
 use wire_lib::sizes::bound_lists;
 use wire_lib::summed::add_summed;
@@ -20,12 +23,6 @@ pub enum WireFailure {
     OutOfMemory,
 }
 
-impl From<AllocError> for WireFailure {
-    fn from(_: AllocError) -> WireFailure {
-        WireFailure::OutOfMemory
-    }
-}
-
 /// A type in its table.
 #[derive(Drop)]
 pub(crate) struct TypeAt {
@@ -35,7 +32,9 @@ pub(crate) struct TypeAt {
 }
 
 // That a text isn't UTF-8.
-fn not_text(alloc: Global, what: &str) -> WireFailure {
+fn not_text(alloc: Global, what: &str) -> WireFailure
+    ensures { IsUnrefused result }
+{
     match format!(in alloc; "{what} isn't UTF-8\n") {
         Ok(lines) => WireFailure::Wrong(lines),
         Err(_) => WireFailure::OutOfMemory,
@@ -43,7 +42,9 @@ fn not_text(alloc: Global, what: &str) -> WireFailure {
 }
 
 // The table of a type, and its place there.
-fn read_words(told: Told<'_>) -> Result<(Schema, usize), WireFailure> {
+fn read_words(told: Told<'_>) -> Result<(Schema, usize), WireFailure>
+    ensures { IfErr result IsUnrefused }
+{
     let alloc = told.alloc;
     let Ok(text) = str::from_utf8(told.declarations) else {
         return Err(not_text(alloc, "the text of the declarations"));
@@ -51,9 +52,12 @@ fn read_words(told: Told<'_>) -> Result<(Schema, usize), WireFailure> {
     let Ok(words) = str::from_utf8(told.type_words) else {
         return Err(not_text(alloc, "the type"));
     };
+    let Ok(text) = String::from_str(alloc, text) else {
+        return Err(WireFailure::OutOfMemory);
+    };
     let source = Source {
         file: String::new(alloc),
-        text: String::from_str(alloc, text)?,
+        text,
     };
     match read_type(alloc, &[source], words) {
         Ok(it) => Ok(it),
@@ -63,9 +67,16 @@ fn read_words(told: Told<'_>) -> Result<(Schema, usize), WireFailure> {
 }
 
 /// The type that is written. Lists of elements that take no bytes are bounded, as `wire` bounds them without a word.
-pub(crate) fn written_type(told: Told<'_>) -> Result<TypeAt, WireFailure> {
-    let (mut schema, place) = read_words(told)?;
-    bound_lists(told.alloc, &mut schema.nodes, EMPTY)?;
+pub(crate) fn written_type(told: Told<'_>) -> Result<TypeAt, WireFailure>
+    ensures { IfErr result IsUnrefused }
+{
+    let (mut schema, place) = match read_words(told) {
+        Ok(it) => it,
+        Err(failure) => return Err(failure),
+    };
+    let Ok(()) = bound_lists(told.alloc, &mut schema.nodes, EMPTY) else {
+        return Err(WireFailure::OutOfMemory);
+    };
     Ok(TypeAt {
         schema,
         place,
@@ -74,12 +85,17 @@ pub(crate) fn written_type(told: Told<'_>) -> Result<TypeAt, WireFailure> {
 }
 
 /// The type that is read: with its checksum, if there is one.
-pub(crate) fn read_type_of(told: Told<'_>) -> Result<TypeAt, WireFailure> {
+pub(crate) fn read_type_of(told: Told<'_>) -> Result<TypeAt, WireFailure>
+    ensures { IfErr result IsUnrefused }
+{
     let TypeAt {
         mut schema,
         place,
         depth,
-    } = written_type(told)?;
+    } = match written_type(told) {
+        Ok(it) => it,
+        Err(failure) => return Err(failure),
+    };
     if !is_flag(told.terms.crc32) {
         return Ok(TypeAt {
             schema,
@@ -87,7 +103,9 @@ pub(crate) fn read_type_of(told: Told<'_>) -> Result<TypeAt, WireFailure> {
             depth,
         });
     }
-    let place = add_summed(told.alloc, &mut schema, place)?;
+    let Ok(place) = add_summed(told.alloc, &mut schema, place) else {
+        return Err(WireFailure::OutOfMemory);
+    };
     Ok(TypeAt {
         schema,
         place,

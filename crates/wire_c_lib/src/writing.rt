@@ -1,6 +1,6 @@
 //! Lines of JSON as frames.
-ghost use Rattle.std.specs.Prelude.{◌≡◌, string_bytes, IfOk};
-ghost use Rattle.wire_c_lib.specs.Texts.{MakesFrames, WritesFrames};
+ghost use Rattle.std.specs.Prelude.{◌≡◌, string_bytes, IfOk, IfErr};
+ghost use Rattle.wire_c_lib.specs.Texts.{MakesFrames, WritesFrames, IsOfLines};
 
 use crate::terms::{Told, is_flag};
 use crate::types::{TypeAt, WireFailure, written_type};
@@ -68,13 +68,17 @@ fn made_of(sending: Sending<'_>, lines: &[u8]) -> Result<Made, AllocError>
 /// }
 /// ```
 pub fn write(told: Told<'_>, lines: &[u8]) -> Result<Vec<u8>, WireFailure>
-    ensures { IfOk result (λ frames. WritesFrames told.entry.terms lines.now frames.items) }
+    ensures frames { IfOk result (λ frames. WritesFrames told.entry.terms lines.now frames.items) }
+    ensures refused { IfErr result (IsOfLines told.entry.terms lines.now) }
 {
     let TypeAt {
         schema,
         place,
         depth,
-    } = written_type(told)?;
+    } = match written_type(told) {
+        Ok(it) => it,
+        Err(failure) => return Err(failure),
+    };
     let sending = Sending {
         alloc: told.alloc,
         schema: &schema,
@@ -83,11 +87,16 @@ pub fn write(told: Told<'_>, lines: &[u8]) -> Result<Vec<u8>, WireFailure>
         sentinel: told.terms.sentinel,
         summed: is_flag(told.terms.crc32),
     };
-    let Made {
-        frames,
-        wrongs,
-        is_good,
-    } = made_of(sending, lines)?;
+    let Ok(
+        Made {
+            frames,
+            wrongs,
+            is_good,
+        },
+    ) = made_of(sending, lines)
+    else {
+        return Err(WireFailure::OutOfMemory);
+    };
     if is_good {
         Ok(frames)
     } else {
