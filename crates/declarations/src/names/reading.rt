@@ -22,25 +22,39 @@ fn constant_of(words: &[Token]) -> What<'_> {
     What::Constant(of, behind_first(value))
 }
 
-/// Whether the rules of a macro declare a type by the first name that they are handed.
-fn is_maker(rules: &[Token]) -> bool {
-    let mut handed = "";
+/// The first name that the rules of a macro are handed, and what follows it; empty if there is none.
+fn first_handed(rules: &[Token]) -> (&str, &[Token]) {
     let mut rest = rules;
     for _ in 0..rules.len() {
-        match rest {
-            [of, mark, name, ..] if matches!(mark.word, Word::Dollar) => {
-                let is_type = matches!(
-                    of.word,
-                    Word::Struct | Word::Enum | Word::Union | Word::Alias
-                );
-                if is_type && name.text.as_str() == handed {
-                    return true;
-                }
-                if handed.is_empty() {
-                    handed = name.text.as_str();
-                }
-            }
-            _ => {}
+        if let [mark, name, behind @ ..] = rest
+            && matches!(mark.word, Word::Dollar)
+        {
+            return (name.text.as_str(), behind);
+        }
+        rest = behind_first(rest);
+    }
+    ("", &[])
+}
+
+/// Whether a type is declared at the start by a name that is handed to a macro.
+fn declares(tokens: &[Token], handed: &str) -> bool {
+    match tokens {
+        [of, mark, name, ..] => matches!(
+            of.word,
+            Word::Struct | Word::Enum | Word::Union | Word::Alias
+        ) && matches!(mark.word, Word::Dollar)
+            && name.text.as_str() == handed,
+        _ => false,
+    }
+}
+
+/// Whether the rules of a macro declare a type by the first name that they are handed.
+fn is_maker(rules: &[Token]) -> bool {
+    let (handed, behind) = first_handed(rules);
+    let mut rest = behind;
+    for _ in 0..behind.len() {
+        if declares(rest, handed) {
+            return true;
         }
         rest = behind_first(rest);
     }
