@@ -21,7 +21,7 @@ use crate::about::{ABOUT, USAGE};
 use crate::names::uses_of;
 use crate::printer::implementations;
 use crate::refusals::refused;
-use crate::scope::Scope;
+use crate::scope::Origins;
 use crate::text::Text;
 use declaration_parser::parser::Purpose;
 use declaration_parser::reading::declarations;
@@ -50,7 +50,7 @@ fn run(rt: &HostRuntime, path: &str, with_schemas: bool) -> io::Result<u8> {
     let text = io::read_to_string(alloc, rt.reader())?;
     let read = [tokens_of(alloc, "", text.as_str())?];
     let [file] = &read;
-    let scope = Scope::of(alloc, &file.tokens)?;
+    let scope = Origins::of(alloc, &file.tokens)?;
     let (all, faults) = declarations(alloc, Purpose::Implementations, &read)?;
     let uses = uses_of(alloc, &scope, &all)?;
     let refused = refused(alloc, &scope, &uses, &all)?;

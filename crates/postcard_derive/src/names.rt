@@ -1,6 +1,6 @@
 //! The fields of declarations in rows, and the names that their implementations bring in.
 use crate::parameters::bounding;
-use crate::scope::{OF_THE_CRATE, Scope, Word, is_capital, words_of};
+use crate::scope::{OF_THE_CRATE, Origins, PathWord, is_capital, words_of};
 use declaration_parser::declaration::{Body, Declaration, Field, Layout};
 use declaration_parser::tokens::is_among;
 use std::alloc::{AllocError, Global};
@@ -9,13 +9,13 @@ use std::alloc::{AllocError, Global};
 const OF_TYPES: &[&str] = &["Box", "Option", "Result", "String", "Vec"];
 
 /// A field, and before it its variant, whose name is empty in a struct.
-pub type Row<'a> = (&'a str, Field<'a>);
+pub type NamedField<'a> = (&'a str, Field<'a>);
 
 /// A name that is brought in, and before it the type whose fields have it; empty if it is that type's, or of its bounds.
 pub type Use<'a> = (&'a str, &'a str);
 
 /// The fields of a declaration.
-pub fn rows_of<'a>(alloc: Global, it: &Declaration<'a>) -> Result<Vec<Row<'a>>, AllocError> {
+pub fn rows_of<'a>(alloc: Global, it: &Declaration<'a>) -> Result<Vec<NamedField<'a>>, AllocError> {
     let mut rows = Vec::new(alloc);
     match &it.body {
         Body::Struct(fields) => {
@@ -36,7 +36,7 @@ pub fn rows_of<'a>(alloc: Global, it: &Declaration<'a>) -> Result<Vec<Row<'a>>, 
 
 /// Whether a word of a type has to be brought in, also one that nobody declares; or one of a bound, if it is none of the traits
 /// that the implementations have.
-fn is_brought_in(scope: &Scope, it: &Declaration, word: &Word, is_bound: bool) -> bool {
+fn is_brought_in(scope: &Origins, it: &Declaration, word: &PathWord, is_bound: bool) -> bool {
     let name = word.text;
     let from = scope.origin(name);
     if word.is_led || is_among(name, &it.parameters) || is_among(name, OF_THE_CRATE) {
@@ -53,7 +53,7 @@ fn is_brought_in(scope: &Scope, it: &Declaration, word: &Word, is_bound: bool) -
 /// The names that the implementations bring in of the module above.
 pub fn uses_of<'a>(
     alloc: Global,
-    scope: &Scope,
+    scope: &Origins,
     all: &[Declaration<'a>],
 ) -> Result<Vec<Use<'a>>, AllocError> {
     let mut uses = Vec::new(alloc);

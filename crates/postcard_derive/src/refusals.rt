@@ -1,14 +1,14 @@
 //! What can't be implemented of declarations, a line each. Why a thing can't be is a text, which is empty if it can.
 use crate::known::{HOLDS_ITSELF, NO_TYPE, NO_WORDS, NOT_HERE, PLAIN, no_message, said_of};
-use crate::names::{Row, Use, holds_itself_by_others, rows_of};
-use crate::scope::{OF_THE_CRATE, Scope, Word, is_capital, is_small, is_wordy, words_of};
+use crate::names::{NamedField, Use, holds_itself_by_others, rows_of};
+use crate::scope::{OF_THE_CRATE, Origins, PathWord, is_capital, is_small, is_wordy, words_of};
 use crate::text::Text;
 use declaration_parser::declaration::{Declaration, Layout};
 use declaration_parser::tokens::{is_among, is_lifetime};
 use std::alloc::{AllocError, Global};
 
 /// The text of the word at a place; nothing if there is none.
-fn text_at<'a>(words: &[Word<'a>], place: usize) -> &'a str {
+fn text_at<'a>(words: &[PathWord<'a>], place: usize) -> &'a str {
     match words.get(place) {
         Some(word) => word.text,
         None => "",
@@ -16,7 +16,7 @@ fn text_at<'a>(words: &[Word<'a>], place: usize) -> &'a str {
 }
 
 /// Whether these texts are at a place.
-fn are_at(words: &[Word], place: usize, wanted: &[&str]) -> bool {
+fn are_at(words: &[PathWord], place: usize, wanted: &[&str]) -> bool {
     for (step, text) in wanted.iter().enumerate() {
         if text_at(words, place.saturating_add(step)) != *text {
             return false;
@@ -26,7 +26,7 @@ fn are_at(words: &[Word], place: usize, wanted: &[&str]) -> bool {
 }
 
 /// Why a field of these words can't be sent as its attribute says.
-fn layout_refusal(layout: Layout, words: &[Word]) -> &'static str {
+fn layout_refusal(layout: Layout, words: &[PathWord]) -> &'static str {
     let first = text_at(words, 0);
     let fixed = &["u16", "u32", "u64", "u128", "i16", "i32", "i64", "i128"];
     let is_integer = words.len() == 1 && (is_among(first, fixed) || is_capital(first));
@@ -43,7 +43,7 @@ fn layout_refusal(layout: Layout, words: &[Word]) -> &'static str {
 }
 
 /// Why the reference at a place can't be there.
-fn reference_refusal(it: &Declaration, words: &[Word], place: usize) -> &'static str {
+fn reference_refusal(it: &Declaration, words: &[PathWord], place: usize) -> &'static str {
     let of = place.saturating_add(2);
     if !is_lifetime(text_at(words, place.saturating_add(1))) {
         "` is a reference without a lifetime: write one of the type, as `&'a str`"
@@ -58,7 +58,7 @@ fn reference_refusal(it: &Declaration, words: &[Word], place: usize) -> &'static
 }
 
 /// Why a name can't be a type's, or in a path to one.
-fn name_refusal(scope: &Scope, it: &Declaration, word: &Word) -> &'static str {
+fn name_refusal(scope: &Origins, it: &Declaration, word: &PathWord) -> &'static str {
     let name = word.text;
     let from = scope.origin(word.head);
     let is_alone = !word.is_led && !word.leads;
@@ -86,7 +86,12 @@ fn name_refusal(scope: &Scope, it: &Declaration, word: &Word) -> &'static str {
 }
 
 /// Why the word at a place of a type can't be there.
-fn word_refusal(scope: &Scope, it: &Declaration, words: &[Word], place: usize) -> &'static str {
+fn word_refusal(
+    scope: &Origins,
+    it: &Declaration,
+    words: &[PathWord],
+    place: usize,
+) -> &'static str {
     let Some(word) = words.get(place) else {
         return "";
     };
@@ -116,7 +121,12 @@ impl Text {
     }
 
     /// Says what is first wrong with a field of a variant.
-    fn judge(&mut self, scope: &Scope, it: &Declaration, row: &Row) -> Result<(), AllocError> {
+    fn judge(
+        &mut self,
+        scope: &Origins,
+        it: &Declaration,
+        row: &NamedField,
+    ) -> Result<(), AllocError> {
         let (variant, field) = row;
         let words = words_of(self.alloc, field.of)?;
         let mut why = layout_refusal(field.layout, &words);
@@ -142,7 +152,7 @@ impl Text {
 /// What can't be implemented of these declarations, a line each; nothing if all can.
 pub fn refused(
     alloc: Global,
-    scope: &Scope,
+    scope: &Origins,
     uses: &[Use],
     all: &[Declaration],
 ) -> Result<String, AllocError> {

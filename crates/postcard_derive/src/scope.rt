@@ -8,13 +8,13 @@ pub const OF_THE_CRATE: &[&str] = &["crate", "self", "super"];
 /// The names that a file has, each with where it is from: the first word of the `use` that brings it in, or `self` if the file
 /// declares it.
 #[derive(Drop)]
-pub struct Scope<'a> {
+pub struct Origins<'a> {
     origins: Vec<(&'a str, &'a str)>,
 }
 
-impl<'a> Scope<'a> {
+impl<'a> Origins<'a> {
     /// The names that a file of these tokens has.
-    pub fn of(alloc: Global, tokens: &'a [Token]) -> Result<Scope<'a>, AllocError> {
+    pub fn of(alloc: Global, tokens: &'a [Token]) -> Result<Origins<'a>, AllocError> {
         let mut origins = Vec::new(alloc);
         let mut before = "";
         let mut head = "";
@@ -36,7 +36,7 @@ impl<'a> Scope<'a> {
             }
             before = word;
         }
-        Ok(Scope { origins })
+        Ok(Origins { origins })
     }
 
     /// Where a name is from; empty if the file doesn't have it.
@@ -52,7 +52,7 @@ impl<'a> Scope<'a> {
 
 /// A word of a type or of a bound; the colons of a path are no words.
 #[derive(Clone, Copy, Drop)]
-pub struct Word<'a> {
+pub struct PathWord<'a> {
     pub text: &'a str,
     pub line: usize,
     /// The first word of the path that it is in, perhaps itself; a colon if `::` begins the path.
@@ -72,7 +72,7 @@ fn behind_colons(tokens: &[Token]) -> Option<&[Token]> {
 }
 
 /// The words that these tokens are.
-pub fn words_of(alloc: Global, tokens: &[Token]) -> Result<Vec<Word<'_>>, AllocError> {
+pub fn words_of(alloc: Global, tokens: &[Token]) -> Result<Vec<PathWord<'_>>, AllocError> {
     let mut words = Vec::new(alloc);
     let mut rest = behind_colons(tokens).unwrap_or(tokens);
     let mut is_led = rest.len() < tokens.len();
@@ -88,7 +88,7 @@ pub fn words_of(alloc: Global, tokens: &[Token]) -> Result<Vec<Word<'_>>, AllocE
             head = text;
         }
         let line = token.line;
-        words.push(Word {
+        words.push(PathWord {
             text,
             line,
             head,

@@ -1,7 +1,7 @@
 //! Results by numbers, and a text in front of the caller's room.
 ghost use Rattle.std.specs.Prelude.{◌≡◌, ◌≢◌, ◌<◌, ◌≤◌, length, take};
 ghost use Rattle.wire_c_lib.specs.Flags.{is_set};
-ghost use Rattle.wire_c_lib.specs.Texts.{Refuses};
+ghost use Rattle.wire_c_lib.specs.Texts.{IsTextOfRefusal};
 ghost use Rattle.wire_c.specs.Status.{done, no_room, refused};
 
 use crate::status::{NO_MEMORY, NO_ROOM, REFUSED, WRONG};
@@ -67,7 +67,7 @@ pub(crate) fn said(
 // Why a call has no result: the lines that say so, if there are some.
 pub(crate) fn failed(failure: WireFailure, room: &mut [u8]) -> WireSaid
     ensures status { result.status ≢ done }
-    ensures refused { result.status ≡ refused → Refuses failure (take result.length room.new) }
+    ensures refused { result.status ≡ refused → IsTextOfRefusal failure (take result.length room.new) }
     ensures longer { result.status ≡ no_room → length room.old < result.length }
     ensures within { result.status ≢ no_room → result.length ≤ length room.new }
     ensures too_short { result.status ≡ no_room → room.new ≡ room.old }

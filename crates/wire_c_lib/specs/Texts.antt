@@ -60,9 +60,9 @@ pub record RefusesLines (terms : WireTerms) (text wrongs : List ℕ) : Type 0 wh
   pub wrongs_are : MakesFrames sending text frames wrongs false
 
 -- This is the text of a refusal of lines; no other failure has one.
-abbrev pub Refuses : WireFailure → List ℕ → Type 0
-Refuses (failure.Refused why) text = text ≡ string_bytes why
-Refuses _ text = ⊥
+abbrev pub IsTextOfRefusal : WireFailure → List ℕ → Type 0
+IsTextOfRefusal (failure.Refused why) text = text ≡ string_bytes why
+IsTextOfRefusal _ text = ⊥
 
 -- the failure is no refusal of lines
 abbrev pub IsUnrefused : WireFailure → Type 0
