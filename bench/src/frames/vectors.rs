@@ -335,21 +335,41 @@ impl Decoder {
 
 /// Keeps a stream's bytes as they come, and decodes each frame in place once its zero is there: for chunks of a few bytes.
 pub struct Keeper {
-    held: [u8; LIMIT + 64],
+    held: [u8; LIMIT + 64 + 1],
     len: usize,
 }
 
 impl Keeper {
     pub fn new() -> Keeper {
-        Keeper { held: [0; LIMIT + 64], len: 0 }
+        Keeper { held: [0; LIMIT + 64 + 1], len: 0 }
     }
 
     /// Takes a chunk, and hands on each message that ends in it, None for what is none.
     #[inline(always)]
     pub fn take(&mut self, chunk: &[u8], mut each: impl FnMut(Option<&[u8]>)) {
+        let mut len = self.len;
+        if chunk.len() > 64 || len > LIMIT {
+            return self.take_checked(chunk, each);
+        }
+        for &byte in chunk {
+            // SAFETY: there is space for 64 bytes after the limit.
+            unsafe { *self.held.get_unchecked_mut(len) = byte };
+            if byte != 0 {
+                len += 1;
+            } else if len > 0 {
+                each(self.message(len));
+                len = 0;
+            }
+        }
+        self.len = len;
+    }
+
+    /// The same for any chunk, also of a frame that has no space, which is written over itself.
+    #[cold]
+    #[inline(never)]
+    fn take_checked(&mut self, chunk: &[u8], mut each: impl FnMut(Option<&[u8]>)) {
         for &byte in chunk {
             if byte != 0 {
-                // a frame that has no space is written over itself
                 self.held[self.len.min(LIMIT)] = byte;
                 self.len += 1;
             } else if self.len > 0 {
