@@ -674,37 +674,39 @@ fn for_another() -> [Row; 2] {
     ]
 }
 
+/// The peers of a record that is written or read.
+const IN_VEC: [(&str, LengthOf); 2] = [
+    ("by hand", |record| black_box(by_hand::write_vec(record)).map(|bytes| bytes.len())),
+    ("tight", |record| black_box(tight::write_vec(record)).map(|bytes| bytes.len())),
+];
+const IN_ARRAY: [(&str, LengthOf); 2] = [
+    ("by hand", |record| black_box(by_hand::write_array(record)).map(|(_, len)| len)),
+    ("tight", |record| black_box(tight::write_array(record)).map(|(_, len)| len)),
+];
+const FRAME_IN_VEC: [(&str, LengthOf); 2] = [
+    ("by hand", |record| black_box(framed::write_vec(record)).map(|bytes| bytes.len())),
+    ("vectors", |record| black_box(framed::by_vectors::write_vec(record)).map(|bytes| bytes.len())),
+];
+const FRAME_IN_ARRAY: [(&str, LengthOf); 2] = [
+    ("by hand", |record| black_box(framed::write_array(record)).map(|(_, len)| len)),
+    ("vectors", |record| black_box(framed::by_vectors::write_array(record)).map(|(_, len)| len)),
+];
+const READS: [(&str, ReadParts); 2] = [("by hand", by_hand::read), ("tight", tight::read)];
+const KEEPS: [(&str, ReadParts); 2] = [("by hand", by_hand::read_kept), ("tight", tight::read_kept)];
+
 fn framed_rows() -> Vec<Row> {
-    let in_vec: [(&str, LengthOf); 2] = [
-        ("by hand", |record| black_box(by_hand::write_vec(record)).map(|bytes| bytes.len())),
-        ("tight", |record| black_box(tight::write_vec(record)).map(|bytes| bytes.len())),
-    ];
-    let in_array: [(&str, LengthOf); 2] = [
-        ("by hand", |record| black_box(by_hand::write_array(record)).map(|(_, len)| len)),
-        ("tight", |record| black_box(tight::write_array(record)).map(|(_, len)| len)),
-    ];
-    let frame_in_vec: [(&str, LengthOf); 2] = [
-        ("by hand", |record| black_box(framed::write_vec(record)).map(|bytes| bytes.len())),
-        ("vectors", |record| black_box(framed::by_vectors::write_vec(record)).map(|bytes| bytes.len())),
-    ];
-    let frame_in_array: [(&str, LengthOf); 2] = [
-        ("by hand", |record| black_box(framed::write_array(record)).map(|(_, len)| len)),
-        ("vectors", |record| black_box(framed::by_vectors::write_array(record)).map(|(_, len)| len)),
-    ];
-    let reads: [(&str, ReadParts); 2] = [("by hand", by_hand::read), ("tight", tight::read)];
-    let keeps: [(&str, ReadParts); 2] = [("by hand", by_hand::read_kept), ("tight", tight::read_kept)];
     let mut rows = vec![
         lengths("`serialized_size`", RECORD, |build, record| build.length(false, record), &[("by hand", by_hand::size)]),
-        lengths("`to_allocvec`", RECORD, |build, record| build.length(true, record), &in_vec),
-        lengths("`to_extend`", RECORD, |build, record| build.write_by(0, record), &in_vec),
-        lengths("`to_vec`", WRITING, |build, record| build.write_by(1, record), &in_array),
-        lengths("`to_io`", RECORD, |build, record| build.write_by(2, record), &in_array),
-        spelled("`take_from_bytes`", TAKING, |build| build.take, &reads),
-        spelled("`from_bytes_owned`", TAKING, |build| build.read_owned, &keeps),
+        lengths("`to_allocvec`", RECORD, |build, record| build.length(true, record), &IN_VEC),
+        lengths("`to_extend`", RECORD, |build, record| build.write_by(0, record), &IN_VEC),
+        lengths("`to_vec`", WRITING, |build, record| build.write_by(1, record), &IN_ARRAY),
+        lengths("`to_io`", RECORD, |build, record| build.write_by(2, record), &IN_ARRAY),
+        spelled("`take_from_bytes`", TAKING, |build| build.take, &READS),
+        spelled("`from_bytes_owned`", TAKING, |build| build.read_owned, &KEEPS),
         spelled("`from_io`", RECORD_READ, |build| build.read_io, &[("by hand", by_hand::read_from)]),
         writing("`to_slice_cobs`", |build| build.write_frame, &[("by hand", framed::write), ("vectors", framed::by_vectors::write)]),
-        lengths("`to_vec_cobs`", FRAMING, |build, record| build.write_by(3, record), &frame_in_array),
-        lengths("`to_allocvec_cobs`", FRAMING, |build, record| build.write_by(4, record), &frame_in_vec),
+        lengths("`to_vec_cobs`", FRAMING, |build, record| build.write_by(3, record), &FRAME_IN_ARRAY),
+        lengths("`to_allocvec_cobs`", FRAMING, |build, record| build.write_by(4, record), &FRAME_IN_VEC),
         writing("`frame_into`", |build| build.frame_into, &[("by hand", framed::frame), ("vectors", framed::by_vectors::frame)]),
         reading(
             "`from_bytes_cobs`",
@@ -863,11 +865,7 @@ fn line_rows() -> Vec<Row> {
         ("vectors", streams::records_by_vectors),
     ];
     let strict: [(&str, PeerTaking); 1] = [("runs", streams::exact_records_by_runs)];
-    let reads: [(&str, PeerTaking); 2] = [("runs", streams::records_by_reads), ("vectors", streams::read_by_vectors)];
-    let listed: [(&str, PeerTaking); 2] = [("runs", streams::records_listed), ("vectors", streams::listed_by_vectors)];
-    let gathered: [(&str, PeerTaking); 2] = [("runs", streams::values_listed), ("vectors", streams::listed_by_vectors)];
     let lent: [(&str, PeerTaking); 2] = [("runs", streams::lent_records_by_runs), ("vectors", streams::lent_records_by_vectors)];
-    let exact: [(&str, PeerTaking); 1] = [("runs", streams::exact_records_listed)];
     let room = 40 * VALUES as usize;
     let mut rows = vec![
         making("`Sender::send`", room, |build| build.send, [codec::send::<false>, codec::send::<true>]),
@@ -885,6 +883,18 @@ fn line_rows() -> Vec<Row> {
         rows.push(taking(&of("a receiver's `push_strict`"), piece, |build| build.push_strict, &strict));
         rows.push(taking(&of("an owned receiver's `push`"), piece, |build| build.push_owned, &pieces));
     }
+    rows.extend(reading_rows());
+    rows.push(lying());
+    rows
+}
+
+/// Rows of a line that is read.
+fn reading_rows() -> Vec<Row> {
+    let reads: [(&str, PeerTaking); 2] = [("runs", streams::records_by_reads), ("vectors", streams::read_by_vectors)];
+    let listed: [(&str, PeerTaking); 2] = [("runs", streams::records_listed), ("vectors", streams::listed_by_vectors)];
+    let gathered: [(&str, PeerTaking); 2] = [("runs", streams::values_listed), ("vectors", streams::listed_by_vectors)];
+    let exact: [(&str, PeerTaking); 1] = [("runs", streams::exact_records_listed)];
+    let mut rows = Vec::new();
     for each in [64, 1024] {
         let of = |call: &str| format!("{call}, reads of {each}");
         rows.push(taking(&of("`receive_each_with`"), each, |build| build.receive_each, &reads));
@@ -896,7 +906,6 @@ fn line_rows() -> Vec<Row> {
         rows.push(taking(&of("`receive_owned_strict`"), each, |build| build.receive_owned_strict, &exact));
         rows.push(taking(&of("`receive_by_accumulator`"), each, |build| build.gather, &gathered));
     }
-    rows.push(lying());
     rows
 }
 

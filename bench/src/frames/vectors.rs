@@ -43,55 +43,62 @@ pub fn encode(source: &[u8], dest: &mut [u8]) -> usize {
     unsafe { encode_to(source.as_ptr(), len, dest.as_mut_ptr()) }
 }
 
+/// Copies 254 bytes, with codes in place of zeros, and returns where the last code is.
+#[inline(always)]
+unsafe fn encode_block(from: *const u8, dest: *mut u8, mut code_at: usize, at: usize) -> usize {
+    let lines = load_block(from);
+    store_block(dest.add(at), lines);
+    if are_clear(lines) {
+        return code_at;
+    }
+    for (i, line) in lines.into_iter().enumerate() {
+        let zeros = marks_64(line, 0) & if i == 2 { (1 << 62) - 1 } else { u64::MAX };
+        code_at = put_codes(dest, code_at, at + LINES[i], zeros);
+    }
+    code_at
+}
+
+/// Copies up to 64 bytes, and marks the zeros.
+#[inline(always)]
+unsafe fn copy_line(from: *const u8, to: *mut u8, n: usize) -> u64 {
+    if n < 64 {
+        return move_few::<true>(from, to, n);
+    }
+    let line = load_64(from);
+    store_64(to, line);
+    marks_64(line, 0)
+}
+
 unsafe fn encode_to(source: *const u8, len: usize, dest: *mut u8) -> usize {
     let (mut from, mut code_at, mut at) = (0, 0, 1);
-    loop {
-        let open = 255 - (at - code_at);
-        let (s, d, left) = (source.add(from), dest.add(at), len - from);
-        if open == 254 && left >= 254 {
-            let lines = load_block(s);
-            store_block(d, lines);
-            from += 254;
-            if are_clear(lines) {
-                *dest.add(code_at) = 255;
-                if from == len {
-                    return at + 254;
-                }
-                code_at = at + 254;
-                at += 255;
-                continue;
-            }
-            for (i, line) in lines.into_iter().enumerate() {
-                let zeros = marks_64(line, 0) & if i == 2 { (1 << 62) - 1 } else { u64::MAX };
-                code_at = put_codes(dest, code_at, at + LINES[i], zeros);
-            }
-            at += 254;
+    while from < len {
+        let mut open = 255 - (at - code_at);
+        if open == 0 {
+            *dest.add(code_at) = 255;
+            code_at = at;
+            at += 1;
+            open = 254;
+        }
+        let left = len - from;
+        let count = if open == 254 && left >= 254 {
+            code_at = encode_block(source.add(from), dest, code_at, at);
+            254
         } else {
             let n = left.min(64);
-            let zeros = if n == 64 {
-                let line = load_64(s);
-                store_64(d, line);
-                marks_64(line, 0)
-            } else {
-                move_few::<true>(s, d, n)
-            };
+            let zeros = copy_line(source.add(from), dest.add(at), n);
             if n > open && zeros & ((1 << open) - 1) == 0 {
                 // the block is full before these bytes end; what was stored after it is written again
-                *dest.add(code_at) = 255;
-                from += open;
-                code_at = at + open;
-                at += open + 1;
-                continue;
+                open
+            } else {
+                code_at = put_codes(dest, code_at, at, zeros);
+                n
             }
-            code_at = put_codes(dest, code_at, at, zeros);
-            from += n;
-            at += n;
-        }
-        if from == len {
-            *dest.add(code_at) = (at - code_at) as u8;
-            return at;
-        }
+        };
+        from += count;
+        at += count;
     }
+    *dest.add(code_at) = (at - code_at) as u8;
+    at
 }
 
 /// Makes the frame of a message of n bytes, 254 at most, where it is after the first byte, and returns its length.
@@ -312,13 +319,7 @@ impl Decoder {
         // a message that has no space is written over itself
         let to = self.dest.as_mut_ptr().add(self.at.min(LIMIT));
         let n = rest.len().min(64);
-        let zeros = if n == 64 {
-            let line = load_64(rest.as_ptr());
-            store_64(to, line);
-            marks_64(line, 0)
-        } else {
-            move_few::<true>(rest.as_ptr(), to, n)
-        };
+        let zeros = copy_line(rest.as_ptr(), to, n);
         let mut count = if zeros == 0 { n } else { zeros.trailing_zeros() as usize };
         let mut ends = zeros != 0;
         if self.full {
