@@ -557,7 +557,7 @@ fn cobs_rows() -> Vec<Row> {
         // SAFETY: two slices that don't overlap, each by its pointer and its length.
         unsafe { (build.state_push)(s.as_ptr(), s.len(), d.as_mut_ptr(), d.len()) }
     };
-    rows.push(encoding("an `EncoderState`, 200".to_owned(), Goal::new(1.3, 1.3), source, by_state, &[("bytes", bytes::encode)]));
+    rows.push(encoding("an `EncoderState`, 200".to_owned(), Goal::new(1.2, 1.3), source, by_state, &[("bytes", bytes::encode)]));
     let stream: &'static [u8] = data::stream(STREAM).leak();
     let mut feeding = ours(|build| Box::new(move |_| of_found(counted(build.state_feed, black_box(stream)))));
     let by_bytes: fn(&[u8]) -> Found = streams::told_by_bytes;
