@@ -10,9 +10,7 @@ use Rattle.wire_lib.specs.Received.{HasTold, held_by, read_by, reading_of, added
 use Rattle.wire_c_lib.specs.declared.terms.WireTerms.{WireTerms}
 use Rattle.wire_c_lib.specs.Flags.{is_set}
 use Rattle.wire_c_lib.specs.Streams.{skipped_in, TellsLast, TellsStream, ReadsStream}
-use Rattle.wire_c_lib.specs.declared.types.WireFailure.{WireFailure}
-use Rattle.wire_c_lib.specs.declared.types.WireFailure.TheVariants as failure
-use Rattle.wire_c_lib.specs.Texts.{MakesFrames, WritesFrames, RefusesLines, IsUnrefused, IsOfLines}
+use Rattle.wire_c_lib.specs.Texts.{MakesFrames, WritesFrames, RefusesLines}
 
 -- a stream's lines, by what a receiver that was pushed all of it has told
 pub stream_told : (r old : Reading) (new : LinesOfFrames) (ends : Bool) (passed skip : ℕ)
@@ -87,9 +85,3 @@ refuses_by terms s text frames wrongs good a b e m = record {
   frames = frames;
   wrongs_are = subst (λ g. MakesFrames s text frames wrongs g) e m;
 }
-
--- a failure that is no refusal says nothing of lines
-pub none_of_lines : (terms : WireTerms) (text : List ℕ) (e : WireFailure) → IsUnrefused e → IsOfLines terms text e
-none_of_lines terms text (failure.Wrong why) u = tt
-none_of_lines terms text (failure.Refused why) u = absurd u
-none_of_lines terms text failure.OutOfMemory u = tt

@@ -3,5 +3,5 @@ use Rattle.wire_c_lib.proofs.CallsLemmas.{reads_by}
 use Rattle.wire_c_lib.proofs.reading.read.Goals as goal
 
 pub returns-clause-lines : goal.returns-clause-lines
-returns-clause-lines c = reads_by c.args.told.terms _ c.args.stream.now c.in_ok-text.text.items _ _ _ c.in_ok-text.ensures refl
+returns-clause-lines c = reads_by c.args.told.terms _ c.args.stream.now _ _ _ _ c.in-Ok-lines_of.ensures refl
     c.is_flag-2.ensures c.is_flag-3.ensures c.is_flag-4.ensures c.is_flag-is_inside.ensures c.skipped-passed.ensures.is
