@@ -5,7 +5,6 @@ fn main() {
     for name in [
         "BENCH_LIBS",
         "BENCH_BEFORE",
-        "BENCH_V3",
         "BENCH_KIT",
         "BENCH_POSTCARD",
     ] {
@@ -16,10 +15,6 @@ fn main() {
     if let Ok(before) = env::var("BENCH_BEFORE") {
         println!("cargo:rustc-cfg=before");
         link(&before, "before_bench_layers");
-    }
-    if let Ok(wider) = env::var("BENCH_V3") {
-        println!("cargo:rustc-cfg=v3");
-        link(&wider, "v3_bench_layers");
     }
     let kit = env::var("BENCH_KIT").expect("run this by `bench/run`");
     link(&kit, "libc_c");

@@ -1,4 +1,4 @@
-//! The C functions of the proved libraries: as they stand, as they stood at an earlier commit, and built for wider vectors.
+//! The C functions of the proved libraries, of this state and perhaps of an earlier commit.
 
 /// What a call answers: whether it was done, and how many bytes it gave.
 #[repr(C)]
@@ -288,23 +288,15 @@ macro_rules! calls {
 calls!(now, "ours", "");
 #[cfg(before)]
 calls!(earlier, "before", "before_");
-#[cfg(v3)]
-calls!(wider, "v3", "v3_");
 
 /// The libraries as they stand.
 pub const OURS: Calls = now::CALLS;
 
-/// The libraries for the vectors of x86-64-v3.
-#[cfg(v3)]
-pub const WIDER: Calls = wider::CALLS;
-
-/// The libraries as they stand, and where there are some, as they stood before and for the vectors of x86-64-v3.
+/// The libraries of this state, and of an earlier one if it is linked.
 pub fn all() -> Vec<Calls> {
     vec![
         now::CALLS,
         #[cfg(before)]
         earlier::CALLS,
-        #[cfg(v3)]
-        wider::CALLS,
     ]
 }

@@ -1,10 +1,10 @@
 //! The cases: what is called on what.
 use crate::calls::{self, Calls, Found, Parts};
 use crate::data::{self, message, Numbers, Record, KINDS};
-use crate::frames::{bytes, first_zero, runs, wide, windows};
-use crate::peers::{records as by_hand, streams as pieces};
-use crate::table::{duration, head, row, size, Report};
-use crate::timing::{best_peer, named, run, without, Side, Timed, Way, Work};
+use crate::frames::{bytes, first_zero, runs, vectors, wide, windows};
+use crate::peers::{records as by_hand, streams as pieces, tight};
+use crate::table::{size, Goal, Report};
+use crate::timing::{named, run, without, Side, Timed, Way, Work};
 use std::hint::black_box;
 
 pub const LENGTHS: [usize; 6] = [4, 16, 64, 200, 1024, 64 << 10];
@@ -13,7 +13,6 @@ const LARGE: usize = 64 << 10;
 fn side(calls: &Calls) -> Side {
     match calls.name {
         "ours" => Side::Ours,
-        "v3" => Side::Wider,
         _ => Side::Before,
     }
 }
@@ -56,21 +55,24 @@ type Encoder = fn(&[u8], &mut [u8]) -> usize;
 type Decoder = fn(&[u8], &mut [u8]) -> Option<usize>;
 type InPlace = fn(&mut [u8]) -> Option<usize>;
 
-const ENCODERS: [(&str, Encoder); 3] = [
-    ("byte by byte", bytes::encode),
-    ("by runs", runs::encode),
-    ("16 at a time", wide::encode),
+const ENCODERS: [(&str, Encoder); 4] = [
+    ("bytes", bytes::encode),
+    ("runs", runs::encode),
+    ("16", wide::encode),
+    ("vectors", vectors::encode),
 ];
-const DECODERS: [(&str, Decoder); 4] = [
-    ("byte by byte", bytes::decode),
-    ("by runs", runs::decode),
-    ("16 at a time", wide::decode),
-    ("by windows", windows::decode),
+const DECODERS: [(&str, Decoder); 5] = [
+    ("bytes", bytes::decode),
+    ("runs", runs::decode),
+    ("16", wide::decode),
+    ("windows", windows::decode),
+    ("vectors", vectors::decode),
 ];
-const IN_PLACE: [(&str, InPlace); 3] = [
-    ("byte by byte", bytes::decode_in_place),
-    ("by runs", runs::decode_in_place),
-    ("by windows", windows::decode_in_place),
+const IN_PLACE: [(&str, InPlace); 4] = [
+    ("bytes", bytes::decode_in_place),
+    ("runs", runs::decode_in_place),
+    ("windows", windows::decode_in_place),
+    ("vectors", vectors::decode_in_place),
 ];
 
 /// Sees that all encode alike, and that ours refuse where there is one byte too few.
@@ -167,8 +169,9 @@ fn time_in_place(samples: usize, framed: &[u8]) -> Vec<Timed> {
     without(&run(samples, ways), "copy")
 }
 
-/// What is aimed at: the ratio of a call on so many bytes of a kind to the best peer.
-pub fn goal(call: &str, len: usize, kind: usize) -> f64 {
+/// What was aimed at before 27 November 2026: the ratio of a call on so many bytes of a kind to the best peer. The library had vectors
+/// of 16 bytes then, and the peers' C library those of 32.
+fn goal_before(call: &str, len: usize, kind: usize) -> f64 {
     match (call, len) {
         ("push", 16) => 1.2,
         ("try_encode" | "push", 1024 | LARGE) => [1.3, 1.0, 0.6, 0.1][kind],
@@ -189,97 +192,75 @@ pub fn goal(call: &str, len: usize, kind: usize) -> f64 {
     }
 }
 
-/// The same for a decoder's `feed`, its `push` of pieces of so many bytes, and for an accumulator's `feed`.
-pub const FED: f64 = 1.1;
-pub const PUSHING: [(usize, f64); 3] = [(1, 1.1), (64, 0.7), (4096, 0.5)];
-pub const FEEDING: [(usize, f64); 3] = [(1, 0.9), (64, 0.8), (4096, 0.7)];
+/// What is aimed at, by instructions and by time: of a call on so many bytes of a kind.
+pub fn goal(call: &str, len: usize, kind: usize) -> Goal {
+    let before = goal_before(call, len, kind);
+    Goal::new(if len < 64 { before } else { 1.2 }, before)
+}
 
-/// The same for a record, over the straight peer.
-pub const WRITING: f64 = 0.9;
-pub const READING: f64 = 0.95;
+/// The same of a stream in chunks of so many bytes: a decoder's `feed`, its `push`, and an accumulator's `feed`.
+pub const STREAMED: f64 = 1.3;
+pub const FED: Goal = Goal::new(STREAMED, 1.1);
+
+pub fn pushing(piece: usize) -> Goal {
+    let before = [(1, 1.1), (64, 0.7), (4096, 0.5)].into_iter().find(|goal| goal.0 == piece);
+    Goal { now: STREAMED, before: before.map(|goal| goal.1) }
+}
+
+pub fn feeding(piece: usize) -> Goal {
+    let before = [(1, 0.9), (64, 0.8), (4096, 0.7)].into_iter().find(|goal| goal.0 == piece);
+    Goal { now: STREAMED, before: before.map(|goal| goal.1) }
+}
+
+/// The chunks of streams.
+pub const PIECES: [usize; 7] = [1, 2, 4, 8, 16, 64, 4096];
+
+/// The same for a record.
+pub const WRITING: Goal = Goal::new(1.1, 0.9);
+pub const READING: Goal = Goal::new(1.1, 0.95);
+
+/// The same for another sentinel, over zero.
+pub const ANOTHER: Goal = Goal::new(1.05, 1.05);
 
 /// The times of each length and kind of one call.
 type Grid = Vec<[Vec<Timed>; 4]>;
 
-fn print_grid(report: &mut Report, call: &str, grid: &Grid) {
-    head(
-        &format!("`{call}`: time / time of the best peer (goal), time"),
-        &["Bytes", KINDS[0], KINDS[1], KINDS[2], KINDS[3]],
-    );
+fn print_grid(report: &mut Report, call: &'static str, grid: &Grid) {
+    report.begin(call);
     for (&len, times) in LENGTHS.iter().zip(grid) {
-        let mut cells = vec![size(len)];
         for (kind, timed) in times.iter().enumerate() {
             let what = format!("`{call}`, {}, {}", size(len), KINDS[kind]);
-            let ratio = report.ratio(&what, timed, call, Some(goal(call, len, kind)));
-            let ours = named(timed, Side::Ours, call).expect("our way is timed");
-            let wider = named(timed, Side::Wider, call)
-                .map_or(String::new(), |time| format!("; v3 {:.2}", time / best_peer(timed).median));
-            cells.push(format!("{ratio}, {}{wider}", duration(ours)));
-            if len == LARGE || kind == 0 {
-                report.change(&what, timed, call);
-            }
+            report.times(&what, timed, call, 1.0, Some(goal(call, len, kind)));
         }
-        row(&cells);
-    }
-}
-
-/// Prints what each way takes on the longest messages.
-fn print_times(title: &str, times: &[Vec<Timed>; 4]) {
-    head(title, &["Way", KINDS[0], KINDS[1], KINDS[2], KINDS[3]]);
-    for (i, first) in times[0].iter().enumerate() {
-        let whose = match first.side {
-            Side::Ours => "ours, ",
-            Side::Before => "before, ",
-            Side::Wider => "ours for x86-64-v3, ",
-            Side::Peer => "peer, ",
-            Side::Bound => "",
-        };
-        let mut cells = vec![format!("{whose}{}", first.name)];
-        cells.extend(times.iter().map(|timed| duration(timed[i].median)));
-        row(&cells);
     }
 }
 
 /// Prints what each call takes on no bytes: what is called, and nothing else.
-fn print_nothing(samples: usize) {
+fn print_nothing(samples: usize, report: &mut Report) {
+    report.begin("no bytes");
     let rows = [
         ("try_encode", time_encoding(samples, &[])),
         ("push", time_encoding(samples, &[])),
         ("decode", time_decoding(samples, &[])),
         ("decode_in_place", time_in_place(samples, &[])),
     ];
-    head("A call on no bytes", &["Call", "Ours", "The best peer"]);
     for (call, timed) in rows {
-        let ours = named(&timed, Side::Ours, call).expect("our way is timed");
-        row(&[
-            format!("`{call}`"),
-            duration(ours),
-            duration(best_peer(&timed).median),
-        ]);
+        report.times(&format!("`{call}`, 0"), &timed, call, 1.0, None);
     }
 }
 
 /// The sentinel that is timed beside zero.
 const OTHER: u8 = 10;
 
-/// The time for another sentinel over that for zero, of frames whose bytes are each XORed with it.
-fn ratio_of_sentinels<'a>(samples: usize, work: impl Fn(u8) -> Work<'a>) -> f64 {
-    let ways = vec![
-        way(Side::Ours, "another", work(OTHER)),
-        way(Side::Ours, "zero", work(0)),
-    ];
-    let timed = run(samples, ways);
-    let time = |name| named(&timed, Side::Ours, name).expect("both are timed");
-    time("another") / time("zero")
+/// The times for another sentinel and for zero, of frames whose bytes are each XORed with it.
+fn time_sentinels<'a>(samples: usize, work: impl Fn(u8) -> Work<'a>) -> Vec<Timed> {
+    run(samples, vec![way(Side::Ours, "another", work(OTHER)), way(Side::Peer, "zero", work(0))])
 }
 
 /// Frames for another sentinel than zero, over those for zero.
 pub fn sentinels(samples: usize, report: &mut Report) {
     let ours = calls::OURS;
-    head(
-        "Another sentinel: time / time for zero (goal)",
-        &["Bytes", "Kind", "`push`", "`decode_with_sentinel`", "in place"],
-    );
+    report.begin("another sentinel");
     for len in LENGTHS {
         for kind in [KINDS[0], KINDS[2]] {
             let source = message(kind, len);
@@ -299,25 +280,20 @@ pub fn sentinels(samples: usize, report: &mut Report) {
                 assert_eq!(ours.decode_in_place_for(&mut buf, sentinel), Some(len));
                 assert!(buf[..len] == source);
             }
-            let ratios = [
-                ("`push`", ratio_of_sentinels(samples, |sentinel| {
-                    into_buffer(&source, room(len), move |s, d| ours.push_for(s, d, sentinel))
-                })),
-                ("`decode_with_sentinel`", ratio_of_sentinels(samples, |sentinel| {
-                    let decode = move |s: &[u8], d: &mut [u8]| ours.decode_for(s, d, sentinel);
-                    into_buffer(framed(sentinel), room(len), decode)
-                })),
-                ("in place", ratio_of_sentinels(samples, |sentinel| {
-                    let decode = move |b: &mut [u8]| ours.decode_in_place_for(b, sentinel);
-                    in_place(framed(sentinel), decode)
-                })),
-            ];
-            let mut cells = vec![size(len), kind.to_owned()];
-            for (call, ratio) in ratios {
-                let what = format!("another sentinel, {call}, {}, {kind}", size(len));
-                cells.push(report.figure(&what, ratio, 1.05));
+            let pushed = time_sentinels(samples, |sentinel| {
+                into_buffer(&source, room(len), move |s, d| ours.push_for(s, d, sentinel))
+            });
+            let decoded = time_sentinels(samples, |sentinel| {
+                let decode = move |s: &[u8], d: &mut [u8]| ours.decode_for(s, d, sentinel);
+                into_buffer(framed(sentinel), room(len), decode)
+            });
+            let within = time_sentinels(samples, |sentinel| {
+                in_place(framed(sentinel), move |b: &mut [u8]| ours.decode_in_place_for(b, sentinel))
+            });
+            for (call, timed) in [("push_for", pushed), ("decode_for", decoded), ("in_place_for", within)] {
+                let what = format!("another sentinel, `{call}`, {}, {kind}", size(len));
+                report.times(&what, &timed, "another", 1.0, Some(ANOTHER));
             }
-            row(&cells);
         }
     }
 }
@@ -342,17 +318,11 @@ pub fn encoding_and_decoding(samples: usize, report: &mut Report) {
         decoding.push(framed.each_ref().map(|f| time_decoding(samples, f)));
         in_place.push(framed.each_ref().map(|f| time_in_place(samples, f)));
     }
-    print_nothing(samples);
+    print_nothing(samples, report);
     print_grid(report, "try_encode", &encoding);
     print_grid(report, "push", &encoding);
     print_grid(report, "decode", &decoding);
     print_grid(report, "decode_in_place", &in_place);
-    print_times("Encoding 64 KiB", &encoding[LENGTHS.len() - 1]);
-    print_times("Decoding 64 KiB", &decoding[LENGTHS.len() - 1]);
-    print_times(
-        "Decoding 64 KiB in place",
-        &in_place[LENGTHS.len() - 1],
-    );
 }
 
 /// How a stream is taken in, in pieces of so many bytes.
@@ -388,48 +358,27 @@ fn time_stream(
     run(samples, ways)
 }
 
-/// Prints what each way took.
-fn print_stream(report: &mut Report, what: &str, piece: usize, timed: &[Timed], goal: f64) {
-    let what = format!("{what}, pieces of {piece}");
-    let mut cells = vec![what.clone()];
-    let ours = &timed[0];
-    cells.push(duration(ours.median));
-    for peer in timed.iter().filter(|t| t.side == Side::Peer) {
-        cells.push(format!("{} ({})", duration(peer.median), peer.name));
-    }
-    cells.push(report.ratio(&what, timed, ours.name, Some(goal)));
-    report.change(&what, timed, ours.name);
-    row(&cells);
-}
-
-/// Streams of frames in pieces: a decoder's messages, and an accumulator's records.
+/// Streams of frames in chunks: a decoder's messages, and an accumulator's records.
 pub fn streams(samples: usize, report: &mut Report) {
     let stream = data::stream(1 << 20);
-    head(
-        "A stream of 1 MiB",
-        &[
-            "Call",
-            "Ours",
-            "Peer",
-            "Peer",
-            "Time / time of the best peer (goal)",
-        ],
-    );
-    let taking: [(&str, Taking); 2] = [
-        ("byte by byte", pieces::messages_by_bytes),
-        ("by runs", pieces::messages_by_runs),
+    report.begin("streams");
+    let taking: [(&str, Taking); 3] = [
+        ("bytes", pieces::messages_by_bytes),
+        ("runs", pieces::messages_by_runs),
+        ("vectors", pieces::messages_by_vectors),
     ];
-    for (piece, goal) in PUSHING {
+    for piece in PIECES {
         let timed = time_stream(samples, &stream, piece, "push", Calls::messages, &taking);
-        print_stream(report, "decoder's `push`", piece, &timed, goal);
+        report.times(&format!("decoder's `push`, chunks of {piece}"), &timed, "push", stream.len() as f64, Some(pushing(piece)));
     }
-    let taking: [(&str, Taking); 2] = [
-        ("an accumulator", pieces::records_by_accumulator),
-        ("by runs", pieces::records_by_runs),
+    let taking: [(&str, Taking); 3] = [
+        ("accumulator", pieces::records_by_accumulator),
+        ("runs", pieces::records_by_runs),
+        ("vectors", pieces::records_by_vectors),
     ];
-    for (piece, goal) in FEEDING {
+    for piece in PIECES {
         let timed = time_stream(samples, &stream, piece, "feed", Calls::records, &taking);
-        print_stream(report, "accumulator's `feed`", piece, &timed, goal);
+        report.times(&format!("accumulator's `feed`, chunks of {piece}"), &timed, "feed", stream.len() as f64, Some(feeding(piece)));
     }
 }
 
@@ -457,9 +406,10 @@ fn time_writing(samples: usize, record: &Record<'_>, want: &[u8]) -> Vec<Timed> 
             Box::new(move |r, room| ours.write(r, room)),
         );
     }
-    let peers: [(&str, Writing); 2] = [
-        ("as a crate does it", by_hand::crate_like::write),
+    let peers: [(&str, Writing); 3] = [
+        ("crate", by_hand::crate_like::write),
         ("straight", by_hand::write),
+        ("tight", tight::write),
     ];
     for (name, write) in peers {
         add(Side::Peer, name, Box::new(write));
@@ -488,9 +438,10 @@ fn time_reading(samples: usize, bytes: &[u8], want: Parts) -> Vec<Timed> {
         };
         add(side(&ours), "from_bytes", Box::new(read));
     }
-    let peers: [(&str, Reading); 2] = [
-        ("as a crate does it", by_hand::crate_like::read),
+    let peers: [(&str, Reading); 3] = [
+        ("crate", by_hand::crate_like::read),
         ("straight", by_hand::read),
+        ("tight", tight::read),
     ];
     for (name, read) in peers {
         add(Side::Peer, name, Box::new(read));
@@ -525,26 +476,6 @@ mod real {
     }
 }
 
-fn print_record(report: &mut Report, call: &str, timed: &[Timed], goal: f64) {
-    let ours = &timed[0];
-    let mut cells = vec![format!("`{call}`"), duration(ours.median)];
-    let mut peers = Vec::new();
-    for peer in timed.iter().filter(|t| t.side == Side::Peer) {
-        let ratio = ours.median / peer.median;
-        peers.push(format!(
-            "{}: {} (ratio {ratio:.2})",
-            peer.name,
-            duration(peer.median)
-        ));
-    }
-    cells.push(peers.join("; "));
-    let what = format!("a record's `{call}`");
-    let straight = named(timed, Side::Peer, "straight").expect("that peer is timed");
-    cells.push(report.figure(&what, ours.median / straight, goal));
-    report.change(&what, timed, call);
-    row(&cells);
-}
-
 /// A record to bytes and back.
 pub fn records(samples: usize, report: &mut Report) {
     let list = data::list(&mut Numbers(6), 32);
@@ -559,24 +490,16 @@ pub fn records(samples: usize, report: &mut Report) {
         record.perhaps,
         &list,
     );
-    head(
-        &format!("A record of {count} bytes"),
-        &[
-            "Call",
-            "Ours",
-            "Peers",
-            "Time / time of the straight one (goal)",
-        ],
-    );
+    report.begin("a record");
     let timed = time_writing(samples, &record, &spelling);
-    print_record(report, "to_slice", &timed, WRITING);
+    report.times("a record's `to_slice`", &timed, "to_slice", 1.0, Some(WRITING));
     let timed = time_reading(samples, &spelling, parts);
-    print_record(report, "from_bytes", &timed, READING);
+    report.times("a record's `from_bytes`", &timed, "from_bytes", 1.0, Some(READING));
 }
 
-/// What 1000 bytes cost, in nanoseconds: by each of our calls with the best peer beside it, and by memcpy.
+/// What a byte costs, in nanoseconds: by each of our calls, and by memcpy.
 struct Cost {
-    calls: [(&'static str, f64, f64); 3],
+    calls: [(&'static str, f64); 3],
     copy: f64,
 }
 
@@ -585,42 +508,28 @@ fn cost(samples: usize, kind: &str, len: usize) -> Cost {
     let mut frame = vec![0; room(len) + 1];
     let count = runs::encode(&source, &mut frame);
     let framed = &frame[..count + 1];
-    let per_byte = |ns: f64| ns * 1000.0 / len as f64;
-    let of = |timed: &[Timed], name| {
-        let ours = named(timed, Side::Ours, name).expect("our way is timed");
-        (name, per_byte(ours), per_byte(best_peer(timed).median))
-    };
+    let each = |timed: &[Timed], side, name| named(timed, side, name).expect("it is timed") / len as f64;
+    let ours = |timed: &[Timed], name| (name, each(timed, Side::Ours, name));
     let encoding = time_encoding(samples, &source);
-    let copy = named(&encoding, Side::Bound, "memcpy").expect("memcpy is timed");
     Cost {
         calls: [
-            of(&encoding, "try_encode"),
-            of(&time_decoding(samples, framed), "decode"),
-            of(&time_in_place(samples, framed), "decode_in_place"),
+            ours(&encoding, "try_encode"),
+            ours(&time_decoding(samples, framed), "decode"),
+            ours(&time_in_place(samples, framed), "decode_in_place"),
         ],
-        copy: per_byte(copy),
+        copy: each(&encoding, Side::Bound, "memcpy"),
     }
 }
 
-/// What a byte costs as messages grow: it should grow no more than it does for memcpy, from 64 KiB to 4 MiB.
+/// How much more a byte costs of 4 MiB than of 64 KiB: it should grow no more than it does for memcpy, which leaves the caches too.
 pub fn growth(samples: usize, report: &mut Report) {
-    const SIZES: [usize; 4] = [LARGE, 256 << 10, 1 << 20, 4 << 20];
-    head(
-        "Growth: nanoseconds for 1000 bytes, ours (best peer)",
-        &["Bytes", "Kind", "`try_encode`", "`decode`", "`decode_in_place`", "memcpy"],
-    );
+    report.begin("growth");
     for kind in &KINDS[..2] {
-        let costs = SIZES.map(|len| cost(samples, kind, len));
-        for (len, cost) in SIZES.iter().zip(&costs) {
-            let mut cells = vec![size(*len), kind.to_string()];
-            cells.extend(cost.calls.iter().map(|(_, ours, peer)| format!("{ours:.0} ({peer:.0})")));
-            cells.push(format!("{:.0}", cost.copy));
-            row(&cells);
-        }
-        let [first, .., last] = &costs;
-        for ((call, before, _), (_, behind, _)) in first.calls.iter().zip(&last.calls) {
-            let what = format!("growth of `{call}` over memcpy's, {kind}");
-            report.figure(&what, (behind / before) / (last.copy / first.copy), 1.0);
+        let [few, many] = [LARGE, 4 << 20].map(|len| cost(samples, kind, len));
+        let copy = many.copy / few.copy;
+        for ((call, before), (_, after)) in few.calls.iter().zip(&many.calls) {
+            let what = format!("growth of `{call}`, {kind}");
+            report.line(&what, "factor", after / before, &[("memcpy", copy)], Some(Goal::new(1.0, 1.0)));
         }
     }
 }

@@ -1,31 +1,26 @@
-//! Counts the instructions of calls, ours and the peers', by `valgrind --tool=callgrind`, and prints tables of them. No load of
-//! the machine changes them.
-#[cfg(v3)]
-use crate::calls::WIDER;
+//! Counts the instructions of calls, ours and the peers', by `valgrind --tool=callgrind`, and prints them. No load of the machine
+//! changes them.
 use crate::calls::{Calls, Found, Parts, OURS};
-use crate::cases::{goal, room, FED, FEEDING, LENGTHS, PUSHING, READING, WRITING};
+use crate::cases::{feeding, goal, pushing, room, ANOTHER, FED, LENGTHS, PIECES, READING, WRITING};
 use crate::data::{self, message, record, Record, KINDS};
-use crate::frames::{bytes, runs, wide, windows};
+use crate::frames::{bytes, runs, vectors, wide, windows};
 use crate::layers;
-use crate::peers::{records as by_hand, streams as pieces};
+use crate::peers::{records as by_hand, streams as pieces, tight};
 use crate::remote;
-use crate::table::{head, row, size, Report};
+use crate::table::{size, Report};
 use std::collections::BTreeMap;
 use std::hint::black_box;
 use std::path::Path;
 use std::process::Command;
 use std::{env, fs};
 
-const PIECES: [usize; 3] = [1, 64, 4096];
 /// How long a stream is, at least.
 const STREAM: usize = 64 << 10;
 /// So many calls are counted at once, behind one that isn't.
 const TIMES: u64 = 4;
 
-/// What is written for a table: whose a call is, if it is no peer's.
+/// Whose a call is, if it is no peer's.
 const OURS_NAME: &str = "ours";
-/// Ours for the vectors of x86-64-v3.
-const WIDER_NAME: &str = "v3";
 
 mod callgrind {
     use std::ffi::CStr;
@@ -80,38 +75,31 @@ type Taking = fn(&[u8], usize) -> Found;
 const ENCODERS: &[(&str, &str, IntoBuffer)] = &[
     ("try_encode", OURS_NAME, |s, d| OURS.try_encode(s, d)),
     ("push", OURS_NAME, |s, d| OURS.push(s, d)),
-    #[cfg(v3)]
-    ("try_encode", WIDER_NAME, |s, d| WIDER.try_encode(s, d)),
-    #[cfg(v3)]
-    ("push", WIDER_NAME, |s, d| WIDER.push(s, d)),
     ("encode", "bytes", |s, d| Some(bytes::encode(s, d))),
     ("encode", "runs", |s, d| Some(runs::encode(s, d))),
     ("encode", "16", |s, d| Some(wide::encode(s, d))),
+    ("encode", "vectors", |s, d| Some(vectors::encode(s, d))),
 ];
 const DECODERS: &[(&str, &str, IntoBuffer)] = &[
     ("decode", OURS_NAME, |s, d| OURS.decode(s, d)),
-    #[cfg(v3)]
-    ("decode", WIDER_NAME, |s, d| WIDER.decode(s, d)),
     ("decode", "bytes", bytes::decode),
     ("decode", "runs", runs::decode),
     ("decode", "16", wide::decode),
     ("decode", "windows", windows::decode),
+    ("decode", "vectors", vectors::decode),
 ];
 const IN_PLACE: &[(&str, &str, InPlace)] = &[
     ("decode_in_place", OURS_NAME, |b| OURS.decode_in_place(b)),
-    #[cfg(v3)]
-    ("decode_in_place", WIDER_NAME, |b| WIDER.decode_in_place(b)),
     ("decode_in_place", "bytes", bytes::decode_in_place),
     ("decode_in_place", "runs", runs::decode_in_place),
     ("decode_in_place", "windows", windows::decode_in_place),
+    ("decode_in_place", "vectors", vectors::decode_in_place),
 ];
 /// Our calls of frames for a sentinel, by the sentinel.
 const OTHER: &[(&str, &str, IntoBuffer)] = &[
     ("push_for", "zero", |s, d| OURS.push_for(s, d, 0)),
     ("push_for", "another", |s, d| OURS.push_for(s, d, 10)),
     ("decode_for", "zero", |s, d| OURS.decode_for(s, d, 0)),
-    #[cfg(v3)]
-    ("decode_for", WIDER_NAME, |s, d| WIDER.decode_for(s, d, 0)),
     ("decode_for", "another", |s, d| OURS.decode_for(s, d, 10)),
 ];
 const OTHER_IN_PLACE: [(&str, &str, InPlace); 2] = [
@@ -123,47 +111,46 @@ type Within = fn(&mut [u8], usize) -> usize;
 type Counting = fn(&[u8]) -> usize;
 const STANDING: &[(&str, &str, Within)] = &[
     ("encode_in_place", OURS_NAME, |b, n| OURS.encode_in_place(b, n)),
-    #[cfg(v3)]
-    ("encode_in_place", WIDER_NAME, |b, n| WIDER.encode_in_place(b, n)),
     ("encode_in_place", "bytes", bytes::encode_in_place),
     ("encode_in_place", "runs", runs::encode_in_place),
+    ("encode_in_place", "vectors", vectors::encode_in_place),
 ];
 const COUNTERS: &[(&str, &str, Counting)] = &[
     ("encoded_length", OURS_NAME, |s| OURS.encoded_length(s)),
-    #[cfg(v3)]
-    ("encoded_length", WIDER_NAME, |s| WIDER.encoded_length(s)),
     ("encoded_length", "bytes", bytes::encoded_length),
     ("encoded_length", "runs", runs::encoded_length),
+    ("encoded_length", "vectors", vectors::encoded_length),
     ("before_sentinel", OURS_NAME, |s| OURS.before_zero(s)),
-    #[cfg(v3)]
-    ("before_sentinel", WIDER_NAME, |s| WIDER.before_zero(s)),
     ("before_sentinel", "bytes", bytes::before_zero),
     ("before_sentinel", "runs", runs::before_zero),
+    ("before_sentinel", "vectors", vectors::before_zero),
 ];
 /// How long a message is that may stand where its frame is to be.
 const STANDING_LENGTHS: [usize; 4] = [4, 16, 64, 200];
 
 const STREAMS: &[(&str, &str, Taking)] = &[
     ("push", OURS_NAME, |s, n| OURS.messages(s, n)),
-    #[cfg(v3)]
-    ("push", WIDER_NAME, |s, n| WIDER.messages(s, n)),
     ("push", "bytes", pieces::messages_by_bytes),
     ("push", "runs", pieces::messages_by_runs),
+    ("push", "vectors", pieces::messages_by_vectors),
     ("decoder's feed", OURS_NAME, |s, _| OURS.fed(s)),
-    #[cfg(v3)]
-    ("decoder's feed", WIDER_NAME, |s, _| WIDER.fed(s)),
     ("decoder's feed", "bytes", pieces::messages_by_bytes),
     ("decoder's feed", "runs", pieces::messages_by_runs),
+    ("decoder's feed", "vectors", pieces::messages_by_vectors),
     ("feed", OURS_NAME, |s, n| OURS.records(s, n)),
-    #[cfg(v3)]
-    ("feed", WIDER_NAME, |s, n| WIDER.records(s, n)),
     ("feed", "accumulator", pieces::records_by_accumulator),
     ("feed", "runs", pieces::records_by_runs),
+    ("feed", "vectors", pieces::records_by_vectors),
 ];
+
+/// Our way of taking a stream.
+fn ours_of(call: &str) -> Taking {
+    STREAMS.iter().find(|way| (way.0, way.1) == (call, OURS_NAME)).expect("our way").2
+}
 
 /// Whether a call is a peer's.
 fn is_peer(whose: &str) -> bool {
-    whose != OURS_NAME && whose != WIDER_NAME
+    whose != OURS_NAME
 }
 
 /// The name of a count.
@@ -272,17 +259,15 @@ fn read_by(ours: &Calls, bytes: &[u8]) -> Option<Parts> {
 
 const WRITERS: &[(&str, Writing)] = &[
     (OURS_NAME, |r, room| OURS.write(r, room)),
-    #[cfg(v3)]
-    (WIDER_NAME, |r, room| WIDER.write(r, room)),
     ("straight", by_hand::write),
     ("crate", by_hand::crate_like::write),
+    ("tight", tight::write),
 ];
 const READERS: &[(&str, Reading)] = &[
     (OURS_NAME, |bytes| read_by(&OURS, bytes)),
-    #[cfg(v3)]
-    (WIDER_NAME, |bytes| read_by(&WIDER, bytes)),
     ("straight", by_hand::read),
     ("crate", by_hand::crate_like::read),
+    ("tight", tight::read),
 ];
 
 fn count_record() {
@@ -315,6 +300,7 @@ pub fn count_all() {
     let stream = data::stream(STREAM);
     for piece in PIECES {
         for (call, whose, take) in STREAMS.iter().copied() {
+            assert_eq!(take(&stream, piece), ours_of(call)(&stream, piece), "{call}, {whose}, chunks of {piece}");
             count(&named(call, whose, piece, "stream"), || {
                 black_box(take(black_box(&stream), black_box(piece)));
             });
@@ -355,26 +341,18 @@ impl Counts {
         self.0[&named(call, whose, len, kind)]
     }
 
-    /// Ours for the vectors of x86-64-v3, where they were counted.
-    pub fn wider(&self, call: &str, len: usize, kind: &str) -> Option<f64> {
-        self.0.get(&named(call, WIDER_NAME, len, kind)).copied()
-    }
-
-    /// Of a call on a message, and of the peer with the fewest, with their ratio and what is aimed at.
-    fn cell(&self, report: &mut Report, grid: &Grid, len: usize, kind: usize) -> String {
+    /// Prints a call on a message: ours and the peers', without what is around a call.
+    fn print_cell(&self, report: &mut Report, grid: &Grid, len: usize, kind: usize) {
         let (of, kind) = (goal(grid.call, len, kind), KINDS[kind]);
         let around = self.of("nothing", grid.around, len, kind);
-        let ours = self.of(grid.ours.0, grid.ours.1, len, kind) - around;
-        let counted = grid.peers.iter().map(|(call, whose)| (self.of(call, whose, len, kind) - around, whose));
-        let best = counted.min_by(|a, b| a.0.total_cmp(&b.0)).expect("a peer");
+        let figure = |&(call, whose): &(&str, &str)| self.of(call, whose, len, kind) - around;
+        let peers: Vec<_> = grid.peers.iter().map(|peer| (peer.1, figure(peer))).collect();
         let what = format!("`{}`, {}, {kind}", grid.call, size(len));
-        let ratio = report.figure(&what, ours / best.0, of);
-        let wider = self.wider(grid.ours.0, len, kind).map(|wider| format!("; v3 {:.2}", (wider - around) / best.0));
-        format!("{ours:.0} / {:.0} {}: {ratio}{}", best.0, &best.1, wider.unwrap_or_default())
+        report.line(&what, "call", figure(&grid.ours), &peers, Some(of));
     }
 }
 
-/// The table of a call: what it is counted as, what is around it, and its peers.
+/// The rows of a call: what it is counted as, what is around it, and its peers.
 struct Grid {
     call: &'static str,
     ours: (&'static str, &'static str),
@@ -383,22 +361,12 @@ struct Grid {
     lengths: &'static [usize],
 }
 
-fn print_grid(counts: &Counts, report: &mut Report, grid: &Grid) {
-    let title = format!("Instructions: `{}` / the peer with the fewest: ratio (goal)", grid.call);
-    head(&title, &["Bytes", KINDS[0], KINDS[1], KINDS[2], KINDS[3]]);
-    for &len in grid.lengths {
-        let mut cells = vec![size(len)];
-        cells.extend([0, 1, 2, 3].map(|kind| counts.cell(report, grid, len, kind)));
-        row(&cells);
-    }
-}
-
 /// The peers among ways.
 fn peers_of<F>(ways: &[(&'static str, &'static str, F)]) -> Vec<(&'static str, &'static str)> {
     ways.iter().filter(|way| is_peer(way.1)).map(|way| (way.0, way.1)).collect()
 }
 
-/// The tables of calls on messages.
+/// The rows of calls on messages.
 fn grids() -> Vec<Grid> {
     let grid = |call, around, peers| Grid { call, ours: (call, OURS_NAME), around, peers, lengths: &LENGTHS };
     let encoders = peers_of(ENCODERS);
@@ -421,63 +389,44 @@ fn grids() -> Vec<Grid> {
     ]
 }
 
+/// Frames for another sentinel, over those for zero.
 fn print_sentinels(counts: &Counts, report: &mut Report) {
-    let title = "Instructions for another sentinel, over those for zero (goal)";
-    head(title, &["Bytes", "Kind", "`push`", "`decode_with_sentinel`", "in place"]);
-    for len in LENGTHS {
-        for kind in [KINDS[0], KINDS[2]] {
-            let mut ratio = |call: &str| {
-                let around = if call == "in_place_for" { "within" } else { "into" };
-                let around = counts.of("nothing", around, len, kind);
-                let of = |whose| counts.of(call, whose, len, kind) - around;
+    report.begin("another sentinel");
+    for (call, around) in [("push_for", "into"), ("decode_for", "into"), ("in_place_for", "within")] {
+        for len in LENGTHS {
+            for kind in [KINDS[0], KINDS[2]] {
+                let of = |whose| counts.of(call, whose, len, kind) - counts.of("nothing", around, len, kind);
                 let what = format!("another sentinel, `{call}`, {}, {kind}", size(len));
-                report.figure(&what, of("another") / of("zero"), 1.05)
-            };
-            let mut cells = vec![size(len), kind.to_owned()];
-            cells.extend(["push_for", "decode_for", "in_place_for"].map(&mut ratio));
-            row(&cells);
+                report.line(&what, "call", of("another"), &[("zero", of("zero"))], Some(ANOTHER));
+            }
         }
     }
 }
 
-/// What is printed of ours for wider vectors, where it was counted, beside a peer.
-pub fn beside(wider: Option<f64>, fewest: f64) -> String {
-    wider.map_or(String::new(), |wider| format!("{:.2}", wider / fewest))
-}
-
 fn print_streams(counts: &Counts, report: &mut Report, bytes: usize) {
-    let title = "Instructions for a byte of a stream";
-    head(title, &["Call", "Ours", "Peer", "Peer", "Ours / the fewest (goal)", "v3 / the fewest"]);
-    let fed = [(1, FED)];
-    let rows: [(&str, &str, &[(usize, f64)]); 3] =
-        [("decoder's feed", "decoder's `feed`", &fed), ("push", "decoder's `push`", &PUSHING), ("feed", "accumulator's `feed`", &FEEDING)];
-    for (call, what, goals) in rows {
-        for &(piece, goal) in goals {
-            let what = format!("{what}, pieces of {piece}");
-            let each = |whose: &str| counts.of(call, whose, piece, "stream") / bytes as f64;
-            let peers = STREAMS.iter().filter(|way| way.0 == call && is_peer(way.1));
-            let fewest = peers.clone().map(|way| each(way.1)).fold(f64::INFINITY, f64::min);
-            let mut cells = vec![what.clone(), format!("{:.1}", each(OURS_NAME))];
-            cells.extend(peers.map(|way| format!("{:.1} ({})", each(way.1), way.1)));
-            cells.push(report.figure(&what, each(OURS_NAME) / fewest, goal));
-            let wider = counts.wider(call, piece, "stream");
-            cells.push(beside(wider, fewest * bytes as f64));
-            row(&cells);
-        }
+    report.begin("streams");
+    let mut print = |call: &str, what: &str, piece: usize, goal| {
+        let what = format!("{what}, chunks of {piece}");
+        let each = |whose: &str| counts.of(call, whose, piece, "stream") / bytes as f64;
+        let peers = STREAMS.iter().filter(|way| way.0 == call && is_peer(way.1));
+        let peers: Vec<_> = peers.map(|way| (way.1, each(way.1))).collect();
+        report.line(&what, "byte", each(OURS_NAME), &peers, Some(goal));
+    };
+    print("decoder's feed", "decoder's `feed`", 1, FED);
+    for piece in PIECES {
+        print("push", "decoder's `push`", piece, pushing(piece));
+    }
+    for piece in PIECES {
+        print("feed", "accumulator's `feed`", piece, feeding(piece));
     }
 }
 
 fn print_record(counts: &Counts, report: &mut Report) {
-    let title = "Instructions for a record";
-    head(title, &["Call", "Ours", "Straight", "As a crate does it", "Ours / straight (goal)", "v3 / straight"]);
+    report.begin("a record");
     for (call, goal) in [("to_slice", WRITING), ("from_bytes", READING)] {
         let of = |whose| counts.of(call, whose, 0, "");
-        let mut cells = vec![format!("`{call}`")];
-        cells.extend([OURS_NAME, "straight", "crate"].map(|w| format!("{:.0}", of(w))));
-        let ratio = of(OURS_NAME) / of("straight");
-        cells.push(report.figure(&format!("a record's `{call}`"), ratio, goal));
-        cells.push(beside(counts.wider(call, 0, ""), of("straight")));
-        row(&cells);
+        let peers = ["straight", "crate", "tight"].map(|whose| (whose, of(whose)));
+        report.line(&format!("a record's `{call}`"), "call", of(OURS_NAME), &peers, Some(goal));
     }
 }
 
@@ -487,17 +436,13 @@ pub fn print(folder: &Path) {
     let mut report = Report::new();
     for grid in grids() {
         report.begin(grid.call);
-        print_grid(&counts, &mut report, &grid);
+        for &len in grid.lengths {
+            (0..KINDS.len()).for_each(|kind| counts.print_cell(&mut report, &grid, len, kind));
+        }
     }
-    report.begin("another sentinel");
     print_sentinels(&counts, &mut report);
-    report.begin("streams");
     print_streams(&counts, &mut report, data::stream(STREAM).len());
-    report.begin("a record");
     print_record(&counts, &mut report);
-    report.begin("a remote call");
     remote::print_calls(&counts, &mut report);
     layers::print_layers(&counts, &mut report);
-    report.print_groups();
-    report.print_goals();
 }

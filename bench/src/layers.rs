@@ -1,13 +1,13 @@
 //! What stands above frames and records: records in frames, sealed ones, tables of types, sending, receiving and listening, the codec,
 //! servers that listen, and logs. Counted and not timed.
 use crate::calls::{answered, of_record, Answer, Found, Parts};
-use crate::cases::{FED, READING as TAKING, WRITING};
-use crate::counts::{beside, count, Counts};
+use crate::cases::{FED, READING as TAKING, STREAMED, WRITING};
+use crate::counts::{count, Counts};
 use crate::data::{self, record, Record};
-use crate::frames::{bytes, runs};
-use crate::peers::{codec, framed, log, records as by_hand, remote, sealed_calls, streams, sums, tables};
+use crate::frames::{bytes, runs, vectors};
+use crate::peers::{codec, framed, log, records as by_hand, remote, sealed_calls, streams, sums, tables, tight};
 use crate::remote::Counted;
-use crate::table::{head, row, size, Report};
+use crate::table::{size, Goal, Report};
 use std::hint::black_box;
 
 type Write = unsafe extern "C" fn(u32, u64, *const u8, usize, bool, u16, *const u16, usize, *mut u8, usize) -> Answer;
@@ -309,15 +309,8 @@ macro_rules! layers {
 }
 
 layers!(now, "");
-#[cfg(v3)]
-layers!(wider, "v3_");
 
-/// The library as it stands, and for the vectors of x86-64-v3.
-const BUILDS: &[(&str, Layers)] = &[
-    ("ours", now::LAYERS),
-    #[cfg(v3)]
-    ("v3", wider::LAYERS),
-];
+const OURS: Layers = now::LAYERS;
 
 fn made(call: Made, text: &[u8], count: u32, room: &mut [u8]) -> Counted {
     let mut counted = Counted::default();
@@ -450,7 +443,7 @@ fn of_parts(parts: Option<Parts>) -> Outcome {
 struct Row {
     group: &'static str,
     call: String,
-    goal: f64,
+    goal: Goal,
     each: &'static str,
     times: f64,
     room: usize,
@@ -459,18 +452,20 @@ struct Row {
     ways: Vec<Way>,
 }
 
-/// What is aimed at, over the peer with the fewest. Set before anything here was counted: 1.2 for what frames, copies or sums, 1.3
-/// where a value is read, and for a server that listens what a remote call has. Calls beside `to_slice` and `from_bytes` of a record
-/// have the goals of these, `WRITING` and `TAKING`.
-const FRAMING: f64 = 1.2;
-const READING: f64 = 1.3;
-const SERVING: f64 = 1.1;
+/// What is aimed at: 1.2 for what frames, copies or sums, also with a record in it, 1.3 where a value is read from a stream, a log or by a
+/// table, 1.1 for a record alone, and for a server that listens what a remote call has.
+const FRAMING: Goal = Goal::new(1.2, 1.2);
+const READING: Goal = Goal::new(STREAMED, 1.3);
+const SERVING: Goal = Goal::new(1.1, 1.1);
+const RECORD: Goal = Goal::new(1.1, 1.2);
+const RECORD_READ: Goal = Goal::new(1.1, 1.3);
+const FRAME_READ: Goal = Goal::new(1.2, 1.3);
 /// The sentinel of the rows that aren't for zero.
 const OTHER: u8 = 10;
 
-/// Our ways of a row.
+/// Our way of a row.
 fn ours(work: impl Fn(Layers) -> Box<dyn FnMut(&mut [u8]) -> Outcome>) -> Vec<Way> {
-    BUILDS.iter().map(|&(whose, build)| Way { whose, work: work(build) }).collect()
+    vec![Way { whose: "ours", work: work(OURS) }]
 }
 
 fn peer(whose: &'static str, work: impl FnMut(&mut [u8]) -> Outcome + 'static) -> Way {
@@ -478,7 +473,7 @@ fn peer(whose: &'static str, work: impl FnMut(&mut [u8]) -> Outcome + 'static) -
 }
 
 /// A row of one work with one room.
-fn row_of(call: &str, goal: f64, each: &'static str, times: f64, room: usize, ways: Vec<Way>) -> Row {
+fn row_of(call: &str, goal: Goal, each: &'static str, times: f64, room: usize, ways: Vec<Way>) -> Row {
     Row { group: "", call: call.to_owned(), goal, each, times, room, most: room, masked: false, ways }
 }
 
@@ -489,62 +484,80 @@ fn in_vec(call: IntoVec, source: &[u8]) -> Option<usize> {
 }
 
 type IntoRoom = fn(&[u8], &mut [u8]) -> usize;
+type IntoRoomOf = fn(&Layers, &[u8], &mut [u8]) -> usize;
+type OfBytes = fn(&[u8]) -> Option<usize>;
 
 /// A row of a message whose frame is written to the front of the room.
-fn encoding(call: String, goal: f64, source: &'static [u8], ours_of: fn(&Layers, &[u8], &mut [u8]) -> usize, by_hand: IntoRoom, whose: &'static str) -> Row {
+fn encoding(call: String, goal: Goal, source: &'static [u8], ours_of: IntoRoomOf, peers: &[(&'static str, IntoRoom)]) -> Row {
     let mut ways = ours(|build| Box::new(move |room| of_length(Some(ours_of(&build, black_box(source), room)))));
-    ways.push(peer(whose, move |room| of_length(Some(black_box(by_hand)(black_box(source), room)))));
+    for &(whose, by_hand) in peers {
+        ways.push(peer(whose, move |room| of_length(Some(black_box(by_hand)(black_box(source), room)))));
+    }
     row_of(&call, goal, "call", 1.0, source.len() + source.len().div_ceil(254) + 1, ways)
 }
 
 /// A row of bytes that are made others of in a vector.
-fn in_vecs(call: String, goal: f64, source: &'static [u8], ours_of: fn(&Layers) -> IntoVec, by_hand: fn(&[u8]) -> Option<usize>) -> Row {
+fn in_vecs(call: String, goal: Goal, source: &'static [u8], ours_of: fn(&Layers) -> IntoVec, peers: &[(&'static str, OfBytes)]) -> Row {
     let mut ways = ours(|build| {
         let call = ours_of(&build);
         Box::new(move |_| of_length(in_vec(call, black_box(source))))
     });
-    ways.push(peer("runs", move |_| of_length(black_box(by_hand)(black_box(source)))));
+    for &(whose, by_hand) in peers {
+        ways.push(peer(whose, move |_| of_length(black_box(by_hand)(black_box(source)))));
+    }
     row_of(&call, goal, "call", 1.0, 0, ways)
 }
 
-/// A frame in a vector, by runs, and its message in one.
-fn encode_vec(source: &[u8]) -> Option<usize> {
-    let mut frame = vec![0; runs::encoded_length(source)];
-    let len = runs::encode(source, &mut frame);
+/// A frame in a vector, and a message in one.
+fn in_frame(source: &[u8], length: fn(&[u8]) -> usize, encode: IntoRoom) -> Option<usize> {
+    let mut frame = vec![0; length(source)];
+    let len = encode(source, &mut frame);
     Some(black_box(frame).len().min(len))
 }
 
-fn decode_vec(frame: &[u8]) -> Option<usize> {
+fn in_message(frame: &[u8], decode: fn(&[u8], &mut [u8]) -> Option<usize>) -> Option<usize> {
     let mut message = vec![0; frame.len()];
-    let len = runs::decode(frame, &mut message)?;
+    let len = decode(frame, &mut message)?;
     message.truncate(len);
     Some(black_box(message).len())
 }
 
+/// The same where any frame has space, whose vector is cut then.
+fn in_long_frame(source: &[u8]) -> Option<usize> {
+    let mut frame = vec![0; source.len() + source.len().div_ceil(254).max(1)];
+    let len = vectors::encode(source, &mut frame);
+    frame.truncate(len);
+    Some(black_box(frame).len())
+}
+
+const ENCODED: [(&str, OfBytes); 2] = [("runs", |s| in_frame(s, runs::encoded_length, runs::encode)), ("vectors", in_long_frame)];
+const DECODED: [(&str, OfBytes); 2] = [("runs", |f| in_message(f, runs::decode)), ("vectors", |f| in_message(f, vectors::decode))];
+
 /// The calls of `cobs` that have no table by sizes, on random bytes; the goals are those of the calls beside them.
 fn cobs_rows() -> Vec<Row> {
     let mut rows = Vec::new();
-    for (len, framing, decoding) in [(200, 1.3, 1.2), (64 << 10, 1.0, 1.2)] {
+    for (len, framing, decoding) in [(200, Goal::new(1.2, 1.3), FRAMING), (64 << 10, Goal::new(1.2, 1.0), FRAMING)] {
         let source: &'static [u8] = data::message("random", len).leak();
         let mut frame = vec![0; runs::encoded_length(source) + 1];
         runs::encode(source, &mut frame);
         let frame: &'static [u8] = frame.leak();
         let of = |call: &str| format!("`{call}`, {}", size(len));
-        rows.push(in_vecs(of("encode_vec"), framing, source, |build| build.encode_vec, encode_vec));
-        rows.push(in_vecs(of("decode_vec"), decoding, frame, |build| build.decode_vec, decode_vec));
-        let for_another: fn(&Layers, &[u8], &mut [u8]) -> usize = |build, s, d| {
+        rows.push(in_vecs(of("encode_vec"), framing, source, |build| build.encode_vec, &ENCODED));
+        rows.push(in_vecs(of("decode_vec"), decoding, frame, |build| build.decode_vec, &DECODED));
+        let for_another: IntoRoomOf = |build, s, d| {
             // SAFETY: two slices that don't overlap, each by its pointer and its length; the second has room for any frame of the first.
             unsafe { (build.encode_for)(s.as_ptr(), s.len(), d.as_mut_ptr(), d.len(), OTHER) }
         };
-        let row = encoding(of("encode_with_sentinel"), framing, source, for_another, runs::encode, "runs, for zero");
+        let peers: [(&str, IntoRoom); 2] = [("runs, for zero", runs::encode), ("vectors, for zero", vectors::encode)];
+        let row = encoding(of("encode_with_sentinel"), framing, source, for_another, &peers);
         rows.push(Row { masked: true, ..row });
     }
     let source: &'static [u8] = data::message("random", 200).leak();
-    let by_state: fn(&Layers, &[u8], &mut [u8]) -> usize = |build, s, d| {
+    let by_state: IntoRoomOf = |build, s, d| {
         // SAFETY: two slices that don't overlap, each by its pointer and its length.
         unsafe { (build.state_push)(s.as_ptr(), s.len(), d.as_mut_ptr(), d.len()) }
     };
-    rows.push(encoding("an `EncoderState`, 200".to_owned(), 1.3, source, by_state, bytes::encode, "bytes"));
+    rows.push(encoding("an `EncoderState`, 200".to_owned(), Goal::new(1.2, 1.3), source, by_state, &[("bytes", bytes::encode)]));
     let stream: &'static [u8] = data::stream(STREAM).leak();
     let mut feeding = ours(|build| Box::new(move |_| of_found(counted(build.state_feed, black_box(stream)))));
     let by_bytes: fn(&[u8]) -> Found = streams::told_by_bytes;
@@ -591,7 +604,7 @@ fn in_place(frame: &[u8], mut read: impl FnMut(&mut [u8]) -> Option<Parts> + 'st
 }
 
 /// A row of the record that is read from the frame that a peer writes.
-fn reading(call: &str, write: WriteRecord, ours_of: fn(&Layers) -> ReadFrame, peers: &[(&'static str, ReadRecord)]) -> Row {
+fn reading(call: &str, goal: Goal, write: WriteRecord, ours_of: fn(&Layers) -> ReadFrame, peers: &[(&'static str, ReadRecord)]) -> Row {
     let mut room = [0; 256];
     let len = write(&record(list()), &mut room).expect("there is room");
     let frame = &room[..len];
@@ -602,30 +615,35 @@ fn reading(call: &str, write: WriteRecord, ours_of: fn(&Layers) -> ReadFrame, pe
     for &(whose, read) in peers {
         ways.push(peer(whose, in_place(frame, move |frame| black_box(read)(frame))));
     }
-    row_of(call, READING, "record", 1.0, 0, ways)
+    row_of(call, goal, "record", 1.0, 0, ways)
 }
 
 type LengthOf = fn(&Record<'_>) -> Option<usize>;
+type ReadParts = fn(&[u8]) -> Option<Parts>;
 
 /// A row of how long the record is written, or what it is written into is.
-fn lengths(call: &str, goal: f64, ours_of: fn(&Layers, &Record<'_>) -> Option<usize>, by_hand: LengthOf) -> Row {
+fn lengths(call: &str, goal: Goal, ours_of: fn(&Layers, &Record<'_>) -> Option<usize>, peers: &[(&'static str, LengthOf)]) -> Row {
     let mut ways = ours(|build| {
         let record = record(list());
         Box::new(move |_| of_length(ours_of(&build, black_box(&record))))
     });
-    let record = record(list());
-    ways.push(peer("by hand", move |_| of_length(black_box(by_hand)(black_box(&record)))));
+    for &(whose, by_hand) in peers {
+        let record = record(list());
+        ways.push(peer(whose, move |_| of_length(black_box(by_hand)(black_box(&record)))));
+    }
     row_of(call, goal, "record", 1.0, 0, ways)
 }
 
 /// A row of the record that is read from its spelling.
-fn spelled(call: &str, goal: f64, ours_of: fn(&Layers) -> Read, by_hand: fn(&[u8]) -> Option<Parts>) -> Row {
+fn spelled(call: &str, goal: Goal, ours_of: fn(&Layers) -> Read, peers: &[(&'static str, ReadParts)]) -> Row {
     let source = spelling();
     let mut ways = ours(|build| {
         let call = ours_of(&build);
         Box::new(move |_| of_parts(read(call, black_box(source))))
     });
-    ways.push(peer("by hand", move |_| of_parts(black_box(by_hand)(black_box(source)))));
+    for &(whose, by_hand) in peers {
+        ways.push(peer(whose, move |_| of_parts(black_box(by_hand)(black_box(source)))));
+    }
     row_of(call, goal, "record", 1.0, 0, ways)
 }
 
@@ -639,53 +657,83 @@ fn for_another() -> [Row; 2] {
     let mut frame = vec![0; 256];
     let len = framed::write(&record, &mut frame).expect("there is room");
     frame.truncate(len);
-    writing.push(peer("by hand, for zero", move |room| {
-        of_length(black_box(framed::write as WriteRecord)(black_box(&record), room))
-    }));
+    let writes: [(&str, WriteRecord); 2] = [("by hand, for zero", framed::write), ("vectors, for zero", framed::by_vectors::write)];
+    for (whose, write) in writes {
+        let record = data::record(list());
+        writing.push(peer(whose, move |room| of_length(black_box(write)(black_box(&record), room))));
+    }
     let other: Vec<u8> = frame.iter().map(|byte| byte ^ OTHER).collect();
     let mut reading = ours(|build| Box::new(in_place(&other, move |frame| read_frame(build.read_frame_for, frame))));
-    reading.push(peer("by hand, for zero", in_place(&frame, |frame| black_box(framed::read as ReadRecord)(frame))));
+    let reads: [(&str, ReadRecord); 2] = [("by hand, for zero", framed::read), ("vectors, for zero", framed::by_vectors::read)];
+    for (whose, read) in reads {
+        reading.push(peer(whose, in_place(&frame, move |frame| black_box(read)(frame))));
+    }
     [
         Row { masked: true, ..row_of("`to_slice_cobs_with_sentinel`", FRAMING, "record", 1.0, 256, writing) },
-        row_of("`from_bytes_cobs_with_sentinel`", READING, "record", 1.0, 0, reading),
+        row_of("`from_bytes_cobs_with_sentinel`", FRAME_READ, "record", 1.0, 0, reading),
     ]
 }
 
+/// The peers of a record that is written or read.
+const IN_VEC: [(&str, LengthOf); 2] = [
+    ("by hand", |record| black_box(by_hand::write_vec(record)).map(|bytes| bytes.len())),
+    ("tight", |record| black_box(tight::write_vec(record)).map(|bytes| bytes.len())),
+];
+const IN_ARRAY: [(&str, LengthOf); 2] = [
+    ("by hand", |record| black_box(by_hand::write_array(record)).map(|(_, len)| len)),
+    ("tight", |record| black_box(tight::write_array(record)).map(|(_, len)| len)),
+];
+const FRAME_IN_VEC: [(&str, LengthOf); 2] = [
+    ("by hand", |record| black_box(framed::write_vec(record)).map(|bytes| bytes.len())),
+    ("vectors", |record| black_box(framed::by_vectors::write_vec(record)).map(|bytes| bytes.len())),
+];
+const FRAME_IN_ARRAY: [(&str, LengthOf); 2] = [
+    ("by hand", |record| black_box(framed::write_array(record)).map(|(_, len)| len)),
+    ("vectors", |record| black_box(framed::by_vectors::write_array(record)).map(|(_, len)| len)),
+];
+const READS: [(&str, ReadParts); 2] = [("by hand", by_hand::read), ("tight", tight::read)];
+const KEEPS: [(&str, ReadParts); 2] = [("by hand", by_hand::read_kept), ("tight", tight::read_kept)];
+
 fn framed_rows() -> Vec<Row> {
-    let in_vec: LengthOf = |record| black_box(by_hand::write_vec(record)).map(|bytes| bytes.len());
-    let in_array: LengthOf = |record| black_box(by_hand::write_array(record)).map(|(_, len)| len);
-    let frame_in_vec: LengthOf = |record| black_box(framed::write_vec(record)).map(|bytes| bytes.len());
-    let frame_in_array: LengthOf = |record| black_box(framed::write_array(record)).map(|(_, len)| len);
     let mut rows = vec![
-        lengths("`serialized_size`", FRAMING, |build, record| build.length(false, record), by_hand::size),
-        lengths("`to_allocvec`", FRAMING, |build, record| build.length(true, record), in_vec),
-        lengths("`to_extend`", FRAMING, |build, record| build.write_by(0, record), in_vec),
-        lengths("`to_vec`", WRITING, |build, record| build.write_by(1, record), in_array),
-        lengths("`to_io`", FRAMING, |build, record| build.write_by(2, record), in_array),
-        spelled("`take_from_bytes`", TAKING, |build| build.take, by_hand::read),
-        spelled("`from_bytes_owned`", TAKING, |build| build.read_owned, by_hand::read_kept),
-        spelled("`from_io`", READING, |build| build.read_io, by_hand::read_from),
-        writing("`to_slice_cobs`", |build| build.write_frame, &[("by hand", framed::write)]),
-        lengths("`to_vec_cobs`", FRAMING, |build, record| build.write_by(3, record), frame_in_array),
-        lengths("`to_allocvec_cobs`", FRAMING, |build, record| build.write_by(4, record), frame_in_vec),
-        writing("`frame_into`", |build| build.frame_into, &[("by hand", framed::frame)]),
-        reading("`from_bytes_cobs`", framed::write, |build| build.read_frame, &[("by hand", framed::read)]),
+        lengths("`serialized_size`", RECORD, |build, record| build.length(false, record), &[("by hand", by_hand::size)]),
+        lengths("`to_allocvec`", RECORD, |build, record| build.length(true, record), &IN_VEC),
+        lengths("`to_extend`", RECORD, |build, record| build.write_by(0, record), &IN_VEC),
+        lengths("`to_vec`", WRITING, |build, record| build.write_by(1, record), &IN_ARRAY),
+        lengths("`to_io`", RECORD, |build, record| build.write_by(2, record), &IN_ARRAY),
+        spelled("`take_from_bytes`", TAKING, |build| build.take, &READS),
+        spelled("`from_bytes_owned`", TAKING, |build| build.read_owned, &KEEPS),
+        spelled("`from_io`", RECORD_READ, |build| build.read_io, &[("by hand", by_hand::read_from)]),
+        writing("`to_slice_cobs`", |build| build.write_frame, &[("by hand", framed::write), ("vectors", framed::by_vectors::write)]),
+        lengths("`to_vec_cobs`", FRAMING, |build, record| build.write_by(3, record), &FRAME_IN_ARRAY),
+        lengths("`to_allocvec_cobs`", FRAMING, |build, record| build.write_by(4, record), &FRAME_IN_VEC),
+        writing("`frame_into`", |build| build.frame_into, &[("by hand", framed::frame), ("vectors", framed::by_vectors::frame)]),
+        reading(
+            "`from_bytes_cobs`",
+            FRAME_READ,
+            framed::write,
+            |build| build.read_frame,
+            &[("by hand", framed::read), ("vectors", framed::by_vectors::read)],
+        ),
     ];
     rows.extend(for_another());
     rows
 }
 
 fn sealed_rows() -> Vec<Row> {
-    let write: [(&str, WriteRecord); 2] = [("a byte a step", sums::write_by_bytes), ("eight a step", sums::write_by_eight)];
-    let read: [(&str, ReadRecord); 2] = [("a byte a step", sums::read_by_bytes), ("eight a step", sums::read_by_eight)];
+    let write: [(&str, WriteRecord); 3] =
+        [("a byte a step", sums::write_by_bytes), ("eight a step", sums::write_by_eight), ("products", sums::write_by_products)];
+    let read: [(&str, ReadRecord); 3] =
+        [("a byte a step", sums::read_by_bytes), ("eight a step", sums::read_by_eight), ("products", sums::read_by_products)];
     let bytes: &'static [u8] = data::message("random", 1024).leak();
     let sum = |sum: fn(&[u8]) -> u32| move |_: &mut [u8]| of(&[black_box(sum)(black_box(bytes)).into()]);
     let mut summing = ours(|build| Box::new(move |_| of(&[build.sealed_sum(black_box(bytes)).into()])));
     summing.push(peer("a byte a step", sum(sums::by_bytes)));
     summing.push(peer("eight a step", sum(sums::by_eight)));
+    summing.push(peer("products", sum(sums::by_products)));
     vec![
         writing("a sealed record's `to_slice_cobs`", |build| build.sealed_write, &write),
-        reading("a sealed record's `from_bytes_cobs`", sums::write_by_bytes, |build| build.sealed_read, &read),
+        reading("a sealed record's `from_bytes_cobs`", READING, sums::write_by_bytes, |build| build.sealed_read, &read),
         row_of("`crc32` of 1024 bytes", FRAMING, "call", 1.0, 0, summing),
     ]
 }
@@ -716,6 +764,9 @@ fn schemas_rows() -> Vec<Row> {
     ]
 }
 
+/// The peers that frame by runs and by vectors.
+const BY_HAND: [&str; 2] = ["by hand", "vectors"];
+
 type PeerTaking = fn(&[u8], usize) -> Found;
 type PeerMaking = fn(&[u8], u32, &mut [u8]) -> Counted;
 type PeerServing = fn(&[u8], usize, &mut [u8], &mut Counted);
@@ -742,32 +793,37 @@ fn taking_for(
     for &(whose, take) in peers {
         ways.push(peer(whose, move |_| of_found(black_box(take)(black_box(stream), black_box(piece)))));
     }
-    row_of(call, READING, "byte", stream.len() as f64, 0, ways)
+    let goal = if [64, 1024].contains(&piece) { READING } else { Goal::first(STREAMED) };
+    row_of(call, goal, "byte", stream.len() as f64, 0, ways)
 }
 
 /// A row of values that are made, of a number and a text. Where it is counted the room may be too short for what was made elsewhere.
-fn making(call: &str, room: usize, ours_of: fn(&Layers) -> Made, by_hand: PeerMaking) -> Row {
+fn making(call: &str, room: usize, ours_of: fn(&Layers) -> Made, by_hand: [PeerMaking; 2]) -> Row {
     let mut ways = ours(|build| {
         let call = ours_of(&build);
         Box::new(move |room| of_counted(made(call, black_box(TEXT), VALUES, room)))
     });
-    ways.push(peer("by hand", move |room| of_counted(black_box(by_hand)(black_box(TEXT), VALUES, room))));
+    for (whose, by_hand) in BY_HAND.into_iter().zip(by_hand) {
+        ways.push(peer(whose, move |room| of_counted(black_box(by_hand)(black_box(TEXT), VALUES, room))));
+    }
     let most = 40 * VALUES as usize;
     Row { room, most, ..row_of(call, FRAMING, "value", f64::from(VALUES), 0, ways) }
 }
 
 /// A row of a server that listens, by reads of so many bytes.
-fn serving(call: &str, goal: f64, requests: &'static [u8], ours_of: fn(&Layers) -> Served, by_hand: PeerServing) -> Row {
+fn serving(call: &str, goal: Goal, requests: &'static [u8], ours_of: fn(&Layers) -> Served, by_hand: [PeerServing; 2]) -> Row {
     const EACH: usize = 64;
     let mut ways = ours(|build| {
         let call = ours_of(&build);
         Box::new(move |room| of_counted(served(call, black_box(requests), EACH, room)))
     });
-    ways.push(peer("by hand", move |room| {
-        let mut counted = Counted::default();
-        black_box(by_hand)(black_box(requests), EACH, room, &mut counted);
-        of_counted(counted)
-    }));
+    for (whose, by_hand) in BY_HAND.into_iter().zip(by_hand) {
+        ways.push(peer(whose, move |room| {
+            let mut counted = Counted::default();
+            black_box(by_hand)(black_box(requests), EACH, room, &mut counted);
+            of_counted(counted)
+        }));
+    }
     row_of(call, goal, "request", f64::from(CALLS), 48 * usize::from(CALLS), ways)
 }
 
@@ -778,7 +834,7 @@ fn requests(sealed: bool) -> &'static [u8] {
         sealed_calls::requests(FIRST, CALLS, &mut room)
     } else {
         let mut counted = Counted::default();
-        remote::call(&[], 1, FIRST, CALLS, &mut room, &mut counted);
+        remote::call::<false>(&[], 1, FIRST, CALLS, &mut room, &mut counted);
         counted.written
     };
     room[..written].to_vec().leak()
@@ -795,34 +851,50 @@ fn lying() -> Row {
         }
     };
     let mut ways = ours(|build| Box::new(copied(Box::new(move |buf| build.read_in_place(buf)))));
-    let by_hand: fn(&mut [u8]) -> Found = streams::records_in_place;
-    ways.push(peer("by hand", copied(Box::new(move |buf| black_box(by_hand)(buf)))));
+    let peers: [(&str, fn(&mut [u8]) -> Found); 2] = [("by hand", streams::records_in_place), ("vectors", streams::in_place_by_vectors)];
+    for (whose, read) in peers {
+        ways.push(peer(whose, copied(Box::new(move |buf| black_box(read)(buf)))));
+    }
     row_of("`read_in_place`", READING, "byte", stream.len() as f64, 0, ways)
 }
 
 fn line_rows() -> Vec<Row> {
-    let pieces: [(&str, PeerTaking); 2] =
-        [("accumulator", streams::records_by_accumulator), ("runs", streams::records_by_runs)];
+    let pieces: [(&str, PeerTaking); 3] = [
+        ("accumulator", streams::records_by_accumulator),
+        ("runs", streams::records_by_runs),
+        ("vectors", streams::records_by_vectors),
+    ];
     let strict: [(&str, PeerTaking); 1] = [("runs", streams::exact_records_by_runs)];
-    let reads: [(&str, PeerTaking); 1] = [("runs", streams::records_by_reads)];
-    let listed: [(&str, PeerTaking); 1] = [("runs", streams::records_listed)];
-    let gathered: [(&str, PeerTaking); 1] = [("runs", streams::values_listed)];
-    let lent: [(&str, PeerTaking); 1] = [("runs", streams::lent_records_by_runs)];
-    let exact: [(&str, PeerTaking); 1] = [("runs", streams::exact_records_listed)];
+    let lent: [(&str, PeerTaking); 2] = [("runs", streams::lent_records_by_runs), ("vectors", streams::lent_records_by_vectors)];
     let room = 40 * VALUES as usize;
     let mut rows = vec![
-        making("`Sender::send`", room, |build| build.send, codec::send),
-        Row { masked: true, ..making("`Sender::send` for 10", room, |build| build.send_for, codec::send) },
-        making("`send_each`, eight at once", room, |build| build.send_each, codec::send_eights),
+        making("`Sender::send`", room, |build| build.send, [codec::send::<false>, codec::send::<true>]),
+        Row { masked: true, ..making("`Sender::send` for 10", room, |build| build.send_for, [codec::send::<false>, codec::send::<true>]) },
+        making("`send_each`, eight at once", room, |build| build.send_each, [codec::send_eights::<false>, codec::send_eights::<true>]),
     ];
-    for piece in [64, 1024] {
-        let of = |call: &str| format!("{call}, pieces of {piece}");
+    for piece in [1, 2, 4, 8, 16, 64, 1024, 4096] {
+        let of = |call: &str| format!("{call}, chunks of {piece}");
+        rows.push(taking(&of("a receiver's `push`"), piece, |build| build.push, &pieces));
+        if ![64, 1024].contains(&piece) {
+            continue;
+        }
         rows.push(taking(&of("a receiver's `push_ref`"), piece, |build| build.push_ref, &lent));
         rows.push(taking_for(&of("a receiver's `push` for 10"), piece, OTHER, |build| build.push_for, &pieces));
-        rows.push(taking(&of("a receiver's `push`"), piece, |build| build.push, &pieces));
         rows.push(taking(&of("a receiver's `push_strict`"), piece, |build| build.push_strict, &strict));
         rows.push(taking(&of("an owned receiver's `push`"), piece, |build| build.push_owned, &pieces));
     }
+    rows.extend(reading_rows());
+    rows.push(lying());
+    rows
+}
+
+/// Rows of a line that is read.
+fn reading_rows() -> Vec<Row> {
+    let reads: [(&str, PeerTaking); 2] = [("runs", streams::records_by_reads), ("vectors", streams::read_by_vectors)];
+    let listed: [(&str, PeerTaking); 2] = [("runs", streams::records_listed), ("vectors", streams::listed_by_vectors)];
+    let gathered: [(&str, PeerTaking); 2] = [("runs", streams::values_listed), ("vectors", streams::listed_by_vectors)];
+    let exact: [(&str, PeerTaking); 1] = [("runs", streams::exact_records_listed)];
+    let mut rows = Vec::new();
     for each in [64, 1024] {
         let of = |call: &str| format!("{call}, reads of {each}");
         rows.push(taking(&of("`receive_each_with`"), each, |build| build.receive_each, &reads));
@@ -834,56 +906,64 @@ fn line_rows() -> Vec<Row> {
         rows.push(taking(&of("`receive_owned_strict`"), each, |build| build.receive_owned_strict, &exact));
         rows.push(taking(&of("`receive_by_accumulator`"), each, |build| build.gather, &gathered));
     }
-    rows.push(lying());
     rows
 }
 
 fn codec_rows() -> Vec<Row> {
-    let peers: [(&str, PeerTaking); 2] = [("buffer", codec::decode), ("runs", streams::records_by_reads)];
+    let peers: [(&str, PeerTaking); 3] =
+        [("buffer", codec::decode), ("runs", streams::records_by_reads), ("vectors", streams::read_by_vectors)];
     let strict: [(&str, PeerTaking); 1] = [("runs", streams::exact_records_by_runs)];
     let mut rows = Vec::new();
     for piece in [64, 1024] {
-        let call = format!("the codec's `decode`, pieces of {piece}");
+        let call = format!("the codec's `decode`, chunks of {piece}");
         rows.push(taking(&call, piece, |build| build.decode, &peers));
-        let call = format!("an owned codec's `decode`, pieces of {piece}");
+        let call = format!("an owned codec's `decode`, chunks of {piece}");
         rows.push(taking(&call, piece, |build| build.decode_owned, &peers));
-        let call = format!("a strict codec's `decode`, pieces of {piece}");
+        let call = format!("a strict codec's `decode`, chunks of {piece}");
         rows.push(taking(&call, piece, |build| build.decode_strict, &strict));
     }
-    rows.push(making("the codec's `encode`", 0, |build| build.encode, codec::encode));
+    rows.push(making("the codec's `encode`", 0, |build| build.encode, [codec::encode::<false>, codec::encode::<true>]));
     rows
 }
 
 fn serving_rows() -> Vec<Row> {
     vec![
-        serving("a server that listens", SERVING, requests(false), |build| build.serve, remote::serve_reading),
+        serving(
+            "a server that listens",
+            SERVING,
+            requests(false),
+            |build| build.serve,
+            [remote::serve_reading::<false>, remote::serve_reading::<true>],
+        ),
         serving(
             "a server that listens, sealed",
             READING,
             requests(true),
             |build| build.serve_sealed,
-            sealed_calls::serve,
+            [sealed_calls::serve::<false>, sealed_calls::serve::<true>],
         ),
     ]
 }
 
 fn log_rows() -> Vec<Row> {
     let mut room = vec![0; 40 * VALUES as usize];
-    let written = log::append(TEXT, VALUES, &mut room).written;
+    let written = log::append::<false>(TEXT, VALUES, &mut room).written;
     let held: &'static [u8] = room[..written].to_vec().leak();
-    let reading = |call: &str, ours_of: fn(&Layers) -> Count, by_hand: fn(&[u8]) -> Found| {
+    let reading = |call: &str, ours_of: fn(&Layers) -> Count, by_hand: [fn(&[u8]) -> Found; 2]| {
         let mut ways = ours(|build| {
             let call = ours_of(&build);
             Box::new(move |_| of_found(counted(call, black_box(held))))
         });
-        ways.push(peer("by hand", move |_| of_found(black_box(by_hand)(black_box(held)))));
+        for (whose, by_hand) in BY_HAND.into_iter().zip(by_hand) {
+            ways.push(peer(whose, move |_| of_found(black_box(by_hand)(black_box(held)))));
+        }
         row_of(call, READING, "record", f64::from(VALUES), 0, ways)
     };
     vec![
-        making("`Journal::append` and `sync`", 0, |build| build.append, log::append),
-        making("`frame_record`", 40 * VALUES as usize, |build| build.frame_record, log::frame_records),
-        reading("`Journal::open`", |build| build.open, log::open),
-        reading("`read_all`", |build| build.read_all, log::read_all),
+        making("`Journal::append` and `sync`", 0, |build| build.append, [log::append::<false>, log::append::<true>]),
+        making("`frame_record`", 40 * VALUES as usize, |build| build.frame_record, [log::frame_records::<false>, log::frame_records::<true>]),
+        reading("`Journal::open`", |build| build.open, [log::open::<false>, log::open::<true>]),
+        reading("`read_all`", |build| build.read_all, [log::read_all::<false>, log::read_all::<true>]),
     ]
 }
 
@@ -916,7 +996,7 @@ fn rows() -> Vec<Row> {
         for (outcome, room, whose) in &done {
             assert!(outcome[0] > 0, "{}, {whose}: {outcome:?}", row.call);
             assert_eq!(outcome, &done[0].0, "{}, {whose}", row.call);
-            let mask = row.masked && !["ours", "v3"].contains(whose);
+            let mask = row.masked && *whose != "ours";
             let room = if mask { masked(room, outcome[1].max(outcome[2])) } else { room.clone() };
             assert!(room == done[0].1, "{}, {whose}: what is written", row.call);
         }
@@ -936,35 +1016,13 @@ pub fn count_layers() {
     }
 }
 
-/// A count for one of what it is for.
-fn figure(count: f64) -> String {
-    if count < 100.0 { format!("{count:.1}") } else { format!("{count:.0}") }
-}
-
 /// Prints what was counted.
 pub fn print_layers(counts: &Counts, report: &mut Report) {
-    let mut group = "";
     for made in rows() {
-        if made.group != group {
-            group = made.group;
-            report.begin(group);
-            let title = format!("Instructions: {group}");
-            head(&title, &["Call", "For each", "Ours", "Peers", "Ours / the fewest (goal)", "v3 / the fewest"]);
-        }
+        report.begin(made.group);
         let of = |whose: &str| counts.of(&made.call, whose, 0, "") / made.times;
-        let peers = made.ways.iter().map(|way| way.whose).filter(|whose| !["ours", "v3"].contains(whose));
-        let counted: Vec<_> = peers.map(|whose| (of(whose), whose)).collect();
-        let fewest = counted.iter().map(|peer| peer.0).fold(f64::INFINITY, f64::min);
-        let peers: Vec<_> = counted.iter().map(|(n, whose)| format!("{} ({whose})", figure(*n))).collect();
-        let ratio = report.figure(&made.call, of("ours") / fewest, made.goal);
-        let wider = beside(counts.wider(&made.call, 0, ""), fewest * made.times);
-        row(&[
-            made.call.clone(),
-            made.each.to_owned(),
-            figure(of("ours")),
-            peers.join(", "),
-            ratio,
-            wider,
-        ]);
+        let peers = made.ways.iter().map(|way| way.whose).filter(|whose| *whose != "ours");
+        let peers: Vec<_> = peers.map(|whose| (whose, of(whose))).collect();
+        report.line(&made.call, made.each, of("ours"), &peers, Some(made.goal));
     }
 }

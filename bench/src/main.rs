@@ -1,9 +1,10 @@
-//! Times the calls of the proved libraries beside Rust peers that do the same work, and prints tables of ratios; or counts their
-//! instructions.
+//! Times the calls of the proved libraries beside Rust peers that do the same work, or counts their instructions, and prints a line of
+//! figures for each row. First it compares the peers.
 //!
 //! usage: calls SAMPLES, or calls count FOLDER
 mod calls;
 mod cases;
+mod check;
 mod counts;
 mod data;
 mod frames;
@@ -25,12 +26,13 @@ fn measure(samples: usize) {
     records(2 * samples, &mut report);
     remote::calls(samples, &mut report);
     growth(samples.min(11), &mut report);
-    report.print_goals();
-    report.print_before();
 }
 
 fn main() {
     let words: Vec<String> = std::env::args().skip(1).collect();
+    if words != ["counted"] {
+        eprintln!("bench: {} results of the peers agree", check::all());
+    }
     match words.iter().map(String::as_str).collect::<Vec<_>>()[..] {
         ["count", folder] => counts::print(Path::new(folder)),
         ["counted"] => counts::count_all(),

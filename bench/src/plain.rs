@@ -6,8 +6,11 @@
 #[allow(dead_code)]
 mod frames;
 
+use frames::lanes::first_of_two;
 use frames::{first_zero, runs};
+use std::fs::File;
 use std::io::{self, BufRead, BufReader, BufWriter, Read, Write};
+use std::os::fd::AsFd;
 use std::process::ExitCode;
 
 const LIMIT: usize = 1024;
@@ -55,17 +58,59 @@ fn text_of<'a>(frame: &[u8], message: &'a mut [u8; LIMIT]) -> Option<&'a str> {
     std::str::from_utf8(rest.get(..count)?).ok()
 }
 
+/// The two digits of each byte.
+static DIGITS: [[u8; 2]; 256] = {
+    let (mut pairs, digits, mut byte) = ([[0; 2]; 256], b"0123456789abcdef", 0);
+    while byte < 256 {
+        pairs[byte] = [digits[byte >> 4], digits[byte & 15]];
+        byte += 1;
+    }
+    pairs
+};
+
+/// What each digit is worth; 255 is no digit.
+static WORTH: [u8; 256] = {
+    let (mut worth, mut n) = ([255; 256], 0);
+    while n < 16 {
+        worth[DIGITS[n][1] as usize] = n as u8;
+        worth[DIGITS[n][1].to_ascii_uppercase() as usize] = n as u8;
+        n += 1;
+    }
+    worth
+};
+
 fn write_hex(out: &mut impl Write, bytes: &[u8]) -> io::Result<()> {
-    const DIGITS: &[u8; 16] = b"0123456789abcdef";
     let mut digits = [0; 512];
     for piece in bytes.chunks(256) {
         for (pair, byte) in digits.chunks_exact_mut(2).zip(piece) {
-            pair[0] = DIGITS[usize::from(byte >> 4)];
-            pair[1] = DIGITS[usize::from(byte & 15)];
+            pair.copy_from_slice(&DIGITS[usize::from(*byte)]);
         }
         out.write_all(&digits[..2 * piece.len()])?;
     }
     Ok(())
+}
+
+/// Standard output without std's search for line ends.
+fn output() -> io::Result<BufWriter<File>> {
+    let file = File::from(io::stdout().as_fd().try_clone_to_owned()?);
+    Ok(BufWriter::with_capacity(BUFFER, file))
+}
+
+/// Reads through the end of a line, or all, and says whether there is something.
+fn read_line(reader: &mut impl BufRead, line: &mut Vec<u8>) -> io::Result<bool> {
+    loop {
+        let bytes = reader.fill_buf()?;
+        if bytes.is_empty() {
+            return Ok(!line.is_empty());
+        }
+        let end = first_of_two(bytes, b'\n', b'\n');
+        let count = end.map_or(bytes.len(), |end| end + 1);
+        line.extend_from_slice(&bytes[..count]);
+        reader.consume(count);
+        if end.is_some() {
+            return Ok(true);
+        }
+    }
 }
 
 fn write_framed(out: &mut impl Write, hex: bool, bytes: &[u8]) -> io::Result<()> {
@@ -105,7 +150,7 @@ impl Sender {
 
 fn pack(hex: bool) -> io::Result<bool> {
     let mut reader = BufReader::with_capacity(BUFFER, io::stdin().lock());
-    let mut out = BufWriter::with_capacity(BUFFER, io::stdout().lock());
+    let mut out = output()?;
     let mut line = Vec::new();
     let mut sender = Sender {
         spelling: [0; LIMIT + 10],
@@ -113,7 +158,7 @@ fn pack(hex: bool) -> io::Result<bool> {
     };
     let mut good = true;
     let mut number = 0;
-    while reader.read_until(b'\n', &mut line)? > 0 {
+    while read_line(&mut reader, &mut line)? {
         if number == 0 {
             write_framed(&mut out, hex, &[0])?;
         }
@@ -135,7 +180,7 @@ fn pack(hex: bool) -> io::Result<bool> {
 fn write_value(out: &mut impl Write, text: &str) -> io::Result<()> {
     out.write_all(b"value ")?;
     let mut rest = text.as_bytes();
-    while let Some(at) = rest.iter().position(|&b| b == b'\\' || b == b'\n') {
+    while let Some(at) = first_of_two(rest, b'\\', b'\n') {
         out.write_all(&rest[..at])?;
         out.write_all(if rest[at] == b'\n' { b"\\n" } else { b"\\\\" })?;
         rest = &rest[at + 1..];
@@ -195,7 +240,7 @@ fn receive(
 }
 
 fn unpack(stream: impl BufRead, collect: bool) -> io::Result<bool> {
-    let mut out = BufWriter::with_capacity(BUFFER, io::stdout().lock());
+    let mut out = output()?;
     let mut good = true;
     let mut answers = Vec::new();
     receive(stream, |answer| {
@@ -215,15 +260,6 @@ fn unpack(stream: impl BufRead, collect: bool) -> io::Result<bool> {
     Ok(good)
 }
 
-fn digit(byte: u8) -> Option<u8> {
-    match byte {
-        b'0'..=b'9' => Some(byte - b'0'),
-        b'a'..=b'f' => Some(byte - b'a' + 10),
-        b'A'..=b'F' => Some(byte - b'A' + 10),
-        _ => None,
-    }
-}
-
 fn read_hex() -> io::Result<Option<Vec<u8>>> {
     let mut text = Vec::new();
     io::stdin().lock().read_to_end(&mut text)?;
@@ -231,8 +267,14 @@ fn read_hex() -> io::Result<Option<Vec<u8>>> {
     if digits.len() % 2 == 1 {
         return Ok(None);
     }
-    let byte = |pair: &[u8]| Some(digit(pair[0])? << 4 | digit(pair[1])?);
-    Ok(digits.chunks_exact(2).map(byte).collect())
+    let mut wrong = 0;
+    let bytes = digits.chunks_exact(2).map(|pair| {
+        let [high, low] = [pair[0], pair[1]].map(|digit| WORTH[usize::from(digit)]);
+        wrong |= high | low;
+        high << 4 | low
+    });
+    let bytes = bytes.collect();
+    Ok((wrong < 16).then_some(bytes))
 }
 
 fn work(words: &[String]) -> io::Result<Option<bool>> {

@@ -1,7 +1,14 @@
-//! Frames of one compiled-in record as lines of JSON, as plain Rust writes it: what `wire read FILE Record` prints of the same bytes.
+//! Frames of one of three compiled-in types as lines of JSON, as plain Rust writes it: what `wire read` prints of the same bytes.
 //!
-//! usage: plainwire < FRAMES
+//! usage: plainwire records|floats|letters < FRAMES
+#[allow(dead_code)]
+#[path = "frames/lanes.rs"]
+mod lanes;
+
+use lanes::first_of_two;
+use std::fs::File;
 use std::io::{self, BufWriter, Read, Write};
+use std::os::fd::AsFd;
 
 enum Light {
     Dark,
@@ -16,6 +23,11 @@ struct Record {
     name: String,
     next: Option<u16>,
     samples: Vec<u16>,
+}
+
+struct Reading {
+    small: [f32; 3],
+    wide: [f64; 2],
 }
 
 // What is left of a message.
@@ -83,6 +95,27 @@ impl<'a> Input<'a> {
         Some(samples)
     }
 
+    fn text(&mut self) -> Option<&'a str> {
+        std::str::from_utf8(self.bytes()?).ok()
+    }
+
+    fn part<const N: usize>(&mut self) -> Option<[u8; N]> {
+        let (front, rest) = self.0.split_first_chunk()?;
+        self.0 = rest;
+        Some(*front)
+    }
+
+    fn reading(&mut self) -> Option<Reading> {
+        let mut reading = Reading { small: [0.0; 3], wide: [0.0; 2] };
+        for number in &mut reading.small {
+            *number = f32::from_le_bytes(self.part()?);
+        }
+        for number in &mut reading.wide {
+            *number = f64::from_le_bytes(self.part()?);
+        }
+        Some(reading)
+    }
+
     fn record(&mut self) -> Option<Record> {
         Some(Record {
             number: self.number(32)? as u32,
@@ -92,7 +125,7 @@ impl<'a> Input<'a> {
                 (n >> 1) as i16 ^ -((n & 1) as i16)
             },
             light: self.light()?,
-            name: std::str::from_utf8(self.bytes()?).ok()?.to_owned(),
+            name: self.text()?.to_owned(),
             next: self.option()?,
             samples: self.samples()?,
         })
@@ -190,9 +223,50 @@ fn put_record(out: &mut impl Write, record: &Record) -> io::Result<()> {
     out.write_all(b"]}}\n")
 }
 
-fn main() -> io::Result<()> {
+fn put_reading(out: &mut impl Write, reading: &Reading) -> io::Result<()> {
+    let ([x, y, z], [temperature, pressure]) = (reading.small, reading.wide);
+    let all = [x, y, z].into_iter().map(f64::from).chain([temperature, pressure]);
+    if !all.into_iter().all(f64::is_finite) {
+        return Err(io::Error::other("a float that isn't finite"));
+    }
+    writeln!(
+        out,
+        "{{\"value\":{{\"x\":{x:?},\"y\":{y:?},\"z\":{z:?},\"temperature\":{temperature:?},\"pressure\":{pressure:?}}}}}"
+    )
+}
+
+fn put_letter(out: &mut impl Write, text: &str) -> io::Result<()> {
+    out.write_all(b"{\"value\":{\"text\":")?;
+    put_text(out, text)?;
+    out.write_all(b"}}\n")
+}
+
+// What reads a message and writes its line; false for one that is of another type.
+fn records(out: &mut BufWriter<File>, message: &[u8]) -> io::Result<bool> {
+    match Input(message).record() {
+        Some(record) => put_record(out, &record).map(|()| true),
+        None => Ok(false),
+    }
+}
+
+fn floats(out: &mut BufWriter<File>, message: &[u8]) -> io::Result<bool> {
+    match Input(message).reading() {
+        Some(reading) => put_reading(out, &reading).map(|()| true),
+        None => Ok(false),
+    }
+}
+
+fn letters(out: &mut BufWriter<File>, message: &[u8]) -> io::Result<bool> {
+    match Input(message).text() {
+        Some(text) => put_letter(out, text).map(|()| true),
+        None => Ok(false),
+    }
+}
+
+fn show(put: impl Fn(&mut BufWriter<File>, &[u8]) -> io::Result<bool>) -> io::Result<()> {
     let mut input = io::stdin().lock();
-    let mut out = BufWriter::with_capacity(1 << 17, io::stdout().lock());
+    // standard output without std's search for line ends
+    let mut out = BufWriter::with_capacity(1 << 17, File::from(io::stdout().as_fd().try_clone_to_owned()?));
     let mut room = vec![0u8; 1 << 16];
     let mut stretch: Vec<u8> = Vec::new();
     let mut message = Vec::new();
@@ -203,15 +277,15 @@ fn main() -> io::Result<()> {
             break;
         }
         let mut rest = &room[..count];
-        while let Some(length) = rest.iter().position(|byte| *byte == 0) {
-            stretch.extend_from_slice(&rest[..length]);
-            at += length as u64;
+        while let Some(length) = first_of_two(rest, 0, 0) {
+            let mut frame = &rest[..length];
             if !stretch.is_empty() {
-                let is_frame = decode(&stretch, &mut message);
-                match Input(&message).record() {
-                    Some(record) if is_frame => put_record(&mut out, &record)?,
-                    _ => writeln!(out, "{{\"damaged\":{{\"from\":{begin},\"to\":{at}}}}}")?,
-                }
+                stretch.extend_from_slice(frame);
+                frame = &stretch;
+            }
+            at += length as u64;
+            if !frame.is_empty() && !(decode(frame, &mut message) && put(&mut out, &message)?) {
+                writeln!(out, "{{\"damaged\":{{\"from\":{begin},\"to\":{at}}}}}")?;
             }
             stretch.clear();
             rest = &rest[length + 1..];
@@ -227,4 +301,13 @@ fn main() -> io::Result<()> {
         writeln!(out, "{{\"cut\":{{\"from\":{begin},\"to\":{at}}}}}")?;
     }
     out.flush()
+}
+
+fn main() -> io::Result<()> {
+    match std::env::args().nth(1).as_deref() {
+        Some("records") => show(records),
+        Some("floats") => show(floats),
+        Some("letters") => show(letters),
+        _ => Err(io::Error::other("usage: plainwire records|floats|letters < FRAMES")),
+    }
 }

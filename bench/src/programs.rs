@@ -1,5 +1,5 @@
-//! Times the program `framed` beside a plain Rust program, on files of so many million bytes, and prints a table; or counts the
-//! instructions of both by `valgrind --tool=callgrind`.
+//! Times the program `framed` beside a plain Rust program, on files of so many million bytes, or counts the instructions of both by
+//! `valgrind --tool=callgrind`, and prints a line of figures for each case.
 //!
 //! usage: programs FRAMED PLAIN FOLDER MILLIONS REPEATS, or programs FRAMED PLAIN FOLDER MILLIONS count
 //!
@@ -9,31 +9,28 @@ use std::fs::{self, File};
 use std::io::{self, BufWriter, Write};
 use std::path::{Path, PathBuf};
 use std::process::{Command, Stdio};
+use std::time::Instant;
 
-/// Times, peak memory and page faults of a child, as C's `struct rusage` has them on Linux.
+/// Times and peak memory of a child, as C's `struct rusage` has them on Linux.
 #[repr(C)]
 #[derive(Default)]
 struct Usage {
     user: [i64; 2],
     system: [i64; 2],
     peak_kib: i64,
-    sizes: [i64; 3],
-    faults: i64,
-    others: [i64; 9],
+    others: [i64; 13],
 }
 
 extern "C" {
     fn wait4(pid: i32, status: *mut i32, options: i32, usage: *mut Usage) -> i32;
 }
 
-/// What a run took: seconds of the processor, those of them that the system had, its peak of memory in bytes, and the pages that it
-/// was first given.
+/// What a run took: seconds by the clock and of the processor, and its peak of memory in bytes.
 #[derive(Clone, Copy)]
 struct Took {
+    clock: f64,
     seconds: f64,
-    system: f64,
     peak: f64,
-    pages: f64,
 }
 
 fn seconds([whole, millionths]: [i64; 2]) -> f64 {
@@ -48,6 +45,7 @@ fn run(program: &Path, words: &[&str], input: &Path, output: Option<&Path>) -> i
     };
     let input = Stdio::from(File::open(input)?);
     let mut command = Command::new(program);
+    let start = Instant::now();
     let child = command.args(words).stdin(input).stdout(out).spawn()?;
     let mut status = 0;
     let mut usage = Usage::default();
@@ -60,10 +58,9 @@ fn run(program: &Path, words: &[&str], input: &Path, output: Option<&Path>) -> i
         )));
     }
     Ok(Took {
+        clock: start.elapsed().as_secs_f64(),
         seconds: seconds(usage.user) + seconds(usage.system),
-        system: seconds(usage.system),
         peak: usage.peak_kib as f64 * 1024.0,
-        pages: usage.faults as f64,
     })
 }
 
@@ -88,21 +85,6 @@ fn write_lines(path: &Path, bytes: u64, shortest: u64, longest: u64) -> io::Resu
         written += len + 1;
     }
     out.flush()
-}
-
-/// Instructions of a run, and the places that have most of them.
-struct Counted {
-    all: f64,
-    places: Vec<String>,
-}
-
-/// The name of a function, of a line of `callgrind_annotate`, without its file, its object and what the compiler added.
-fn place(line: &str) -> String {
-    let name = line.split(" [").next().unwrap_or(line).trim_start_matches("???:");
-    let name = name.rsplit_once(".c:").or(name.rsplit_once(".S:")).map_or(name, |(_, name)| name);
-    let name = name.split("::<#").next().unwrap_or(name);
-    let name = name.rsplit_once("::h").map_or(name, |(front, hash)| if hash.len() == 16 { front } else { name });
-    format!("`{name}`")
 }
 
 /// The two programs, and where the files are.
@@ -143,8 +125,8 @@ impl Programs {
         fs::remove_file(out)
     }
 
-    /// Counts the instructions of a run by valgrind: all of them, and the places that have most, each with its share.
-    fn count(&self, program: &Path, words: &[&str], input: &Path) -> io::Result<Counted> {
+    /// Counts the instructions of a run by valgrind.
+    fn count(&self, program: &Path, words: &[&str], input: &Path) -> io::Result<f64> {
         let counts = self.file("counts");
         let mut command = Command::new("valgrind");
         command.args(["-q", "--tool=callgrind"]).arg(format!("--callgrind-out-file={}", counts.display()));
@@ -152,16 +134,9 @@ impl Programs {
         if !command.status()?.success() {
             return Err(io::Error::other(format!("valgrind of {}", program.display())));
         }
-        let output = Command::new("callgrind_annotate").arg(&counts).output()?;
-        let text = String::from_utf8_lossy(&output.stdout);
-        let mut rows = text.lines().filter_map(|line| {
-            let (number, rest) = line.trim().split_once(" (")?;
-            let number = number.replace(',', "").parse::<f64>().ok()?;
-            Some((number, rest.split_once("%)")?.1.trim().to_owned()))
-        });
-        let (all, _) = rows.next().ok_or_else(|| io::Error::other("nothing was counted"))?;
-        let places = rows.take(3).map(|(number, name)| format!("{} {:.0} %", place(&name), 100.0 * number / all));
-        Ok(Counted { all, places: places.collect() })
+        let text = fs::read_to_string(counts)?;
+        let total = text.lines().find_map(|line| line.strip_prefix("totals:").or(line.strip_prefix("summary:")));
+        total.and_then(|total| total.trim().parse().ok()).ok_or_else(|| io::Error::other("nothing was counted"))
     }
 
     /// Times ours and the plain ways in turn: medians of the seconds, and the greatest peaks.
@@ -191,7 +166,6 @@ struct Case {
     input: &'static str,
     ours: &'static [&'static str],
     plain: &'static [&'static [&'static str]],
-    goal: f64,
 }
 
 /// The kinds of lines, and the lengths that they have.
@@ -202,79 +176,48 @@ const CASES: [Case; 4] = [
         input: "text",
         ours: &["pack"],
         plain: &[&["pack"]],
-        goal: 1.2,
     },
     Case {
         input: "text",
         ours: &["pack", "hex"],
         plain: &[&["pack", "hex"]],
-        goal: 1.2,
     },
     Case {
         input: "frames",
         ours: &["unpack"],
         plain: &[&["collect"], &["unpack"]],
-        goal: 1.2,
     },
     Case {
         input: "digits",
         ours: &["unpack", "hex"],
         plain: &[&["collect", "hex"], &["unpack", "hex"]],
-        goal: 1.2,
     },
 ];
 
-fn megabytes(took: Took) -> String {
-    format!("{:.0} MB", took.peak / 1e6)
+const GOAL: f64 = 1.2;
+
+/// Prints a line of figures: ours, and the plain ways, by their first words.
+fn print(case: &Case, lines: &str, what: &str, each: &str, figures: &[f64], goal: bool) {
+    let plain: Vec<String> = case.plain.iter().zip(&figures[1..]).map(|(words, n)| format!("{}={n:.4}", words[0])).collect();
+    let goals = if goal { format!("{GOAL}\t{GOAL}") } else { "\t".to_owned() };
+    let row = format!("`framed {}`, {lines} lines{what}", case.ours.join(" "));
+    println!("the program\t{row}\t{each}\t{:.4}\t{}\t{goals}", figures[0], plain.join(";"));
 }
 
-fn print(case: &Case, lines: &str, took: &[Took], missed: &mut Vec<String>) {
-    let ours = took[0];
-    let what = format!("`framed {}`, {lines} lines", case.ours.join(" "));
-    let ratio = ours.seconds / took[1].seconds;
-    if ratio > case.goal {
-        missed.push(format!("{what}: {ratio:.2}, goal {}", case.goal));
-    }
-    let plain: Vec<String> = case
-        .plain
-        .iter()
-        .zip(&took[1..])
-        .map(|(words, t)| format!("{}: {:.2} s, {:.2}, {}", words[0], t.seconds, t.system, megabytes(*t)))
-        .collect();
-    println!(
-        "| {what} | {:.2} s, {:.2} | {} | {} | {ratio:.2} ({}) |",
-        ours.seconds,
-        ours.system,
-        megabytes(ours),
-        plain.join("; "),
-        case.goal,
-    );
-}
-
-/// Prints a table of the instructions for a byte of the text, ours and the plain program's.
+/// Prints the instructions for a byte of the text, ours and the plain program's.
 fn print_counts(programs: &Programs, millions: u64) -> io::Result<()> {
-    println!("\n### Instructions of the program for a byte of its text, of {millions} MB\n");
-    println!("| Case | Ours, pages | The plain Rust program, pages | Where ours go | Where those of the plain one go |");
-    println!("|---|---|---|---|---|");
     for (lines, lengths) in LINES {
+        programs.make("small", 300_000, lengths)?;
         programs.make("large", millions * 1_000_000, lengths)?;
         for case in &CASES {
+            programs.check(case, "small")?;
             let input = programs.file(&format!("large.{}", case.input));
-            let ours = programs.count(&programs.framed, case.ours, &input)?;
-            let plain = programs.count(&programs.plain, case.plain[0], &input)?;
-            let pages = |program: &Path, words| run(program, words, &input, None).map(|took| took.pages);
-            let each = |counted: &Counted| counted.all / (millions as f64 * 1e6);
-            println!(
-                "| `framed {}`, {lines} lines | {:.1}, {} | {}: {:.1}, {} | {} | {} |",
-                case.ours.join(" "),
-                each(&ours),
-                pages(&programs.framed, case.ours)?,
-                case.plain[0][0],
-                each(&plain),
-                pages(&programs.plain, case.plain[0])?,
-                ours.places.join(", "),
-                plain.places.join(", "),
-            );
+            let mut counted = vec![programs.count(&programs.framed, case.ours, &input)?];
+            for words in case.plain {
+                counted.push(programs.count(&programs.plain, words, &input)?);
+            }
+            let each: Vec<f64> = counted.iter().map(|all| all / (millions as f64 * 1e6)).collect();
+            print(case, lines, "", "byte", &each, true);
         }
     }
     Ok(())
@@ -298,26 +241,17 @@ fn main() -> io::Result<()> {
         return print_counts(&programs, millions);
     }
     let repeats = number(repeats)?;
-    println!("\n### The program, on {millions} MB of text\n");
-    println!("| Case | Seconds, the system's of them | Peak memory | The plain Rust program | Seconds / seconds of the plain program's first (goal) |");
-    println!("|---|---|---|---|---|");
-    let mut missed = Vec::new();
     for (lines, lengths) in LINES {
         programs.make("small", 300_000, lengths)?;
         programs.make("large", millions * 1_000_000, lengths)?;
         for case in &CASES {
             programs.check(case, "small")?;
             let took = programs.time(case, "large", repeats as usize)?;
-            print(case, lines, &took, &mut missed);
+            let all = |of: fn(&Took) -> f64| took.iter().map(of).collect::<Vec<f64>>();
+            print(case, lines, "", "s", &all(|took| took.seconds), true);
+            print(case, lines, ", by the clock", "s", &all(|took| took.clock), false);
+            print(case, lines, ", memory", "MB", &all(|took| took.peak / 1e6), false);
         }
-    }
-    let count = 2 * CASES.len();
-    println!(
-        "\nGoals of the program: {} of {count} reached.\n",
-        count - missed.len()
-    );
-    for line in missed {
-        println!("- {line}");
     }
     Ok(())
 }

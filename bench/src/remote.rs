@@ -1,7 +1,7 @@
 //! Remote calls over memory: what a server takes for each request, and a client for each call and its reply.
-use crate::counts::{beside, count, Counts};
+use crate::counts::{count, Counts};
 use crate::peers::remote as by_hand;
-use crate::table::{head, row, Report};
+use crate::table::{Goal, Report};
 use crate::timing::{run, Side, Way};
 use std::hint::black_box;
 
@@ -54,19 +54,12 @@ macro_rules! sides {
 }
 
 sides!(now, "");
-#[cfg(v3)]
-sides!(wider, "v3_");
 
-/// What is aimed at, over the peer by hand.
-const GOAL: f64 = 1.1;
+/// What is aimed at.
+const GOAL: Goal = Goal::new(1.1, 1.1);
 
-const SERVERS: [(&str, Serve); 2] = [("ours", now::serve), ("by hand", by_hand::serve)];
-const CLIENTS: [(&str, Call); 2] = [("ours", now::call), ("by hand", by_hand::call)];
-/// Both sides for the vectors of x86-64-v3, where there are some.
-const WIDER: &[(&str, Serve, Call)] = &[
-    #[cfg(v3)]
-    ("v3", wider::serve, wider::call),
-];
+const SERVERS: [(&str, Serve); 3] = [("ours", now::serve), ("by hand", by_hand::serve::<false>), ("vectors", by_hand::serve::<true>)];
+const CLIENTS: [(&str, Call); 3] = [("ours", now::call), ("by hand", by_hand::call::<false>), ("vectors", by_hand::call::<true>)];
 
 /// So many calls are made, by numbers of two bytes.
 const CALLS: u16 = 1000;
@@ -86,25 +79,25 @@ struct Lines {
 }
 
 impl Lines {
-    /// The lines, which are seen to be the same by both ways.
+    /// The lines, which are seen to be the same by all ways.
     fn new() -> Lines {
-        let [requests, ours] = [CLIENTS[1].1, CLIENTS[0].1].map(|call| {
+        let [requests, others @ ..] = CLIENTS.map(|(_, call)| {
             let (mut room, mut counted) = (room(), Counted::default());
             call(&[], 1, FIRST, CALLS, &mut room, &mut counted);
             room[..counted.written].to_vec()
         });
-        assert_eq!(requests, ours);
-        let [(replies, by_hand), (our_replies, ours)] = [SERVERS[1].1, SERVERS[0].1].map(|serve| {
+        assert_eq!([&requests, &requests], others.each_ref());
+        let [(replies, served), others @ ..] = SERVERS.map(|(_, serve)| {
             let (mut room, mut counted) = (room(), Counted::default());
             serve(&requests, &mut room, &mut counted);
             (room[..counted.written].to_vec(), counted)
         });
-        assert_eq!(by_hand.calls, CALLS.into());
-        assert_eq!((&replies, by_hand), (&our_replies, ours));
+        assert_eq!(served.calls, CALLS.into());
+        assert!(others.iter().all(|other| (&other.0, other.1) == (&replies, served)));
         let lines = Lines { requests, replies };
         let mut room = room();
-        let [by_hand, ours] = [CLIENTS[1].1, CLIENTS[0].1].map(|call| lines.call(call, &mut room));
-        assert_eq!((by_hand.calls, by_hand), (CALLS.into(), ours));
+        let called = CLIENTS.map(|(_, call)| lines.call(call, &mut room));
+        assert_eq!((called[0].calls, [called[0], called[0]]), (CALLS.into(), [called[1], called[2]]));
         lines
     }
 
@@ -127,7 +120,7 @@ impl Lines {
 /// Times both sides.
 pub fn calls(samples: usize, report: &mut Report) {
     let lines = Lines::new();
-    head("A remote call over memory", &["Side", "Ours", "By hand", "Time / time by hand (goal)"]);
+    report.begin("a remote call");
     let way = |name: &'static str, mut work: Box<dyn FnMut()>| {
         let side = if name == "ours" { Side::Ours } else { Side::Peer };
         Way { side, name, work: Box::new(move |times| (0..times).for_each(|_| work())) }
@@ -143,10 +136,7 @@ pub fn calls(samples: usize, report: &mut Report) {
     }));
     for (side, ways) in [("the server", served), ("the client", called)] {
         let timed = run(samples, ways.into());
-        let each = |i: usize| timed[i].median / f64::from(CALLS);
-        let what = format!("a remote call, {side}");
-        let ratio = report.figure(&what, each(0) / each(1), GOAL);
-        row(&[side.to_owned(), format!("{:.0} ns", each(0)), format!("{:.0} ns", each(1)), ratio]);
+        report.times(&format!("a remote call, {side}"), &timed, "ours", f64::from(CALLS), Some(GOAL));
     }
 }
 
@@ -164,24 +154,14 @@ pub fn count_calls() {
             lines.call(call, &mut room);
         });
     }
-    for (whose, serve, call) in WIDER {
-        count(&format!("serve/{whose}/0/"), || {
-            lines.serve(*serve, &mut room);
-        });
-        count(&format!("call/{whose}/0/"), || {
-            lines.call(*call, &mut room);
-        });
-    }
 }
 
 /// Prints what was counted.
 pub fn print_calls(counts: &Counts, report: &mut Report) {
-    let title = "Instructions for a remote call";
-    head(title, &["Side", "Ours", "By hand", "Ours / by hand (goal)", "v3 / by hand"]);
+    report.begin("a remote call");
     for (call, side) in [("serve", "the server"), ("call", "the client")] {
-        let [ours, by_hand] = ["ours", "by hand"].map(|w| counts.of(call, w, 0, "") / f64::from(CALLS));
-        let ratio = report.figure(&format!("a remote call, {side}"), ours / by_hand, GOAL);
-        let wider = beside(counts.wider(call, 0, ""), by_hand * f64::from(CALLS));
-        row(&[side.to_owned(), format!("{ours:.0}"), format!("{by_hand:.0}"), ratio, wider]);
+        let of = |whose| counts.of(call, whose, 0, "") / f64::from(CALLS);
+        let peers = ["by hand", "vectors"].map(|whose| (whose, of(whose)));
+        report.line(&format!("a remote call, {side}"), "call", of("ours"), &peers, Some(GOAL));
     }
 }

@@ -1,34 +1,21 @@
-//! Tables of ratios, with what was aimed at beside each.
-use crate::timing::{best_peer, named, Side, Timed};
+//! Lines of figures: what a row took, ours and each peer's, and what is aimed at. `bench/tables` makes tables of them.
+use crate::timing::{named, Side, Timed};
 
-/// A figure with its goal, and the group that it is counted in.
-struct Goal {
-    group: &'static str,
-    what: String,
-    ratio: f64,
-    goal: f64,
+/// What is aimed at: the ratio to the best peer, since 27 November 2026, and before that, if the row was there.
+#[derive(Clone, Copy)]
+pub struct Goal {
+    pub now: f64,
+    pub before: Option<f64>,
 }
 
-/// What a call took before and takes now, in nanoseconds.
-struct Change {
-    what: String,
-    before: f64,
-    now: f64,
-}
+impl Goal {
+    pub const fn new(now: f64, before: f64) -> Goal {
+        Goal { now, before: Some(before) }
+    }
 
-/// What was found so far.
-pub struct Report {
-    group: &'static str,
-    goals: Vec<Goal>,
-    changes: Vec<Change>,
-}
-
-/// A time in nanoseconds, as it is read best.
-pub fn duration(ns: f64) -> String {
-    match ns {
-        ns if ns < 1e3 => format!("{ns:.1} ns"),
-        ns if ns < 1e6 => format!("{:.2} us", ns / 1e3),
-        ns => format!("{:.2} ms", ns / 1e6),
+    /// The goal of a row that is new.
+    pub const fn first(now: f64) -> Goal {
+        Goal { now, before: None }
     }
 }
 
@@ -41,96 +28,40 @@ pub fn size(bytes: usize) -> String {
     }
 }
 
-/// Prints a row.
-pub fn row(cells: &[String]) {
-    println!("| {} |", cells.join(" | "));
-}
-
-/// Prints the head of a table.
-pub fn head(title: &str, cells: &[&str]) {
-    println!("\n### {title}\n");
-    println!("| {} |", cells.join(" | "));
-    println!("|{}", "---|".repeat(cells.len()));
+/// Prints lines of figures, each in the group that was begun last.
+pub struct Report {
+    group: &'static str,
 }
 
 impl Report {
     pub fn new() -> Report {
-        Report {
-            group: "",
-            goals: Vec::new(),
-            changes: Vec::new(),
-        }
+        Report { group: "" }
     }
 
-    /// What comes is counted in this group.
+    /// What comes is in this group.
     pub fn begin(&mut self, group: &'static str) {
         self.group = group;
     }
 
-    /// The cell of our way with this name: its ratio to the quickest peer, and the goal. Keeps both.
-    pub fn ratio(&mut self, what: &str, timed: &[Timed], name: &str, goal: Option<f64>) -> String {
-        let now = named(timed, Side::Ours, name).expect("our way is timed");
-        let ratio = now / best_peer(timed).median;
-        let Some(goal) = goal else {
-            return format!("{ratio:.2}");
-        };
-        self.figure(what, ratio, goal)
+    /// Prints the figures of a row, each for one of something.
+    pub fn line(&mut self, row: &str, each: &str, ours: f64, peers: &[(&str, f64)], goal: Option<Goal>) {
+        let peers: Vec<String> = peers.iter().map(|(name, figure)| format!("{name}={figure:.4}")).collect();
+        let now = goal.map_or(String::new(), |goal| goal.now.to_string());
+        let before = goal.and_then(|goal| goal.before).map_or(String::new(), |before| before.to_string());
+        println!("{}\t{row}\t{each}\t{ours:.4}\t{}\t{now}\t{before}", self.group, peers.join(";"));
     }
 
-    /// The cell of a figure and its goal. Keeps both.
-    pub fn figure(&mut self, what: &str, ratio: f64, goal: f64) -> String {
-        self.goals.push(Goal {
-            group: self.group,
-            what: what.to_owned(),
-            ratio,
-            goal,
-        });
-        format!("{ratio:.2} ({goal})")
-    }
-
-    /// Keeps what our way with this name took before and takes now, where both were timed.
-    pub fn change(&mut self, what: &str, timed: &[Timed], name: &str) {
-        let times = [Side::Before, Side::Ours].map(|side| named(timed, side, name));
-        if let [Some(before), Some(now)] = times {
-            let what = what.to_owned();
-            self.changes.push(Change { what, before, now });
-        }
-    }
-
-    /// Prints how many goals are reached, and which aren't.
-    pub fn print_goals(&self) {
-        let missed = self.goals.iter().filter(|g| g.ratio > g.goal);
-        let count = self.goals.len() - missed.clone().count();
-        println!("\n### Goals: {count} of {} reached\n", self.goals.len());
-        for Goal { what, ratio, goal, .. } in missed {
-            println!("- {what}: {ratio:.2}, goal {goal}");
-        }
-    }
-
-    /// Prints how many goals each group has, and how many of them are reached, in the order in which the groups were begun.
-    pub fn print_groups(&self) {
-        head("Goals by group", &["Group", "Goals", "Reached"]);
-        let mut groups: Vec<&str> = self.goals.iter().map(|goal| goal.group).collect();
-        groups.dedup();
-        for group in groups {
-            let of = self.goals.iter().filter(|goal| goal.group == group);
-            let reached = of.clone().filter(|g| g.ratio <= g.goal).count();
-            row(&[group.to_owned(), of.count().to_string(), reached.to_string()]);
-        }
-    }
-
-    /// Prints what the calls took before and take now, if that was timed; a record's writing and reading come last.
-    pub fn print_before(&self) {
-        if self.changes.is_empty() {
-            return;
-        }
-        head(
-            "Before and after",
-            &["Call", "Before", "After", "After / before"],
-        );
-        for Change { what, before, now } in &self.changes {
-            let ratio = format!("{:.2}", now / before);
-            row(&[what.clone(), duration(*before), duration(*now), ratio]);
+    /// Prints the times of a row, in nanoseconds, of so many calls each: our way with this name, and the peers'. If ours was timed in an
+    /// earlier state too, a second line has that.
+    pub fn times(&mut self, row: &str, timed: &[Timed], name: &str, calls: f64, goal: Option<Goal>) {
+        let ours = named(timed, Side::Ours, name).expect("our way is timed") / calls;
+        let peers = timed.iter().filter(|timed| timed.side == Side::Peer);
+        let peers: Vec<_> = peers.map(|timed| (timed.name, timed.median / calls)).collect();
+        self.line(row, "ns", ours, &peers, goal);
+        if let Some(before) = named(timed, Side::Before, name) {
+            let group = std::mem::replace(&mut self.group, "after and before");
+            self.line(row, "ns", ours, &[("before", before / calls)], None);
+            self.group = group;
         }
     }
 }

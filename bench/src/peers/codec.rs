@@ -4,7 +4,7 @@ use super::records::{self, Owned};
 use super::remote::{Line, Spelling};
 use super::streams::count;
 use crate::calls::Found;
-use crate::frames::{first_zero, runs};
+use crate::frames::{first_zero, runs, vectors};
 use crate::remote::Counted;
 
 /// How many bytes a stretch and a message have at most.
@@ -46,7 +46,7 @@ pub fn decode(stream: &[u8], piece: usize) -> Found {
 }
 
 /// Encodes so many values, each a number and this text, into a buffer, and puts it to the front of the room where that is as long.
-pub fn encode(text: &[u8], values: u32, room: &mut [u8]) -> Counted {
+pub fn encode<const V: bool>(text: &[u8], values: u32, room: &mut [u8]) -> Counted {
     let mut counted = Counted::default();
     let Ok(text) = std::str::from_utf8(text) else {
         return counted;
@@ -57,7 +57,8 @@ pub fn encode(text: &[u8], values: u32, room: &mut [u8]) -> Counted {
         spell_value(&mut spelling, which, text);
         let mut frame = [0; 40];
         let start = usize::from(which > 0);
-        let end = runs::encode(&spelling.bytes[..spelling.len], &mut frame[1..]) + 1;
+        let message = &spelling.bytes[..spelling.len];
+        let end = 1 + if V { vectors::encode(message, &mut frame[1..]) } else { runs::encode(message, &mut frame[1..]) };
         line.extend_from_slice(&frame[start..=end]);
         counted.calls += 1;
     }
@@ -69,21 +70,21 @@ pub fn encode(text: &[u8], values: u32, room: &mut [u8]) -> Counted {
 }
 
 /// Sends so many values, each a number and this text, to the front of the room.
-pub fn send(text: &[u8], values: u32, room: &mut [u8]) -> Counted {
-    send_by(values, text, values, room)
+pub fn send<const V: bool>(text: &[u8], values: u32, room: &mut [u8]) -> Counted {
+    send_by::<V>(values, text, values, room)
 }
 
 /// The same in sessions of eight, of which each begins with a zero.
-pub fn send_eights(text: &[u8], values: u32, room: &mut [u8]) -> Counted {
-    send_by(8, text, values, room)
+pub fn send_eights<const V: bool>(text: &[u8], values: u32, room: &mut [u8]) -> Counted {
+    send_by::<V>(8, text, values, room)
 }
 
-fn send_by(session: u32, text: &[u8], values: u32, room: &mut [u8]) -> Counted {
+fn send_by<const V: bool>(session: u32, text: &[u8], values: u32, room: &mut [u8]) -> Counted {
     let mut counted = Counted::default();
     let Ok(text) = std::str::from_utf8(text) else {
         return counted;
     };
-    let mut line = Line::new(room);
+    let mut line = Line::<V>::new(room);
     for which in 0..values {
         if which != 0 && which % session == 0 {
             line.begin();

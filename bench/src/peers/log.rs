@@ -2,7 +2,7 @@
 use super::records::{groups, take};
 use super::remote::{number, read, Receiver, Spelling, EACH};
 use crate::calls::Found;
-use crate::frames::runs;
+use crate::frames::{runs, vectors};
 use crate::remote::Counted;
 
 /// Spells a number and a text behind what is spelled.
@@ -15,9 +15,14 @@ pub fn spell_value(spelling: &mut Spelling, which: u32, text: &str) {
     spelling.len = end;
 }
 
+#[inline(always)]
+fn encode<const V: bool>(message: &[u8], frame: &mut [u8]) -> usize {
+    if V { vectors::encode(message, frame) } else { runs::encode(message, frame) }
+}
+
 /// Appends so many records with this text, and answers what the log holds.
 #[inline]
-fn appended(text: &str, count: u32) -> (Vec<u8>, Counted) {
+fn appended<const V: bool>(text: &str, count: u32) -> (Vec<u8>, Counted) {
     let mut log = Vec::new();
     let mut counted = Counted::default();
     let mut next = 0u64;
@@ -26,7 +31,7 @@ fn appended(text: &str, count: u32) -> (Vec<u8>, Counted) {
         spelling.number(next);
         spell_value(&mut spelling, which, text);
         let mut frame = [0; 40];
-        let end = runs::encode(&spelling.bytes[..spelling.len], &mut frame);
+        let end = encode::<V>(&spelling.bytes[..spelling.len], &mut frame);
         log.extend_from_slice(&frame[..=end]);
         next += 1;
         counted.calls += 1;
@@ -37,11 +42,11 @@ fn appended(text: &str, count: u32) -> (Vec<u8>, Counted) {
 }
 
 /// Appends so many records, and puts the log to the front of the room where that is as long.
-pub fn append(text: &[u8], count: u32, room: &mut [u8]) -> Counted {
+pub fn append<const V: bool>(text: &[u8], count: u32, room: &mut [u8]) -> Counted {
     let Ok(text) = std::str::from_utf8(text) else {
         return Counted::default();
     };
-    let (log, counted) = appended(text, count);
+    let (log, counted) = appended::<V>(text, count);
     if log.len() <= room.len() {
         room[..log.len()].copy_from_slice(&log);
     }
@@ -61,19 +66,19 @@ fn record(message: &[u8]) -> Option<(u64, u32, String)> {
 }
 
 /// Copies a log into a store, puts a zero behind it, and reads it piece by piece.
-pub fn open(log: &[u8]) -> Found {
+pub fn open<const V: bool>(log: &[u8]) -> Found {
     let mut store = log.to_vec();
     store.push(0);
-    read_store(&store)
+    read_store::<V>(&store)
 }
 
 /// Copies a log into a store, and reads it piece by piece.
-pub fn read_all(log: &[u8]) -> Found {
-    read_store(&log.to_vec())
+pub fn read_all<const V: bool>(log: &[u8]) -> Found {
+    read_store::<V>(&log.to_vec())
 }
 
 /// Makes so many records, each where the one before it ends in the room.
-pub fn frame_records(text: &[u8], count: u32, room: &mut [u8]) -> Counted {
+pub fn frame_records<const V: bool>(text: &[u8], count: u32, room: &mut [u8]) -> Counted {
     let mut counted = Counted::default();
     let Ok(text) = std::str::from_utf8(text) else {
         return counted;
@@ -83,7 +88,7 @@ pub fn frame_records(text: &[u8], count: u32, room: &mut [u8]) -> Counted {
         spelling.number(which.into());
         spell_value(&mut spelling, which, text);
         let place = &mut room[counted.written..];
-        let end = runs::encode(&spelling.bytes[..spelling.len], place);
+        let end = encode::<V>(&spelling.bytes[..spelling.len], place);
         place[end] = 0;
         counted.written += end + 1;
         counted.calls += 1;
@@ -93,9 +98,9 @@ pub fn frame_records(text: &[u8], count: u32, room: &mut [u8]) -> Counted {
 }
 
 #[inline]
-fn read_store(store: &[u8]) -> Found {
+fn read_store<const V: bool>(store: &[u8]) -> Found {
     let mut found = Found::default();
-    let mut receiver = Receiver::new();
+    let mut receiver = Receiver::<V>::new();
     let mut piece = [0; EACH];
     let (mut next, mut through) = (0u64, 0usize);
     let mut rest = store;

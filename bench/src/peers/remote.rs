@@ -1,5 +1,6 @@
-//! Both sides of remote calls over memory, by hand: as `bench_layers` has them.
-use crate::frames::{first_zero, runs};
+//! Both sides of remote calls over memory, by hand: as `bench_layers` has them. Frames are made and read run by run, or with `V` by
+//! vectors, where the message is.
+use crate::frames::{first_zero, runs, vectors};
 use crate::remote::Counted;
 
 /// The bytes of a frame at most, and of a read.
@@ -7,15 +8,15 @@ pub const FRAME: usize = 32;
 pub const EACH: usize = 1024;
 
 /// A line in memory that is written to.
-pub struct Line<'a> {
+pub struct Line<'a, const V: bool> {
     room: &'a mut [u8],
     pub written: usize,
     /// Whether the last send ended in a zero.
     clean: bool,
 }
 
-impl<'a> Line<'a> {
-    pub fn new(room: &'a mut [u8]) -> Line<'a> {
+impl<'a, const V: bool> Line<'a, V> {
+    pub fn new(room: &'a mut [u8]) -> Line<'a, V> {
         let (written, clean) = (0, false);
         Line { room, written, clean }
     }
@@ -28,13 +29,23 @@ impl<'a> Line<'a> {
     /// Sends a message as a frame with a zero behind it, and before the first one of a session.
     #[inline]
     pub fn send(&mut self, message: &[u8]) {
-        let mut frame = [0; FRAME + 2];
         let start = usize::from(!self.clean);
+        self.clean = true;
+        if V {
+            let end = start + message.len() + 2;
+            let place = &mut self.room[self.written..self.written + end];
+            self.written += end;
+            place[0] = 0;
+            place[end - 1] = 0;
+            place[start + 1..end - 1].copy_from_slice(message);
+            vectors::encode_in_place(&mut place[start..], message.len());
+            return;
+        }
+        let mut frame = [0; FRAME + 2];
         let end = start + runs::encode(message, &mut frame[start..]) + 1;
         frame[end - 1] = 0;
         self.room[self.written..self.written + end].copy_from_slice(&frame[..end]);
         self.written += end;
-        self.clean = true;
     }
 }
 
@@ -86,13 +97,13 @@ pub fn number(rest: &mut &[u8], bits: u32) -> Option<u64> {
 }
 
 /// What was received of a frame that isn't ended; `len` past the room says that it is too long.
-pub struct Receiver {
+pub struct Receiver<const V: bool> {
     held: [u8; FRAME],
     len: usize,
 }
 
-impl Receiver {
-    pub fn new() -> Receiver {
+impl<const V: bool> Receiver<V> {
+    pub fn new() -> Receiver<V> {
         let (held, len) = ([0; FRAME], 0);
         Receiver { held, len }
     }
@@ -110,7 +121,7 @@ impl Receiver {
     pub fn take(&mut self, piece: &[u8], mut hear: impl FnMut(&[u8])) {
         let mut rest = piece;
         let mut message = [0; FRAME];
-        while let Some(zero) = first_zero(rest) {
+        while let Some(zero) = if V { vectors::first_zero(rest) } else { first_zero(rest) } {
             let mut stretch = &rest[..zero];
             rest = &rest[zero + 1..];
             if self.len > 0 {
@@ -121,7 +132,8 @@ impl Receiver {
             if stretch.is_empty() || stretch.len() > FRAME {
                 continue;
             }
-            if let Some(len) = runs::decode_frame(stretch, &mut message) {
+            let len = if V { vectors::decode_frame(stretch, &mut message) } else { runs::decode_frame(stretch, &mut message) };
+            if let Some(len) = len {
                 hear(&message[..len]);
             }
         }
@@ -161,7 +173,7 @@ fn reply(message: &[u8]) -> Option<(u64, bool, u64)> {
 }
 
 #[inline]
-fn send_reply(line: &mut Line<'_>, (called, even, said): (u64, bool, u64)) {
+fn send_reply<const V: bool>(line: &mut Line<'_, V>, (called, even, said): (u64, bool, u64)) {
     let mut spelling = Spelling::new();
     spelling.number(called);
     spelling.number(even.into());
@@ -169,17 +181,17 @@ fn send_reply(line: &mut Line<'_>, (called, even, said): (u64, bool, u64)) {
     line.send(&spelling.bytes[..spelling.len]);
 }
 
-pub fn serve(requests: &[u8], room: &mut [u8], counted: &mut Counted) {
-    serve_reading(requests, EACH, room, counted);
+pub fn serve<const V: bool>(requests: &[u8], room: &mut [u8], counted: &mut Counted) {
+    serve_reading::<V>(requests, EACH, room, counted);
 }
 
 /// The same, where each read gives so many bytes at most.
 #[inline]
-pub fn serve_reading(requests: &[u8], each: usize, room: &mut [u8], counted: &mut Counted) {
+pub fn serve_reading<const V: bool>(requests: &[u8], each: usize, room: &mut [u8], counted: &mut Counted) {
     let mut rest = requests;
-    let mut line = Line::new(room);
+    let mut line = Line::<V>::new(room);
     let mut piece = [0; EACH];
-    let mut receiver = Receiver::new();
+    let mut receiver = Receiver::<V>::new();
     let mut last: Option<(u64, bool, u64)> = None;
     let (mut calls, mut sum) = (0u64, 0u64);
     while !rest.is_empty() {
@@ -206,7 +218,7 @@ pub fn serve_reading(requests: &[u8], each: usize, room: &mut [u8], counted: &mu
     *counted = Counted { calls, sum, written };
 }
 
-pub fn call(
+pub fn call<const V: bool>(
     replies: &[u8],
     each: usize,
     first: u64,
@@ -215,9 +227,9 @@ pub fn call(
     counted: &mut Counted,
 ) {
     let mut rest = replies;
-    let mut line = Line::new(room);
+    let mut line = Line::<V>::new(room);
     let mut piece = [0; EACH];
-    let mut receiver = Receiver::new();
+    let mut receiver = Receiver::<V>::new();
     let (mut calls, mut sum) = (0u64, 0u64);
     for which in 0..count {
         let called = first + u64::from(which);

@@ -32,7 +32,7 @@ fn request(message: &[u8]) -> Option<(u64, u64, u16, u32)> {
 }
 
 #[inline]
-fn send_reply(line: &mut Line<'_>, (called, even, said): (u64, bool, u64)) {
+fn send_reply<const V: bool>(line: &mut Line<'_, V>, (called, even, said): (u64, bool, u64)) {
     let mut spelling = Spelling::new();
     spelling.number(called);
     let start = spelling.len;
@@ -45,7 +45,7 @@ fn send_reply(line: &mut Line<'_>, (called, even, said): (u64, bool, u64)) {
 
 /// The requests of so many calls, by numbers from `first` on.
 pub fn requests(first: u64, count: u16, room: &mut [u8]) -> usize {
-    let mut line = Line::new(room);
+    let mut line = Line::<false>::new(room);
     for which in 0..count {
         let called = first + u64::from(which);
         let mut spelling = Spelling::new();
@@ -60,11 +60,11 @@ pub fn requests(first: u64, count: u16, room: &mut [u8]) -> usize {
     line.written
 }
 
-pub fn serve(requests: &[u8], each: usize, room: &mut [u8], counted: &mut Counted) {
+pub fn serve<const V: bool>(requests: &[u8], each: usize, room: &mut [u8], counted: &mut Counted) {
     let mut rest = requests;
-    let mut line = Line::new(room);
+    let mut line = Line::<V>::new(room);
     let mut piece = [0; EACH];
-    let mut receiver = Receiver::new();
+    let mut receiver = Receiver::<V>::new();
     let mut last: Option<(u64, bool, u64)> = None;
     let (mut calls, mut sum) = (0u64, 0u64);
     while !rest.is_empty() {

@@ -1,8 +1,10 @@
-//! CRC-32 by tables, a byte a step and eight bytes a step, and records with their sum behind them in frames.
+//! CRC-32 by tables, a byte a step and eight bytes a step, and by products without carries; and records with their sum after them in
+//! frames.
 use super::records::{self, take};
+use super::tight;
 use crate::calls::Parts;
 use crate::data::Record;
-use crate::frames::{runs, windows};
+use crate::frames::{runs, vectors, windows};
 
 /// What each byte adds, so many zeros in front of the last one.
 const fn tables() -> [[u32; 256]; 8] {
@@ -63,6 +65,76 @@ pub fn by_eight(bytes: &[u8]) -> u32 {
     !sum
 }
 
+/// By products without carries (`pclmulqdq`), 64 bytes a step; where the processor has none, or for less than that, eight bytes a step.
+#[inline]
+pub fn by_products(bytes: &[u8]) -> u32 {
+    #[cfg(target_arch = "x86_64")]
+    if bytes.len() >= 64 && std::arch::is_x86_feature_detected!("pclmulqdq") && std::arch::is_x86_feature_detected!("sse4.1") {
+        // SAFETY: the processor has the products, and what is loaded is among the bytes.
+        return unsafe { products::sum(bytes) };
+    }
+    by_eight(bytes)
+}
+
+/// What is summed so far is a polynomial of 128 bits, reflected, in each of four vectors: a vector is moved by so many bits if its
+/// halves are multiplied by the remainders of those powers, which are the constants.
+#[cfg(target_arch = "x86_64")]
+mod products {
+    use std::arch::x86_64::*;
+
+    const BY_512: (i64, i64) = (0x1_5444_2bd4, 0x1_c6e4_1596);
+    const BY_128: (i64, i64) = (0x1_7519_97d0, 0x0_ccaa_009e);
+    const BY_64: i64 = 0x1_63cd_6124;
+    /// The polynomial, and the quotient that finds the remainder.
+    const LAST: (i64, i64) = (0x1_db71_0641, 0x1_f701_1641);
+
+    #[inline]
+    #[target_feature(enable = "pclmulqdq,sse4.1")]
+    unsafe fn moved(lanes: __m128i, by: __m128i, next: __m128i) -> __m128i {
+        let (low, high) = (_mm_clmulepi64_si128(lanes, by, 0x00), _mm_clmulepi64_si128(lanes, by, 0x11));
+        _mm_xor_si128(_mm_xor_si128(low, high), next)
+    }
+
+    #[target_feature(enable = "pclmulqdq,sse4.1")]
+    pub unsafe fn sum(bytes: &[u8]) -> u32 {
+        let load = |at: usize| _mm_loadu_si128(bytes.as_ptr().add(at).cast());
+        let mut four = [_mm_xor_si128(load(0), _mm_cvtsi32_si128(-1)), load(16), load(32), load(48)];
+        let by = _mm_set_epi64x(BY_512.1, BY_512.0);
+        let mut at = 64;
+        while bytes.len() - at >= 64 {
+            for (i, lanes) in four.iter_mut().enumerate() {
+                *lanes = moved(*lanes, by, load(at + 16 * i));
+            }
+            at += 64;
+        }
+        let by = _mm_set_epi64x(BY_128.1, BY_128.0);
+        let mut one = moved(moved(moved(four[0], by, four[1]), by, four[2]), by, four[3]);
+        while bytes.len() - at >= 16 {
+            one = moved(one, by, load(at));
+            at += 16;
+        }
+        let mut sum = remainder(one, by);
+        for byte in &bytes[at..] {
+            sum = (sum >> 8) ^ super::TABLES[0][((sum ^ u32::from(*byte)) & 255) as usize];
+        }
+        !sum
+    }
+
+    /// The remainder of 128 bits.
+    #[inline]
+    #[target_feature(enable = "pclmulqdq,sse4.1")]
+    unsafe fn remainder(lanes: __m128i, by: __m128i) -> u32 {
+        let low = _mm_setr_epi32(-1, 0, -1, 0);
+        let mut one = _mm_xor_si128(_mm_srli_si128(lanes, 8), _mm_clmulepi64_si128(lanes, by, 0x10));
+        let by = _mm_set_epi64x(0, BY_64);
+        one = _mm_xor_si128(_mm_srli_si128(one, 4), _mm_clmulepi64_si128(_mm_and_si128(one, low), by, 0x00));
+        let by = _mm_set_epi64x(LAST.1, LAST.0);
+        let quotient = _mm_and_si128(_mm_clmulepi64_si128(_mm_and_si128(one, low), by, 0x10), low);
+        one = _mm_xor_si128(one, _mm_clmulepi64_si128(quotient, by, 0x00));
+        _mm_extract_epi32(one, 1) as u32
+    }
+}
+
 type Sum = fn(&[u8]) -> u32;
 
 /// The frame of a record with its sum behind it, and a zero.
@@ -89,6 +161,19 @@ pub fn write_by_eight(record: &Record<'_>, room: &mut [u8]) -> Option<usize> {
     write(record, room, by_eight)
 }
 
+/// Encoded where the frame is made, with space tested once, and by products.
+pub fn write_by_products(record: &Record<'_>, room: &mut [u8]) -> Option<usize> {
+    let len = tight::write(record, room.get_mut(1..)?)?;
+    if len + 4 > 254 || len + 6 > room.len() {
+        return write(record, room, by_products);
+    }
+    let sum = by_products(&room[1..=len]);
+    room[len + 1..len + 5].copy_from_slice(&sum.to_le_bytes());
+    let end = vectors::encode_in_place(room, len + 4);
+    room[end] = 0;
+    Some(end + 1)
+}
+
 /// The record of a frame that is decoded where it lies. Its sum is that of the bytes that came.
 #[inline]
 fn read(frame: &mut [u8], sum: Sum) -> Option<Parts> {
@@ -106,4 +191,13 @@ pub fn read_by_bytes(frame: &mut [u8]) -> Option<Parts> {
 
 pub fn read_by_eight(frame: &mut [u8]) -> Option<Parts> {
     read(frame, by_eight)
+}
+
+pub fn read_by_products(frame: &mut [u8]) -> Option<Parts> {
+    let len = vectors::decode_in_place(frame)?;
+    let message = &frame[..len];
+    let (parts, mut rest) = tight::read_front(message)?;
+    let encoded = message.len() - rest.len();
+    let seal = take(&mut rest, 4)?;
+    (by_products(&message[..encoded]).to_le_bytes() == seal).then_some(parts)
 }
