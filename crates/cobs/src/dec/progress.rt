@@ -396,10 +396,9 @@ impl Progress {
     }
 
     // Takes a chunk, of which each byte is XORed with the sentinel, up to the first result: bytes before a sentinel at once,
-    // and sentinels and bytes that don't fit by themselves. It is compiled once for each number: one copy is for the sentinel
-    // zero alone, which XORs nothing.
+    // and sentinels and bytes that don't fit by themselves.
     #[inline(never)]
-    fn push_piece<const COPY: usize>(
+    fn push_piece(
         &mut self,
         buffer: &mut [u8],
         piece: &[u8],
@@ -428,7 +427,7 @@ impl Progress {
     }
 
     // The same of few bytes, one by one. What is kept stays in registers meanwhile.
-    #[inline(never)]
+    #[inline(always)]
     fn push_few(
         &mut self,
         buffer: &mut [u8],
@@ -439,8 +438,8 @@ impl Progress {
             (masked sentinel piece.now) result self.new buffer.new }
     {
         let mut now = *self;
-        for (at, byte) in piece.iter().enumerate() {
-            match now.feed(buffer, sentinel ^ *byte) {
+        for at in 0..piece.len() {
+            match now.feed(buffer, sentinel ^ piece[at]) {
                 Ok(None) => {}
                 Ok(Some(decoded)) => {
                     *self = now;
@@ -468,10 +467,7 @@ impl Progress {
     {
         match self.feed(buffer, byte) {
             Ok(None) => Ok(None),
-            Ok(Some(len)) => Ok(Some(DecodeReport {
-                parsed: 1,
-                decoded: len,
-            })),
+            Ok(Some(decoded)) => Ok(Some(DecodeReport { parsed: 1, decoded })),
             Err(e) => Err(e),
         }
     }
@@ -491,7 +487,7 @@ impl Progress {
         decode_clear(frame, buffer, sentinel)
     }
 
-    // Takes a chunk up to the first result. One byte needs no call.
+    // Takes a chunk up to the first result. The call gets a copy of what is kept, so that this can stay in registers elsewhere.
     #[inline(always)]
     pub(crate) fn push(
         &mut self,
@@ -503,13 +499,14 @@ impl Progress {
             (masked sentinel piece.now) result self.new buffer.new }
     {
         if let [byte] = piece {
-            self.push_byte(buffer, sentinel ^ *byte)
-        } else if piece.len() <= 2 * FEW {
-            self.push_few(buffer, piece, sentinel)
-        } else if sentinel == 0 {
-            self.push_piece::<0>(buffer, piece, 0)
-        } else {
-            self.push_piece::<1>(buffer, piece, sentinel)
+            return self.push_byte(buffer, sentinel ^ *byte);
         }
+        if piece.len() <= 2 * FEW {
+            return self.push_few(buffer, piece, sentinel);
+        }
+        let mut now = *self;
+        let answer = now.push_piece(buffer, piece, sentinel);
+        *self = now;
+        answer
     }
 }
