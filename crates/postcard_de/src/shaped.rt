@@ -9,6 +9,7 @@ use crate::deserialize::{
 };
 use postcard_tree::{AsShape, MatchesShape, Readable, Result};
 
+#[inline(always)]
 fn read_shape<W: Reads<M::Shape, F>, M: MatchesShape + Drop, F: Flavor>(
     d: &mut Deserializer<F>,
 ) -> Result<M>
@@ -25,6 +26,7 @@ impl<B: Bytes, M: MatchesShape + Drop> DeserializeForm<B, M> for AsShape
 where
     M::Shape: Deserialize<B>,
 {
+    #[inline(always)]
     fn deserialize_form<F: Flavor<Taken = B>>(d: &mut Deserializer<F>) -> Result<M> {
         read_shape::<Borrowing, M, F>(d)
     }
@@ -34,6 +36,7 @@ impl<M: MatchesShape + Drop> DeserializeOwnedForm<M> for AsShape
 where
     M::Shape: DeserializeOwned,
 {
+    #[inline(always)]
     fn deserialize_owned_form<F: Flavor>(d: &mut Deserializer<F>) -> Result<M> {
         read_shape::<Owning, M, F>(d)
     }
