@@ -13,7 +13,6 @@ use Rattle.std.specs.Int.{bit_at}
 use Rattle.std.specs.Simd.Lanes.{mask_l, sel_l, zip2, top}
 use mir.Val.{bits, hbits}
 use Rattle.cobs.specs.Codes.{Marks, Coding}
-use Rattle.cobs.specs.Lanes.{LeastOf64}
 use Rattle.cobs.specs.Sentinel.{masked}
 use Rattle.cobs.proofs.CodingLemmas.{is_more, front_at, all_at, zero_at}
 use Rattle.cobs.proofs.MaskingLemmas.{masked_drop, masked_take, masked_length}
@@ -163,7 +162,7 @@ marked_lanes lanes bytes w m long same e = (
 )
 
 -- the lesser ones of two vectors' lanes
-abbrev lesser_of : List ℕ → List ℕ → List ℕ
+abbrev pub lesser_of : List ℕ → List ℕ → List ℕ
 lesser_of a b = sel_l (map (top (hbits w8)) (zip2 (λ x y. cond (ltb x y) (2 ^ bits w8 - 1) 0) a b)) a b
 
 lesser_one : (t : Bool) (x y : ℕ) → ltb x y ≡ t → (cond t x y ≤ x) × (cond t x y ≤ y)
@@ -186,74 +185,54 @@ lesser_lane a b k e l =
     let both = lesser_one (ltb (get_or a k 0) (get_or b k 0)) (get_or a k 0) (get_or b k 0) refl in
     (omega (arith, lane, both.0), omega (arith, lane, both.1))
 
--- bytes of which the least are no less than a number
-pub all_above : (n at : ℕ) (bytes least : List ℕ) → ((j : ℕ) → j < 16 → n ≤ get_or least j 0) → LeastOf64 least at bytes → (k : ℕ) → at ≤ k → k < at + 64 → n ≤ get_or bytes k 0
-all_above n at bytes least some h k l m = elim (cases_lt k (at + 16)) [
-  | inl a ↦ omega (arith, some (k - at) (omega arith), (h (k - at) (omega arith)).0, ap (λ j. get_or bytes j 0) (first k l))
-  | inr a ↦ elim (cases_lt k (at + 32)) [
-    | inl b ↦ omega (arith, some (k - (at + 16)) (omega arith), (h (k - (at + 16)) (omega arith)).1, same 16 k a)
-    | inr b ↦ elim (cases_lt k (at + 48)) [
-      | inl d ↦ omega (arith, some (k - (at + 32)) (omega arith), (h (k - (at + 32)) (omega arith)).2, same 32 k b)
-      | inr d ↦ omega (arith, some (k - (at + 48)) (omega arith), (h (k - (at + 48)) (omega arith)).3, same 48 k d)
+-- no lane of a vector is zero of whose halves none of the lesser lanes is marked
+pub halves_positive : (lanes low high : List ℕ) → length lanes ≡ 64 → low ≡ take 32 (drop 0 lanes) → high ≡ take 32 (drop 32 lanes) → mask_l (map (λ x. eqb x 0) (lesser_of low high)) ≡ 0 → (j : ℕ) → j < 64 → 0 < get_or lanes j 0
+halves_positive lanes low high long el eh e j l =
+    let ll : length low ≡ 32 = ap length el ∙ length-take-le 32 (drop 0 lanes) (omega (arith, long)) in
+    let lh : length high ≡ 32 = ap length eh ∙ length-take-le 32 (drop 32 lanes) (omega (arith, long, length-drop 32 lanes)) in
+    let same : length low ≡ length high = ll ∙ sym lh in
+    let some : (k : ℕ) → k < 32 → 0 < get_or (lesser_of low high) k 0 = λ k q. none_marked (lesser_of low high) e k (omega (arith, q, lesser_length low high same, ll)) in
+    elim (cases_lt j 32) [
+      | inl q ↦ omega (arith, some j q, (lesser_lane low high j same (omega (arith, q, ll))).0, ap (λ x. get_or x j 0) el, get_or-take 32 (drop 0 lanes) j 0 q, get_or-drop 0 lanes j 0)
+      | inr q ↦
+          let k : ℕ = j - 32 in
+          let few : k < 32 = omega (arith, l, q) in
+          let there : get_or lanes (32 + k) 0 ≡ get_or lanes j 0 = ap (λ i. get_or lanes i 0) (omega (arith, q)) in
+          omega (arith, some k few, (lesser_lane low high k same (omega (arith, few, ll))).1, ap (λ x. get_or x k 0) eh, get_or-take 32 (drop 32 lanes) k 0 few, get_or-drop 32 lanes k 0, there)
     ]
-  ]
-]
-  where
-    first : (i : ℕ) → at ≤ i → at + (i - at) ≡ i
-    first i q = omega (arith, q)
 
-    same : (from i : ℕ) → at + from ≤ i → get_or bytes (at + from + (i - (at + from))) 0 ≡ get_or bytes i 0
-    same from i q = ap (λ j. get_or bytes j 0) (omega (arith, q))
+-- 64 bytes from a place on, of which the least aren't zero
+part_clear : (at : ℕ) (bytes lanes least : List ℕ) → lanes ≡ take 64 (drop at bytes) → ((j : ℕ) → j < 64 → 0 < get_or least j 0) → ((j : ℕ) → j < 64 → get_or least j 0 ≤ get_or lanes j 0)
+    → (k : ℕ) → at ≤ k → k < at + 64 → 0 < get_or bytes k 0
+part_clear at bytes lanes least e some less k l q =
+    let j : ℕ = k - at in
+    let few : j < 64 = omega (arith, l, q) in
+    let there : get_or bytes (at + j) 0 ≡ get_or bytes k 0 = ap (λ i. get_or bytes i 0) (omega (arith, l)) in
+    omega (arith, some j few, less j few, ap (λ x. get_or x j 0) e, get_or-take 64 (drop at bytes) j 0 few, get_or-drop at bytes j 0, there)
 
 -- the same of bytes that are XORed
-masked_lanes : (s at : ℕ) (bytes : List ℕ) → masked s (take 16 (drop at bytes)) ≡ take 16 (drop at (masked s bytes))
-masked_lanes s at bytes = sym (ap (take 16) (masked_drop s at bytes) ∙ masked_take s 16 (drop at bytes))
+pub masked_lanes : (s at : ℕ) (bytes : List ℕ) → masked s (take 64 (drop at bytes)) ≡ take 64 (drop at (masked s bytes))
+masked_lanes s at bytes = sym (ap (take 64) (masked_drop s at bytes) ∙ masked_take s 64 (drop at bytes))
 
--- 16 of them
-pub lanes_long : (s at : ℕ) (bytes lanes : List ℕ) → at + 16 ≤ length bytes → lanes ≡ masked s (take 16 (drop at bytes)) → length lanes ≡ 16
-lanes_long s at bytes lanes l e = ap length e ∙ masked_length s (take 16 (drop at bytes)) ∙ length-take-le 16 (drop at bytes) (omega (arith, length-drop at bytes, l))
+-- 64 of them
+pub lanes_long : (s at : ℕ) (bytes lanes : List ℕ) → at + 64 ≤ length bytes → lanes ≡ masked s (take 64 (drop at bytes)) → length lanes ≡ 64
+lanes_long s at bytes lanes l e = ap length e ∙ masked_length s (take 64 (drop at bytes)) ∙ length-take-le 64 (drop at bytes) (omega (arith, length-drop at bytes, l))
 
--- the least lanes of four vectors
-pub least_of_known : (s : ℕ) (bytes m a b c d : List ℕ) → a ≡ masked s (take 16 (drop 0 bytes)) → b ≡ masked s (take 16 (drop 16 bytes)) → c ≡ masked s (take 16 (drop 32 bytes)) → d ≡ masked s (take 16 (drop 48 bytes))
-    → ((j : ℕ) → j < 16 → (get_or m j 0 ≤ get_or a j 0) × (get_or m j 0 ≤ get_or b j 0) × (get_or m j 0 ≤ get_or c j 0) × (get_or m j 0 ≤ get_or d j 0)) → LeastOf64 m 0 (masked s bytes)
-least_of_known s bytes m a b c d ea eb ec ed h j q = (
-  subst (λ v. get_or m j 0 ≤ v) (lane 0 a ea) (h j q).0,
-  subst (λ v. get_or m j 0 ≤ v) (lane 16 b eb) (h j q).1,
-  subst (λ v. get_or m j 0 ≤ v) (lane 32 c ec) (h j q).2,
-  subst (λ v. get_or m j 0 ≤ v) (lane 48 d ed) (h j q).3,
-)
-  where
-    lane : (from : ℕ) (v : List ℕ) → v ≡ masked s (take 16 (drop from bytes)) → get_or v j 0 ≡ get_or (masked s bytes) (from + j) 0
-    lane from v e = ap (λ x. get_or x j 0) (e ∙ masked_lanes s from bytes) ∙ get_or-take 16 (drop from (masked s bytes)) j 0 q ∙ get_or-drop from (masked s bytes) j 0
-
--- bytes in four parts that meet, of which the least of the least aren't zero
-pub all_clear : (p q r n : ℕ) (bytes a b d e least : List ℕ) → p ≤ 64 → q ≤ p + 64 → r ≤ q + 64 → n ≤ r + 64 → ((j : ℕ) → j < 16 → 0 < get_or least j 0)
-    → ((j : ℕ) → j < 16 → (get_or least j 0 ≤ get_or a j 0) × (get_or least j 0 ≤ get_or b j 0) × (get_or least j 0 ≤ get_or d j 0) × (get_or least j 0 ≤ get_or e j 0))
-    → LeastOf64 a 0 bytes → LeastOf64 b p bytes → LeastOf64 d q bytes → LeastOf64 e r bytes → (k : ℕ) → k < n → 0 < get_or bytes k 0
+-- bytes in four parts that meet, of which the least aren't zero
+pub all_clear : (p q r n : ℕ) (bytes a b d e least : List ℕ) → p ≤ 64 → q ≤ p + 64 → r ≤ q + 64 → n ≤ r + 64 → ((j : ℕ) → j < 64 → 0 < get_or least j 0)
+    → ((j : ℕ) → j < 64 → (get_or least j 0 ≤ get_or a j 0) × (get_or least j 0 ≤ get_or b j 0) × (get_or least j 0 ≤ get_or d j 0) × (get_or least j 0 ≤ get_or e j 0))
+    → a ≡ take 64 (drop 0 bytes) → b ≡ take 64 (drop p bytes) → d ≡ take 64 (drop q bytes) → e ≡ take 64 (drop r bytes) → (k : ℕ) → k < n → 0 < get_or bytes k 0
 all_clear p q r n bytes a b d e least lp lq lr ln some four ha hb hd he k l = elim (cases_lt k 64) [
-  | inl x ↦ all_above 1 0 bytes a (λ j z. omega (arith, some j z, (four j z).0)) ha k (omega arith) (omega (arith, x))
+  | inl x ↦ part_clear 0 bytes a least ha some (λ j z. (four j z).0) k (omega arith) (omega (arith, x))
   | inr x ↦ elim (cases_lt k (p + 64)) [
-    | inl y ↦ all_above 1 p bytes b (λ j z. omega (arith, some j z, (four j z).1)) hb k (omega (arith, x, lp)) y
+    | inl y ↦ part_clear p bytes b least hb some (λ j z. (four j z).1) k (omega (arith, x, lp)) y
     | inr y ↦ elim (cases_lt k (q + 64)) [
-      | inl z ↦ all_above 1 q bytes d (λ j w. omega (arith, some j w, (four j w).2)) hd k (omega (arith, y, lq)) z
-      | inr z ↦ all_above 1 r bytes e (λ j w. omega (arith, some j w, (four j w).3)) he k (omega (arith, z, lr)) (omega (arith, l, ln))
+      | inl z ↦ part_clear q bytes d least hd some (λ j w. (four j w).2) k (omega (arith, y, lq)) z
+      | inr z ↦ part_clear r bytes e least he some (λ j w. (four j w).3) k (omega (arith, z, lr)) (omega (arith, l, ln))
     ]
   ]
 ]
 
--- the least of the bytes from a place on
-pub least_part : (from n : ℕ) (bytes least : List ℕ) → 64 ≤ n → LeastOf64 least 0 (take n (drop from bytes)) → LeastOf64 least from bytes
-least_part from n bytes least l h j q = (
-  subst (λ v. get_or least j 0 ≤ v) (byte 0 (omega arith) ∙ ap (λ i. get_or bytes i 0) (omega arith)) (h j q).0,
-  subst (λ v. get_or least j 0 ≤ v) (byte 16 (omega arith)) (h j q).1,
-  subst (λ v. get_or least j 0 ≤ v) (byte 32 (omega arith)) (h j q).2,
-  subst (λ v. get_or least j 0 ≤ v) (byte 48 (omega arith)) (h j q).3,
-)
-  where
-    byte : (k : ℕ) → k + 16 ≤ 64 → get_or (take n (drop from bytes)) (0 + k + j) 0 ≡ get_or bytes (from + k + j) 0
-    byte k r = get_or-take n (drop from bytes) (0 + k + j) 0 (omega (arith, l, r, q)) ∙ get_or-drop from bytes (0 + k + j) 0 ∙ ap (λ i. get_or bytes i 0) (omega arith)
-
--- the same of bytes that are XORed
-pub least_masked : (s from n : ℕ) (bytes least : List ℕ) → 64 ≤ n → LeastOf64 least 0 (masked s (take n (drop from bytes))) → LeastOf64 least from (masked s bytes)
-least_masked s from n bytes least l h =
-    least_part from n (masked s bytes) least l (subst (LeastOf64 least 0) (sym (ap (take n) (masked_drop s from bytes) ∙ masked_take s n (drop from bytes))) h)
+-- 64 lanes that are all the bytes
+pub whole_clear : (bytes lanes : List ℕ) → length bytes ≡ 64 → lanes ≡ take 64 (drop 0 bytes) → ((j : ℕ) → j < 64 → 0 < get_or lanes j 0) → (k : ℕ) → k < 64 → 0 < get_or bytes k 0
+whole_clear bytes lanes long e some k l = part_clear 0 bytes lanes lanes e some (λ j q. omega arith) k (omega arith) l

@@ -84,12 +84,6 @@ front_masked s bytes code_at len h = sym (ap (masked s) (h.is ∙ masked_take s 
 becomes_sentinel : (sentinel byte : ℕ) → bit_xor sentinel byte ≡ sentinel → byte ≡ 0
 becomes_sentinel s b e = ap (λ z. bit_xor z b) (sym (xor_self s)) ∙ xor_assoc s s b ∙ ap (bit_xor s) e ∙ xor_self s
 
--- a byte that gives 255 with all bits of another turned is that one
-pub as_turned : (byte x : ℕ) → bit_xor (bit_xor byte 255) x ≡ 255 → x ≡ byte
-as_turned byte x e =
-    sym (xor_twice (bit_xor byte 255) x) ∙ ap (bit_xor (bit_xor byte 255)) e
-    ∙ xor_assoc byte 255 255 ∙ ap (bit_xor byte) (xor_self 255) ∙ xor_zero_r byte
-
 pub none_is_sentinel : (sentinel : ℕ) (bytes : List ℕ) → NoZero bytes → AllByRecursion (λ b. b ≢ sentinel) (masked sentinel bytes)
 none_is_sentinel s [] h = tt
 none_is_sentinel s (b ∷ bytes) h = (λ e. let z = becomes_sentinel s b e in omega (arith, h.0), none_is_sentinel s bytes h.1)

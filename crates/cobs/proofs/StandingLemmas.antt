@@ -1,15 +1,13 @@
 -- How a message is coded where it stands.
-use Rattle.std.proofs.Common.{◌≡◌, ℕ, ◌+◌, ◌-◌, ◌<◌, ◌≤◌, List, [], ◌∷◌, ◌++◌, length, take, drop, set, get_or, refl, ap, sym, ◌∙◌, arith, append_assoc, length-append, length-drop}
-use Rattle.std.proofs.lemmas.List.{take-append-drop, take-append-le, take_at, drop_at, drop_more, drop-drop, length-take-le}
-use Rattle.std.specs.Prelude.{bit_xor}
+use Rattle.std.proofs.Common.{◌≡◌, ℕ, ◌+◌, ◌-◌, ◌<◌, ◌≤◌, List, [], ◌∷◌, ◌++◌, length, take, drop, set, get_or, replicate, refl, ap, sym, subst, ◌∙◌, arith, append_assoc, length-append, length-drop}
+use Rattle.std.proofs.lemmas.List.{take-append-drop, take-append-le, take_at, drop_at, drop_all, drop_more, drop-drop, length-replicate, length-take-le}
 use borrow.Rule.Slice.PartMut.{put_mid}
 use Rattle.cobs.specs.Frames.{shortest_frame}
 use Rattle.cobs.specs.Codes.{Coding, Coded}
-use Rattle.cobs.specs.Held.{pushed, HoldsFrame}
 use Rattle.cobs.specs.InPlace.{written_over}
-use Rattle.cobs.specs.Sentinel.{masked, frame_for}
-use Rattle.cobs.proofs.MaskingLemmas.{masked_length, masked_take, masked_drop, masked_twice, masked_put, front_masked}
-use Rattle.cobs.proofs.CodingLemmas.{all_at, coded_end}
+use Rattle.cobs.specs.Sentinel.{masked}
+use Rattle.cobs.proofs.MaskingLemmas.{masked_length, masked_twice, masked_zero}
+use Rattle.cobs.proofs.CodingLemmas.{coded_end}
 
 -- a message that stands behind a first byte
 pub standing_new : (bytes : List ℕ) (n : ℕ) → n ≤ 254 → n < length bytes → Coding bytes 0 1 (take n (drop 1 bytes)) (take n (drop 1 bytes))
@@ -37,55 +35,43 @@ standing_piece bytes code_at at m rest k l c =
     ap (λ b. take k (drop at b)) split ∙ ap (take k) (drop_at front (rest ++ c.tail) at long) ∙ take-append-le k rest c.tail l
 
 -- a front of it is coded
-pub standing_on : (s : ℕ) (before after m : List ℕ) (code_at done count next : ℕ) → done + count ≤ length m → Coding (masked s before) code_at (done + 1) m (drop done m)
-    → Coded (masked s before) code_at (done + 1) (masked s (take count (drop (done + 1) before))) after next → Coding after next (done + count + 1) m (drop (done + count) m)
-standing_on s before after m code_at done count next l c step =
+pub standing_on : (before after m : List ℕ) (code_at done count next : ℕ) → done + count ≤ length m → Coding before code_at (done + 1) m (drop done m)
+    → Coded before code_at (done + 1) (take count (drop (done + 1) before)) after next → Coding after next (done + count + 1) m (drop (done + count) m)
+standing_on before after m code_at done count next l c step =
     let rest : List ℕ = drop done m in
     let some : count ≤ length rest = omega (arith, length-drop done m) in
-    let is : masked s (take count (drop (done + 1) before)) ≡ take count rest =
-    sym (ap (take count) (masked_drop s (done + 1) before) ∙ masked_take s count (drop (done + 1) before)) ∙ standing_piece (masked s before) code_at (done + 1) m rest count some c in
-    let long : length (masked s (take count (drop (done + 1) before))) ≡ count = ap length is ∙ length-take-le count rest some in
-    let split : masked s (take count (drop (done + 1) before)) ++ drop count rest ≡ rest = ap (λ x. x ++ drop count rest) is ∙ take-append-drop count rest in
-    let there : done + 1 + length (masked s (take count (drop (done + 1) before))) ≡ done + count + 1 = omega (arith, long) in
+    let is : take count (drop (done + 1) before) ≡ take count rest = standing_piece before code_at (done + 1) m rest count some c in
+    let long : length (take count (drop (done + 1) before)) ≡ count = ap length is ∙ length-take-le count rest some in
+    let split : take count (drop (done + 1) before) ++ drop count rest ≡ rest = ap (λ x. x ++ drop count rest) is ∙ take-append-drop count rest in
+    let there : done + 1 + length (take count (drop (done + 1) before)) ≡ done + count + 1 = omega (arith, long) in
     let left : drop count rest ≡ drop (done + count) m = drop-drop count done m in
     rw (← there, ← left) (step.coding m (drop count rest) (rw split c))
 
--- a message that is masked where it stands
-pub standing_masked : (s n : ℕ) (bytes new : List ℕ) → n < length bytes → new ≡ masked s (take n (drop 1 bytes)) → take n (drop 1 (masked s (put_mid 1 n bytes new))) ≡ take n (drop 1 bytes)
-standing_masked s n bytes new room e =
-    let m = take n (drop 1 bytes) in
-    let long : length new ≡ n = ap length e ∙ masked_length s m ∙ length-take-le n (drop 1 bytes) (omega (arith, length-drop 1 bytes)) in
-    let first : length (take 1 bytes) ≡ 1 = length-take-le 1 bytes (omega arith) in
-    sym (ap (take n) (sym (masked_drop s 1 (put_mid 1 n bytes new)) ∙ refl))
-    ∙ ap (λ x. take n (masked s x)) (drop_at (take 1 bytes) (new ++ drop n (drop 1 bytes)) 1 first)
-    ∙ masked_take s n (new ++ drop n (drop 1 bytes))
-    ∙ ap (masked s) (take_at new (drop n (drop 1 bytes)) n long ∙ e)
-    ∙ masked_twice s m
+-- what was coded for the sentinel zero
+pub standing_plain : (before piece after : List ℕ) (code_at from last : ℕ) → Coded (masked 0 before) code_at from (masked 0 piece) (masked 0 after) last → Coded before code_at from piece after last
+standing_plain before piece after code_at from last c =
+    subst (λ b. Coded b code_at from piece after last) (masked_zero before)
+    (subst (λ p. Coded (masked 0 before) code_at from p after last) (masked_zero piece)
+    (subst (λ a. Coded (masked 0 before) code_at from (masked 0 piece) a last) (masked_zero after) c))
 
--- bytes that stand there, of which none is zero
-pub standing_clear : (s : ℕ) (bytes : List ℕ) (code_at from n : ℕ) → code_at < from → from + n ≤ length bytes → n ≡ 64 → ((k : ℕ) → k < 64 → 0 < get_or (masked s (take (from + n - from) (drop from bytes))) k 0)
-    → Coded (masked s bytes) code_at from (masked s (take n (drop from bytes))) (masked s bytes) code_at
-standing_clear s bytes code_at from n b w e h =
-    let piece = masked s (take n (drop from bytes)) in
-    let same : from + n - from ≡ n = omega arith in
-    let long : length piece ≡ n = masked_length s (take n (drop from bytes)) ∙ length-take-le n (drop from bytes) (omega (arith, length-drop from bytes, w)) in
-    record {
-      begins = omega (arith, b);
-      later = omega arith;
-      coding = λ message more c. all_at (masked s bytes) code_at from (from + length piece) message piece more (λ k l. rw same at (h k (omega (arith, l, long, e)))) refl c;
-    }
+-- all of it is coded
+pub standing_all : (bytes : List ℕ) (code_at done n : ℕ) (m : List ℕ) → done ≡ n → length m ≤ n → Coding bytes code_at (done + 1) m (drop done m) → Coding bytes code_at (n + 1) m []
+standing_all bytes code_at done n m e l c =
+    subst (λ x. Coding bytes code_at (n + 1) m x) (drop_all n m l) (subst (λ k. Coding bytes code_at (k + 1) m (drop k m)) e c)
 
 -- with the last code the buffer begins with the frame
-pub standing_end : (s : ℕ) (bytes : List ℕ) (code_at end : ℕ) (m message : List ℕ) → m ≡ message → Coding (masked s bytes) code_at end m []
-    → (end ≡ length (shortest_frame message)) × (take end (set bytes code_at (bit_xor s (end - code_at))) ≡ frame_for s message)
-standing_end s bytes code_at end m message e c =
-    let new = set bytes code_at (bit_xor s (end - code_at)) in
-    let whole = coded_end (masked s bytes) code_at end m c in
-    let holds : HoldsFrame (masked s new) code_at end = rw (masked_put s bytes code_at (end - code_at)) whole.0 in
-    let same : pushed (masked s new) end ≡ message = ap (λ b. pushed b end) (masked_put s bytes code_at (end - code_at)) ∙ whole.1 ∙ e in
-    let is : take end new ≡ frame_for s message = front_masked s new code_at end holds ∙ ap (frame_for s) same in
-    let long : length (take end (masked s new)) ≡ end = length-take-le end (masked s new) holds.laid.within in
-    (sym (ap length (ap shortest_frame (sym same) ∙ holds.is) ∙ long), is)
+pub standing_end : (bytes : List ℕ) (code_at end : ℕ) (message : List ℕ) → Coding bytes code_at end message []
+    → (end ≡ length (shortest_frame message)) × (take end (set bytes code_at (end - code_at)) ≡ shortest_frame message)
+standing_end bytes code_at end message c =
+    let new = set bytes code_at (end - code_at) in
+    let whole = coded_end bytes code_at end message c in
+    let is : take end new ≡ shortest_frame message = sym whole.0.is ∙ ap shortest_frame whole.1 in
+    (sym (length-take-le end new whole.0.laid.within) ∙ ap length is, is)
+
+-- a row that is written over a part
+pub row_put : (at n byte : ℕ) (bytes : List ℕ) → written_over at (replicate n byte) bytes ≡ put_mid at n bytes (replicate n byte)
+row_put at n byte bytes =
+    ap (λ x. take at bytes ++ (replicate n byte ++ x)) (ap (λ j. drop (at + j) bytes) (length-replicate {A = ℕ} n byte) ∙ sym (drop-drop n at bytes))
 
 -- bytes that were copied stand there
 pub over_stands : (s at : ℕ) (dest copied bytes : List ℕ) → at + length bytes ≤ length dest → copied ≡ written_over at (masked s bytes) dest → masked s (take (length bytes) (drop at copied)) ≡ bytes

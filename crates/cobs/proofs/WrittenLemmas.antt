@@ -118,19 +118,3 @@ written_next s place j k n at m part old new e p l r q room a =
 -- what is in front of them is as it was
 pub written_front : (place : ℕ) (bytes old : List ℕ) → place ≤ length old → take place (written_over place bytes old) ≡ take place old
 written_front place bytes old l = take_at (take place old) (bytes ++ drop (place + length bytes) old) place (length-take-le place old l)
-
--- four parts of 64 bytes, each behind the one before it
-pub written_four : (s place : ℕ) (m old b1 b2 b3 b4 p1 p2 p3 p4 : List ℕ) → length m ≡ 64 → place + 64 ≤ length old
-    → p1 ≡ take 16 (drop 0 m) → p2 ≡ take 16 (drop 16 m) → p3 ≡ take 16 (drop 32 m) → p4 ≡ take 16 (drop 48 m)
-    → b1 ≡ written_over place (masked s p1) old → b2 ≡ written_over (place + 16) (masked s p2) b1 → b3 ≡ written_over (place + 32) (masked s p3) b2 → b4 ≡ written_over (place + 48) (masked s p4) b3
-    → b4 ≡ written_over place (masked s m) old
-written_four s place m old b1 b2 b3 b4 p1 p2 p3 p4 count room e1 e2 e3 e4 w1 w2 w3 w4 =
-    let fits : place + length m ≤ length old = omega (arith, count, room) in
-    let one : b1 ≡ written_over place (masked s (take 16 m)) old = w1 ∙ ap (λ x. written_over place (masked s x) old) e1 in
-    let two : b2 ≡ written_over place (masked s (take (16 + 16) m)) old =
-    w2 ∙ written_next s place 16 16 16 (place + 16) m p2 old b1 one e2 (omega arith) (omega arith) (omega (arith, count)) fits (omega arith) in
-    let three : b3 ≡ written_over place (masked s (take (32 + 16) m)) old =
-    w3 ∙ written_next s place 32 32 16 (place + 32) m p3 old b2 two e3 (omega arith) (omega arith) (omega (arith, count)) fits (omega arith) in
-    w4
-    ∙ written_next s place 48 48 16 (place + 48) m p4 old b3 three e4 (omega arith) (omega arith) (omega (arith, count)) fits (omega arith)
-    ∙ ap (λ x. written_over place (masked s x) old) (take_all 64 m (omega (arith, count)))

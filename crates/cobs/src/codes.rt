@@ -17,7 +17,7 @@ ghost use Rattle.std.specs.Int.{bit_at};
 ghost use Rattle.cobs.specs.Codes.{InBlock, Coded, Marks, Stepped};
 ghost use Rattle.cobs.specs.Sentinel.{masked};
 
-use crate::moves::{copy_clear, copy_clear_64, copy_few, is_clear, zeros_of_ends};
+use crate::moves::{copy_clear, copy_clear_64, copy_few, row_over, zeros_of_ends, zeros_of_some};
 
 // The lowest bit that is set, and the others.
 #[inline(always)]
@@ -67,47 +67,44 @@ fn put_codes_marked(
 
 // The same of bytes that are all zero.
 #[inline(always)]
-fn put_codes_of_zeros(
-    dest: &mut [u8],
-    code_at: usize,
-    from: usize,
-    bytes: &[u8],
-    sentinel: u8,
-) -> usize
-    requires block { InBlock dest.old code_at from bytes.now }
-    requires some { 0 < length bytes.now }
-    requires zeros { (k : ℕ) → k < length bytes.now → slice_index bytes.now k ≡ 0 }
-    ensures { Coded (masked sentinel dest.old) code_at from bytes.now
-        (masked sentinel dest.new) result }
+fn put_codes_of_zeros(dest: &mut [u8], code_at: usize, from: usize, n: usize, sentinel: u8) -> usize
+    requires begins { code_at < from }
+    requires some { 0 < n }
+    requires within { from + n ≤ length dest.old }
+    requires short { from + n ≤ code_at + 255 }
+    requires zeros { (k : ℕ) → k < n
+        → slice_index (masked sentinel (take n (drop from dest.old))) k ≡ 0 }
+    ensures { Coded (masked sentinel dest.old) code_at from
+        (masked sentinel (take n (drop from dest.old))) (masked sentinel dest.new) result }
 {
-    let end = from + bytes.len();
     dest[code_at] = sentinel ^ (from - code_at) as u8;
-    dest[from..end].fill(sentinel ^ 1);
-    end - 1
+    row_over(dest, from, n, sentinel ^ 1);
+    from + n - 1
 }
 
-// The same as `put_codes_marked`, of some bytes: if all are zero they are filled at once.
+// The same as `put_codes_marked`: if all are zero they are filled at once.
 #[inline(always)]
 fn put_codes_of_marks(
     dest: &mut [u8],
     code_at: usize,
     from: usize,
-    bytes: &[u8],
+    n: usize,
     marks: u64,
     sentinel: u8,
 ) -> usize
-    requires block { InBlock dest.old code_at from bytes.now }
-    requires some { 0 < length bytes.now }
-    requires few { length bytes.now ≤ 64 }
-    requires marks { Marks marks 0 bytes.now }
-    requires stands { masked sentinel (take (length bytes.now) (drop from dest.old)) ≡ bytes.now }
-    ensures { Coded (masked sentinel dest.old) code_at from bytes.now
-        (masked sentinel dest.new) result }
+    requires begins { code_at < from }
+    requires some { 0 < n }
+    requires few { n ≤ 64 }
+    requires within { from + n ≤ length dest.old }
+    requires short { from + n ≤ code_at + 255 }
+    requires marks { Marks marks 0 (masked sentinel (take n (drop from dest.old))) }
+    ensures { Coded (masked sentinel dest.old) code_at from
+        (masked sentinel (take n (drop from dest.old))) (masked sentinel dest.new) result }
 {
-    if are_all_marked(marks, bytes.len()) {
-        put_codes_of_zeros(dest, code_at, from, bytes, sentinel)
+    if are_all_marked(marks, n) {
+        put_codes_of_zeros(dest, code_at, from, n, sentinel)
     } else {
-        put_codes_marked(dest, code_at, from, bytes.len(), marks, sentinel)
+        put_codes_marked(dest, code_at, from, n, marks, sentinel)
     }
 }
 
@@ -129,14 +126,8 @@ fn marks_of(bytes: &[u8], sentinel: u8) -> u64
     requires few { length bytes.now ≤ 64 }
     ensures { Marks result 0 (masked sentinel bytes.now) }
 {
-    if 32 <= bytes.len() {
-        zeros_of_ends::<32>(bytes, sentinel)
-    } else if 16 <= bytes.len() {
-        zeros_of_ends::<16>(bytes, sentinel)
-    } else if 8 <= bytes.len() {
-        zeros_of_ends::<8>(bytes, sentinel)
-    } else if 4 <= bytes.len() {
-        zeros_of_ends::<4>(bytes, sentinel)
+    if 4 <= bytes.len() {
+        zeros_of_some(bytes, sentinel)
     } else if 2 <= bytes.len() {
         zeros_of_ends::<2>(bytes, sentinel)
     } else {
@@ -144,30 +135,22 @@ fn marks_of(bytes: &[u8], sentinel: u8) -> u64
     }
 }
 
-// Writes a code at each zero of n bytes that are in the buffer, XORed with the sentinel, and returns the position of
-// the last code.
+// Writes a code at each zero of n bytes that are in the buffer, for the sentinel zero, and returns the position of the
+// last code. Of fewer than 64 each zero gets its code: filling them takes a call.
 #[inline(always)]
-pub(crate) fn put_codes_standing(
-    dest: &mut [u8],
-    code_at: usize,
-    from: usize,
-    n: usize,
-    sentinel: u8,
-) -> usize
+pub(crate) fn put_codes_standing(dest: &mut [u8], code_at: usize, from: usize, n: usize) -> usize
     requires begins { code_at < from }
     requires some { 0 < n }
     requires few { n ≤ 64 }
     requires within { from + n ≤ length dest.old }
     requires short { from + n ≤ code_at + 255 }
-    ensures { Coded (masked sentinel dest.old) code_at from
-        (masked sentinel (take n (drop from dest.old))) (masked sentinel dest.new) result }
+    ensures { Coded dest.old code_at from (take n (drop from dest.old)) dest.new result }
 {
-    let bytes = &dest[from..from + n];
-    if n == 64 && is_clear(bytes, sentinel) {
-        return code_at;
+    let marks = marks_of(&dest[from..from + n], 0);
+    if n == 64 && are_all_marked(marks, n) {
+        return put_codes_of_zeros(dest, code_at, from, n, 0);
     }
-    let marks = marks_of(bytes, sentinel);
-    put_codes_marked(dest, code_at, from, n, marks, sentinel)
+    put_codes_marked(dest, code_at, from, n, marks, 0)
 }
 
 // Copies at most 64 bytes into the open block and writes a code at each of their zeros. Returns the position of the
@@ -192,7 +175,7 @@ fn put_some<const WAY: usize, const CALL: usize>(
     }
     let marks = marks_of(bytes, 0);
     copy_few(bytes, dest, from, sentinel);
-    put_codes_of_marks(dest, code_at, from, bytes, marks, sentinel)
+    put_codes_of_marks(dest, code_at, from, bytes.len(), marks, sentinel)
 }
 
 // The same of any bytes.

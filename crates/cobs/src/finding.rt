@@ -1,12 +1,13 @@
-//! The position of the first sentinel: by `memchr` above 256 bytes, by masks of 64 bytes and of the last bytes below, by a loop
-//! under 4. A call costs more than a short search, so `memchr` isn't used everywhere.
+//! The position of the first sentinel: by 255 bytes as long as they have none, by 64, by a mask of the last ones, by a loop
+//! under 4. Up to 64 bytes are searched where the call is.
+//!
+//! Rejected: `memchr`, which goes by a vector a step, and takes nearly twice as many instructions.
 ghost use Rattle.std.specs.Prelude.{◌≡◌, ◌≢◌, ℕ, ◌<◌, ◌≤◌, length, slice_index};
 ghost use Rattle.cobs.specs.InPlace.{stretch};
 ghost use Rattle.cobs.specs.Sentinel.{masked};
 
 use crate::codes::lowest;
-use crate::moves::{is_clear, zeros_of_some};
-use memchr::memchr;
+use crate::moves::{is_clear, is_clear_255, zeros_of_some};
 
 // How many of a few bytes come before the first sentinel.
 #[inline(always)]
@@ -76,6 +77,34 @@ pub(crate) fn before_by_64(bytes: &[u8], sentinel: u8) -> usize
     at + before_few(&bytes[at..], sentinel)
 }
 
+// The same in steps of 255 as long as they have none.
+#[inline(always)]
+fn before_by_255(bytes: &[u8], sentinel: u8) -> usize
+    ensures within { result ≤ length bytes.now }
+    ensures none { (k : ℕ) → k < result → slice_index bytes.now k ≢ sentinel }
+    ensures end { result < length bytes.now → slice_index bytes.now result ≡ sentinel }
+{
+    let mut at = 0;
+    while 255 <= bytes.len() - at && is_clear_255(&bytes[at..at + 255], sentinel) {
+        at += 255;
+    }
+    at + before_by_64(&bytes[at..], sentinel)
+}
+
+// The same, compiled once for zero, with which nothing is XORed, and once for any sentinel.
+#[inline(never)]
+fn before_far(bytes: &[u8], sentinel: u8) -> usize
+    ensures within { result ≤ length bytes.now }
+    ensures none { (k : ℕ) → k < result → slice_index bytes.now k ≢ sentinel }
+    ensures end { result < length bytes.now → slice_index bytes.now result ≡ sentinel }
+{
+    if sentinel == 0 {
+        before_by_255(bytes, 0)
+    } else {
+        before_by_255(bytes, sentinel)
+    }
+}
+
 /// Returns how many bytes come before the first sentinel; all if there is none.
 ///
 /// # Example
@@ -91,10 +120,7 @@ pub fn before_sentinel(bytes: &[u8], sentinel: u8) -> usize
 {
     if bytes.len() <= 64 {
         before_few(bytes, sentinel)
-    } else if bytes.len() <= 256 {
-        before_by_64(bytes, sentinel)
     } else {
-        // For so many bytes a call is worth its cost.
-        memchr(sentinel, bytes).unwrap_or(bytes.len())
+        before_far(bytes, sentinel)
     }
 }

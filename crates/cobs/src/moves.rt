@@ -3,7 +3,6 @@
 //! Of as many bytes as one to two vectors have, one vector takes the first and one the last.
 ghost use Rattle.std.specs.Prelude.{◌≡◌, ℕ, ◌+◌, ◌<◌, ◌≤◌, length, take, drop, replicate, slice_index, true, false, ◌^◌};
 ghost use Rattle.cobs.specs.Codes.{Marks};
-ghost use Rattle.cobs.specs.Lanes.{LeastOf64};
 ghost use Rattle.cobs.specs.InPlace.{written_over};
 ghost use Rattle.cobs.specs.Sentinel.{masked};
 
@@ -76,16 +75,29 @@ pub(crate) fn copy_few(bytes: &[u8], buffer: &mut [u8], place: usize, sentinel: 
     }
 }
 
-// Puts 64 zeros over a buffer, from a position on.
+// Puts a byte 64 times over a buffer, from a position on.
 #[inline(always)]
-fn zero_64(buffer: &mut [u8], place: usize)
+fn row_of_64(buffer: &mut [u8], place: usize, byte: u8)
     requires { place + 64 ≤ length buffer.old }
-    ensures { buffer.new ≡ written_over place (replicate 64 0) buffer.old }
+    ensures { buffer.new ≡ written_over place (replicate 64 byte) buffer.old }
 {
-    store::<64>(Simd::<u8, 64>::splat(0), buffer, place, 0);
+    store::<64>(Simd::<u8, 64>::splat(byte), buffer, place, 0);
 }
 
-// The same of n zeros: the last 64 may begin among those before them.
+// The same n times.
+#[inline(always)]
+pub(crate) fn row_over(buffer: &mut [u8], place: usize, n: usize, byte: u8)
+    requires { place + n ≤ length buffer.old }
+    ensures { buffer.new ≡ written_over place (replicate n byte) buffer.old }
+{
+    if n == 64 {
+        row_of_64(buffer, place, byte);
+    } else {
+        buffer[place..place + n].fill(byte);
+    }
+}
+
+// Puts n zeros over a buffer, from a position on: the last 64 may begin among those before them.
 #[inline(always)]
 pub(crate) fn zero_over(buffer: &mut [u8], place: usize, n: usize)
     requires many { 64 ≤ n }
@@ -94,10 +106,10 @@ pub(crate) fn zero_over(buffer: &mut [u8], place: usize, n: usize)
 {
     let mut at: usize = 0;
     while 64 < n - at {
-        zero_64(buffer, place + at);
+        row_of_64(buffer, place + at, 0);
         at += 64;
     }
-    zero_64(buffer, place + (n - 64));
+    row_of_64(buffer, place + (n - 64), 0);
 }
 
 // Copies any number of bytes over a buffer, from a position on.
@@ -130,7 +142,7 @@ pub(crate) fn copy_block(bytes: &[u8], buffer: &mut [u8], place: usize, sentinel
 
 // The lesser bytes of two vectors, lane by lane.
 #[inline(always)]
-pub(crate) fn lesser(a: u8x16, b: u8x16) -> u8x16
+fn lesser(a: u8x64, b: u8x64) -> u8x64
     requires { length a ≡ length b }
     ensures long { length result ≡ length a }
     ensures first { (k : ℕ) → k < length a → slice_index result k ≤ slice_index a k }
@@ -139,96 +151,65 @@ pub(crate) fn lesser(a: u8x16, b: u8x16) -> u8x16
     a.simd_min(b)
 }
 
-// The least bytes of four vectors, lane by lane.
+// The least bytes of four vectors, lane by lane: one by one, so that each is loaded where it is compared.
 #[inline(always)]
-fn least_of_four(a: u8x16, b: u8x16, c: u8x16, d: u8x16) -> u8x16
-    requires { (length a ≡ 16) × (length b ≡ 16) × (length c ≡ 16) × (length d ≡ 16) }
-    ensures long { length result ≡ 16 }
-    ensures lanes { (j : ℕ) → j < 16
+fn least_of_four(a: u8x64, b: u8x64, c: u8x64, d: u8x64) -> u8x64
+    requires { (length a ≡ 64) × (length b ≡ 64) × (length c ≡ 64) × (length d ≡ 64) }
+    ensures long { length result ≡ 64 }
+    ensures lanes { (j : ℕ) → j < 64
         → (slice_index result j ≤ slice_index a j) × (slice_index result j ≤ slice_index b j)
         × (slice_index result j ≤ slice_index c j) × (slice_index result j ≤ slice_index d j) }
 {
     let first = lesser(a, b);
-    let second = lesser(c, d);
-    lesser(first, second)
+    let second = lesser(first, c);
+    lesser(second, d)
 }
 
-// 16 bytes from a position on, each XORed with the sentinel.
+// 64 bytes from a position on, each XORed with the sentinel.
 #[inline(always)]
-fn load_masked(bytes: &[u8], at: usize, sentinel: u8) -> u8x16
-    requires { at + 16 ≤ length bytes.now }
-    ensures { result ≡ masked sentinel (take 16 (drop at bytes.now)) }
+fn load_masked(bytes: &[u8], at: usize, sentinel: u8) -> u8x64
+    requires { at + 64 ≤ length bytes.now }
+    ensures { result ≡ masked sentinel (take 64 (drop at bytes.now)) }
 {
-    u8x16::splat(sentinel) ^ load::<16>(bytes, at)
+    u8x64::splat(sentinel) ^ load::<64>(bytes, at)
 }
 
-// Whether no lane is zero.
+// Whether no lane is zero. The lesser of both halves are tested: a mask of 64 lanes takes more.
 #[inline(always)]
-fn is_positive(lanes: u8x16) -> bool
-    requires { length lanes ≡ 16 }
-    ensures { result ≡ true → (j : ℕ) → j < 16 → 0 < slice_index lanes j }
+fn is_positive(lanes: u8x64) -> bool
+    requires { length lanes ≡ 64 }
+    ensures { result ≡ true → (j : ℕ) → j < 64 → 0 < slice_index lanes j }
 {
-    lanes.simd_eq(u8x16::splat(0)).to_bitmask() == 0
+    let low = lanes.extract::<0, 32>();
+    let high = lanes.extract::<32, 32>();
+    low.simd_min(high).simd_eq(u8x32::splat(0)).to_bitmask() == 0
 }
 
-// Of the first 64 of some bytes, each XORed with the sentinel, the least in each of the 16 places of a vector.
-#[inline(always)]
-fn least_of_64(bytes: &[u8], sentinel: u8) -> u8x16
-    requires { 64 ≤ length bytes.now }
-    ensures long { length result ≡ 16 }
-    ensures lanes { LeastOf64 result 0 (masked sentinel bytes.now) }
-{
-    let a = load_masked(bytes, 0, sentinel);
-    let b = load_masked(bytes, 16, sentinel);
-    let c = load_masked(bytes, 32, sentinel);
-    let d = load_masked(bytes, 48, sentinel);
-    least_of_four(a, b, c, d)
-}
-
-// Whether none of 64 bytes is the sentinel; it says so only if that is seen at once.
+// Whether none of 64 bytes is the sentinel.
 #[inline(always)]
 pub(crate) fn is_clear(bytes: &[u8], sentinel: u8) -> bool
     requires { length bytes.now ≡ 64 }
     ensures { result ≡ true → (k : ℕ) → k < 64 → 0 < slice_index (masked sentinel bytes.now) k }
 {
-    is_positive(least_of_64(bytes, sentinel))
+    is_positive(load_masked(bytes, 0, sentinel))
 }
 
-// Copies the first 64 of some bytes over a buffer, from a position on, each XORed with the sentinel, by the vectors that
-// `least_of_64` loads too: where it comes first they are loaded once.
+// Copies 64 bytes from a position on over a buffer, each XORed with the sentinel, and returns them as they were. So they
+// are loaded once: what is loaded after a write is loaded again.
 #[inline(always)]
-fn copy_four(bytes: &[u8], buffer: &mut [u8], place: usize, sentinel: u8)
-    requires count { 64 ≤ length bytes.now }
+fn copy_64(bytes: &[u8], at: usize, buffer: &mut [u8], place: usize, sentinel: u8) -> u8x64
+    requires count { at + 64 ≤ length bytes.now }
     requires room { place + 64 ≤ length buffer.old }
-    ensures { buffer.new ≡ written_over place (masked sentinel (take 64 bytes.now)) buffer.old }
+    ensures copied { buffer.new
+        ≡ written_over place (masked sentinel (take 64 (drop at bytes.now))) buffer.old }
+    ensures lanes { result ≡ take 64 (drop at bytes.now) }
 {
-    let a = load::<16>(bytes, 0);
-    let b = load::<16>(bytes, 16);
-    let c = load::<16>(bytes, 32);
-    let d = load::<16>(bytes, 48);
-    let out = &mut buffer[place..place + 64];
-    store::<16>(a, out, 0, sentinel);
-    store::<16>(b, out, 16, sentinel);
-    store::<16>(c, out, 32, sentinel);
-    store::<16>(d, out, 48, sentinel);
+    let lanes = load::<64>(bytes, at);
+    store::<64>(lanes, buffer, place, sentinel);
+    lanes
 }
 
-// The same. Returns the least of them, as they were, in each of the 16 places of a vector.
-#[inline(always)]
-fn copy_least(bytes: &[u8], buffer: &mut [u8], place: usize, sentinel: u8) -> u8x16
-    requires count { 64 ≤ length bytes.now }
-    requires room { place + 64 ≤ length buffer.old }
-    ensures copied { buffer.new ≡ written_over place (masked sentinel (take 64 bytes.now)) buffer.old }
-    ensures long { length result ≡ 16 }
-    ensures lanes { LeastOf64 result 0 bytes.now }
-{
-    let least = least_of_64(bytes, 0);
-    copy_four(bytes, buffer, place, sentinel);
-    least
-}
-
-// Copies 64 bytes over a buffer, from a position on, each XORed with the sentinel. Returns whether none of them is zero; it
-// says so only if that is seen at once. They are loaded once: what is loaded after a write is loaded again.
+// Copies 64 bytes over a buffer, from a position on, each XORed with the sentinel. Returns whether none of them is zero.
 #[inline(always)]
 pub(crate) fn copy_clear_64(bytes: &[u8], buffer: &mut [u8], place: usize, sentinel: u8) -> bool
     requires count { length bytes.now ≡ 64 }
@@ -236,11 +217,11 @@ pub(crate) fn copy_clear_64(bytes: &[u8], buffer: &mut [u8], place: usize, senti
     ensures copied { buffer.new ≡ written_over place (masked sentinel bytes.now) buffer.old }
     ensures clear { result ≡ true → (k : ℕ) → k < 64 → 0 < slice_index bytes.now k }
 {
-    is_positive(copy_least(bytes, buffer, place, sentinel))
+    is_positive(copy_64(bytes, 0, buffer, place, sentinel))
 }
 
-// Copies 64 bytes over a buffer, from a position on, each XORed with the sentinel, if none of them is seen to be it: else
-// nothing is written. Returns whether it did.
+// Copies 64 bytes over a buffer, from a position on, each XORed with the sentinel, if none of them is it: else nothing is
+// written. Returns whether it did.
 #[inline(always)]
 pub(crate) fn copy_if_clear(bytes: &[u8], buffer: &mut [u8], place: usize, sentinel: u8) -> bool
     requires count { length bytes.now ≡ 64 }
@@ -254,12 +235,12 @@ pub(crate) fn copy_if_clear(bytes: &[u8], buffer: &mut [u8], place: usize, senti
     if !is_clear(bytes, sentinel) {
         return false;
     }
-    copy_four(bytes, buffer, place, sentinel);
+    copy_64(bytes, 0, buffer, place, sentinel);
     true
 }
 
 // Copies the bytes of a full block over a buffer, from a position on, each XORed with the sentinel. Returns whether none of
-// them is zero; it says so only if that is seen at once.
+// them is zero.
 #[inline(always)]
 pub(crate) fn copy_clear(bytes: &[u8], buffer: &mut [u8], place: usize, sentinel: u8) -> bool
     requires count { length bytes.now ≡ 254 }
@@ -267,35 +248,37 @@ pub(crate) fn copy_clear(bytes: &[u8], buffer: &mut [u8], place: usize, sentinel
     ensures copied { buffer.new ≡ written_over place (masked sentinel bytes.now) buffer.old }
     ensures clear { result ≡ true → (k : ℕ) → k < 254 → 0 < slice_index bytes.now k }
 {
-    let first = copy_least(bytes, buffer, place, sentinel);
-    let second = copy_least(&bytes[64..], buffer, place + 64, sentinel);
-    let third = copy_least(&bytes[128..], buffer, place + 128, sentinel);
-    let fourth = copy_least(&bytes[190..], buffer, place + 190, sentinel);
+    let first = copy_64(bytes, 0, buffer, place, sentinel);
+    let second = copy_64(bytes, 64, buffer, place + 64, sentinel);
+    let third = copy_64(bytes, 128, buffer, place + 128, sentinel);
+    let fourth = copy_64(bytes, 190, buffer, place + 190, sentinel);
     let least = least_of_four(first, second, third, fourth);
     is_positive(least)
 }
 
-// Whether none of 255 bytes, a code and as many as a full block has, is the sentinel; it says so only if that is seen at once.
+// Whether none of 255 bytes, a code and as many as a full block has, is the sentinel.
 #[inline(always)]
 pub(crate) fn is_clear_255(bytes: &[u8], sentinel: u8) -> bool
     requires { length bytes.now ≡ 255 }
     ensures { result ≡ true → (k : ℕ) → k < 255 → 0 < slice_index (masked sentinel bytes.now) k }
 {
-    let first = least_of_64(bytes, sentinel);
-    let second = least_of_64(&bytes[63..], sentinel);
-    let third = least_of_64(&bytes[127..], sentinel);
-    let fourth = least_of_64(&bytes[191..], sentinel);
+    let first = load_masked(bytes, 0, sentinel);
+    let second = load_masked(bytes, 64, sentinel);
+    let third = load_masked(bytes, 128, sentinel);
+    let fourth = load_masked(bytes, 191, sentinel);
     is_positive(least_of_four(first, second, third, fourth))
 }
 
-// Whether 64 bytes are this one: with all of its bits turned they then give 255.
+// Whether 64 bytes are this one.
 #[inline(always)]
 pub(crate) fn are_all(byte: u8, bytes: &[u8]) -> bool
     requires { length bytes.now ≡ 64 }
     ensures { result ≡ true → (k : ℕ) → k < 64 → slice_index bytes.now k ≡ byte }
 {
-    let least = least_of_64(bytes, byte ^ u8::MAX);
-    least.simd_eq(u8x16::splat(u8::MAX)).to_bitmask() == 0xFFFF
+    load::<64>(bytes, 0)
+        .simd_eq(u8x64::splat(byte))
+        .to_bitmask()
+        == u64::MAX
 }
 
 // The bits of the bytes from a position on that are the sentinel.

@@ -29,38 +29,39 @@ pub fn encode_in_place(buffer: &mut [u8], n: usize, sentinel: u8) -> usize
     ensures length { result ≡ length (shortest_frame (take n (drop 1 buffer.old))) }
     ensures frame { take result buffer.new ≡ frame_for sentinel (take n (drop 1 buffer.old)) }
 {
-    mask_message(buffer, n, sentinel);
-    let code_at = put_all_codes(buffer, n, sentinel);
+    let code_at = put_all_codes(buffer, n);
     let end = n + 1;
-    buffer[code_at] = sentinel ^ (end - code_at) as u8;
+    buffer[code_at] = (end - code_at) as u8;
+    mask_frame(buffer, end, sentinel);
     end
 }
 
-// XORs the message with the sentinel.
+// XORs the frame with the sentinel.
 #[inline(always)]
-fn mask_message(buffer: &mut [u8], n: usize, sentinel: u8)
-    requires { n < length buffer.old }
-    ensures { take n (drop 1 (masked sentinel buffer.new)) ≡ take n (drop 1 buffer.old) }
+fn mask_frame(buffer: &mut [u8], end: usize, sentinel: u8)
+    requires { end ≤ length buffer.old }
+    ensures { take end buffer.new ≡ masked sentinel (take end buffer.old) }
 {
     if sentinel != 0 {
-        mask(&mut buffer[1..n + 1], sentinel);
+        mask(&mut buffer[..end], sentinel);
     }
 }
 
 // Writes a code at each zero of the message, and returns the position of the last code.
 #[inline(always)]
-fn put_all_codes(buffer: &mut [u8], n: usize, sentinel: u8) -> usize
+fn put_all_codes(buffer: &mut [u8], n: usize) -> usize
     requires few { n ≤ 254 }
     requires room { n < length buffer.old }
-    ensures { Coding (masked sentinel buffer.new) result (n + 1)
-        (take n (drop 1 (masked sentinel buffer.old))) [] }
+    ensures { Coding buffer.new result (n + 1) (take n (drop 1 buffer.old)) [] }
 {
     let mut code_at: usize = 0;
     let mut done: usize = 0;
-    while done < n {
-        let count = (n - done).min(64);
-        code_at = put_codes_standing(buffer, code_at, done + 1, count, sentinel);
-        done += count;
+    while 64 <= n - done {
+        code_at = put_codes_standing(buffer, code_at, done + 1, 64);
+        done += 64;
     }
-    code_at
+    if done == n {
+        return code_at;
+    }
+    put_codes_standing(buffer, code_at, done + 1, n - done)
 }

@@ -11,15 +11,6 @@ zeros_of_ends-requires-clause-some c = grind (arith, common_steps)
 pub zeros_of_ends-requires-clause-few : goal.zeros_of_ends-requires-clause-few
 zeros_of_ends-requires-clause-few c = grind (arith, common_steps)
 
-pub returns-then-bytes-ge32 : goal.returns-then-bytes-ge32
-returns-then-bytes-ge32 c = grind (arith, common_steps)
-
-pub returns-then-bytes-ge16 : goal.returns-then-bytes-ge16
-returns-then-bytes-ge16 c = grind (arith, common_steps)
-
-pub returns-then-bytes-ge8 : goal.returns-then-bytes-ge8
-returns-then-bytes-ge8 c = grind (arith, common_steps)
-
 pub returns-then-bytes-ge4 : goal.returns-then-bytes-ge4
 returns-then-bytes-ge4 c = grind (arith, common_steps)
 

@@ -1,26 +1,28 @@
 use Rattle.std.proofs.lemmas.Grind.{common_steps}
-use Rattle.std.proofs.Common.{◌≡◌, ◌+◌, ◌-◌, arith}
-use Rattle.cobs.proofs.StandingLemmas.{standing_clear}
+use Rattle.std.proofs.Common.{◌≡◌, ◌+◌, ◌-◌, take, drop, arith}
+use Rattle.cobs.proofs.StandingLemmas.{standing_plain}
 use Rattle.cobs.proofs.codes.put_codes_standing.Goals as goal
 
-pub returns-then-is_clear : goal.returns-then-is_clear
-returns-then-is_clear c =
-    standing_clear c.args.sentinel c.args.dest.now c.args.code_at c.args.from c.args.n
-    c.requires.begins c.requires.within c.if-n-eq64.true (c.is_clear.ensures c.if-is_clear.true)
+pub put_codes_of_zeros-requires-clause-zeros : goal.put_codes_of_zeros-requires-clause-zeros
+put_codes_of_zeros-requires-clause-zeros c =
+    let same : c.args.from + c.args.n - c.args.from ≡ c.args.n = omega arith in
+    λ k l. (rw same at c.marks_of-marks.ensures).zeros k (c.are_all_marked.ensures c.if-are_all_marked.true k l (omega (arith, l, c.requires.few)))
 
 pub put_codes_marked-requires-clause-marks : goal.put_codes_marked-requires-clause-marks
 put_codes_marked-requires-clause-marks c =
     let same : c.args.from + c.args.n - c.args.from ≡ c.args.n = omega arith in
     rw same at c.marks_of-marks.ensures
 
+pub returns-then-are_all_marked : goal.returns-then-are_all_marked
+returns-then-are_all_marked c =
+    standing_plain c.args.dest.now (take c.args.n (drop c.args.from c.args.dest.now)) c.put_codes_of_zeros.new.dest c.args.code_at c.args.from _ c.put_codes_of_zeros.ensures
+
 pub returns : goal.returns
-returns c = c.put_codes_marked.ensures
+returns c =
+    standing_plain c.args.dest.now (take c.args.n (drop c.args.from c.args.dest.now)) c.put_codes_marked.new.dest c.args.code_at c.args.from _ c.put_codes_marked.ensures
 
-pub overflow_add-bytes : goal.overflow_add-bytes
-overflow_add-bytes c = grind (arith, common_steps)
-
-pub is_clear-requires : goal.is_clear-requires
-is_clear-requires c = grind (arith, common_steps)
+pub overflow_add-from : goal.overflow_add-from
+overflow_add-from c = grind (arith, common_steps)
 
 pub marks_of-marks-requires-clause-some : goal.marks_of-marks-requires-clause-some
 marks_of-marks-requires-clause-some c = grind (arith, common_steps)

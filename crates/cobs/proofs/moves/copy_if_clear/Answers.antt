@@ -11,7 +11,7 @@ pub returns-then-not-is_clear-clause-same : goal.returns-then-not-is_clear-claus
 returns-then-not-is_clear-clause-same c = λ _. refl
 
 pub returns-clause-copied : goal.returns-clause-copied
-returns-clause-copied c = λ _. c.copy_four.ensures ∙ ap (λ b. written_over c.args.place (masked c.args.sentinel b) c.args.buffer.now) (take_all 64 c.args.bytes.now (omega (arith, c.requires.count)))
+returns-clause-copied c = λ _. c.copy_64.ensures.copied ∙ ap (λ b. written_over c.args.place (masked c.args.sentinel b) c.args.buffer.now) (take_all 64 c.args.bytes.now (omega (arith, c.requires.count)))
 
 pub returns-clause-clear : goal.returns-clause-clear
 returns-clause-clear c = λ _. c.is_clear.ensures c.if-not-is_clear.false

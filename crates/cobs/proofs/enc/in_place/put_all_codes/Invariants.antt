@@ -1,12 +1,11 @@
 use Rattle.std.proofs.Common.{◌+◌, ◌-◌, ◌≤◌, take, drop}
 use Rattle.cobs.specs.Codes.{Coding}
-use Rattle.cobs.specs.Sentinel.{masked}
 use Rattle.cobs.proofs.enc.in_place.put_all_codes.Given as goal
 
 abbrev pub invariant-loop-done : goal.invariant-loop-done
 invariant-loop-done l = record {
   within : l.done ≤ l.n;
-  coding : Coding (masked l.sentinel l.buffer) l.code_at (l.done + 1) (take l.n (drop 1 (masked l.sentinel l.fn.buffer))) (drop l.done (take l.n (drop 1 (masked l.sentinel l.fn.buffer))));
+  coding : Coding l.buffer l.code_at (l.done + 1) (take l.n (drop 1 l.fn.buffer)) (drop l.done (take l.n (drop 1 l.fn.buffer)));
 }
 
 abbrev pub decreases-loop-done : goal.decreases-loop-done
