@@ -6,7 +6,7 @@ use Rattle.std.proofs.lemmas.Bool.{ne_eqb, lt-ltb, le-ltb}
 use Rattle.std.proofs.lemmas.Bool.Decides.{eqb_tells}
 use Rattle.cobs.specs.Frames.{part, part_from, after}
 use Rattle.cobs.specs.Feeding.{by_code, fed, next, told_by, listed, stands_by, standing, at_byte, answer_of, frame_after, placed, stored}
-use Rattle.cobs.specs.Taking.{TakesByte, left_in, left_behind}
+use Rattle.cobs.specs.Taking.{StoresByte, left_in, left_behind}
 use Rattle.cobs.specs.declared.dec.state.DecoderState.{DecoderState}
 use Rattle.cobs.specs.declared.dec.state.DecoderState.TheVariants.{Idle, Grab, GrabChain}
 use Rattle.cobs.specs.declared.dec.state.DecodeResult.TheVariants.{DataComplete}
@@ -136,7 +136,7 @@ code_told (GrabChain n) left byte e z p = absurd (cc)
 
 -- a byte is taken
 module _ (buffer : List ℕ) (d d' : Progress) (byte : ℕ) (p : 0 < byte) (l : byte < 256) (on : d'.state ≡ next d.state byte) where
-  pub takes_none : told_by (fed d.state byte) ≡ None → d'.len ≡ d.len → TakesByte d buffer byte (Ok None) d' buffer
+  pub takes_none : told_by (fed d.state byte) ≡ None → d'.len ≡ d.len → StoresByte d buffer byte (Ok None) d' buffer
   takes_none e n = record {
     stands = λ q s. let h = (stays buffer d q byte p l s e).0 in record { state = on ∙ h.state; len = n ∙ h.len };
     answer = λ q s. (stays buffer d q byte p l s e).1;
@@ -150,7 +150,7 @@ module _ (buffer : List ℕ) (d d' : Progress) (byte : ℕ) (p : 0 < byte) (l : 
     told_on : (q : List ℕ) → HasStreamed d q → HasStreamed d' (q ++ byte ∷ [])
     told_on q s = let h = counts buffer d q byte p l s x e d'.len n in record { state = on ∙ h.state; len = h.len }
 
-    pub takes_told : d.len < length buffer → length buffer < 2 ^ 64 → TakesByte d buffer byte (Ok None) d' (set buffer d.len x)
+    pub takes_told : d.len < length buffer → length buffer < 2 ^ 64 → StoresByte d buffer byte (Ok None) d' (set buffer d.len x)
     takes_told r w = record {
       stands = told_on;
       answer = λ q s. (goes_on buffer d q byte p l s x e r w).0;
@@ -160,7 +160,7 @@ module _ (buffer : List ℕ) (d d' : Progress) (byte : ℕ) (p : 0 < byte) (l : 
       rest = drop-set-lt (d.len + 1) buffer d.len x (omega arith);
     }
 
-    pub takes_over : length buffer ≤ d.len → TakesByte d buffer byte (Err TargetBufTooSmall) d' buffer
+    pub takes_over : length buffer ≤ d.len → StoresByte d buffer byte (Err TargetBufTooSmall) d' buffer
     takes_over r = record {
       stands = told_on;
       answer = λ q s. (runs_over buffer d q byte p l s x e r).0;

@@ -36,7 +36,7 @@ pub record FeedsByte (before : Progress) (old : List ℕ) (byte : ℕ)
   pub room : length new ≡ length old
 
 -- A byte of a frame is taken (private contracts alone): a byte of the message that doesn't fit is counted and refused.
-pub record TakesByte (before : Progress) (old : List ℕ) (byte : ℕ)
+pub record StoresByte (before : Progress) (old : List ℕ) (byte : ℕ)
     (result : Result (Option ℕ) DecodeError) (behind : Progress) (new : List ℕ) : Type 0 where
   pub stands : (p : List ℕ) → HasStreamed before p → HasStreamed behind (p ++ byte ∷ [])
   pub answer : (p : List ℕ) → HasStreamed before p → result ≡ at_byte (length old) p byte

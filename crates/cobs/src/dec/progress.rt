@@ -26,7 +26,7 @@ pub(crate) struct Progress {
 
 impl Progress {
     ghost use Rattle.cobs.specs.Feeding.{at_zero, at_byte};
-    ghost use Rattle.cobs.specs.Taking.{FeedsByte, TakesByte, TakesPiece, TakesFront, DecodesWhole, Owes, left_in};
+    ghost use Rattle.cobs.specs.Taking.{FeedsByte, StoresByte, TakesPiece, TakesFront, DecodesWhole, Owes, left_in};
 
     pub(crate) fn new() -> Progress
         ensures { HasStreamed result [] }
@@ -60,7 +60,7 @@ impl Progress {
     fn take_plain(&mut self, buffer: &mut [u8], byte: u8) -> Result<Option<usize>, DecodeError>
         requires some { 0 < byte }
         requires open { 0 < left_in self.old.state }
-        ensures { TakesByte self.old buffer.old byte result self.new buffer.new }
+        ensures { StoresByte self.old buffer.old byte result self.new buffer.new }
     {
         let place = self.len;
         self.state = self.state.behind(1);
@@ -82,7 +82,7 @@ impl Progress {
     ) -> Result<Option<usize>, DecodeError>
         requires some { 0 < code }
         requires closed { left_in self.old.state ≡ 0 }
-        ensures { TakesByte self.old buffer.old code result self.new buffer.new }
+        ensures { StoresByte self.old buffer.old code result self.new buffer.new }
     {
         let place = self.len;
         let state = self.state;
