@@ -7,7 +7,7 @@ use Rattle.cobs.specs.Held.{pushed, Laid, GoesOnFromBlock, HoldsFrame, last_run}
 use Rattle.cobs.specs.Codes.{Coding}
 use Rattle.cobs.proofs.EncodingLemmas.{open_zero, open_run}
 use Rattle.cobs.proofs.LengthsLemmas.{least_length}
-use Rattle.cobs.proofs.HoldingLemmas.{Parts, holds_of, front_of, run_length}
+use Rattle.cobs.proofs.HoldingLemmas.{Parts, holds_of, run_length}
 
 -- nonzero bytes go into the open run
 pub coded_front : (bytes : List ℕ) (code_at at : ℕ) (m front rest : List ℕ) → NoZero front → Coding bytes code_at at m (front ++ rest) → Coding bytes code_at (at + length front) m rest

@@ -1,25 +1,18 @@
 -- Decoding over the source: how far it has come.
-use Rattle.std.proofs.Common.{◌≡◌, ◌≢◌, ℕ, zero, suc, ◌+◌, ◌-◌, ◌^◌, ◌<◌, ◌≤◌, ◌==◌, if◌then◌else◌, Bool, false, List, [], ◌∷◌, ◌++◌, length, take, drop, get_or, ◌⊎◌, inl, inr, refl, ap, sym, ◌∙◌, arith, subst, Result, Ok, Err}
+use Rattle.std.proofs.Common.{◌≡◌, ℕ, ◌+◌, ◌-◌, ◌^◌, ◌<◌, ◌≤◌, List, [], ◌∷◌, ◌++◌, length, take, drop, get_or, ◌⊎◌, inl, inr, refl, ap, sym, ◌∙◌, arith, subst}
 use Rattle.std.proofs.lemmas.List.{take_all, take-append-drop, length-take-le, drop_more}
-use Rattle.std.proofs.lemmas.Bool.{eq-eqb, ne_eqb}
+use Rattle.std.proofs.lemmas.Bool.{ne_eqb}
 use Rattle.std.specs.Prelude.{bit_xor}
 use Rattle.std.specs.Int.Bits.{xor_self}
-use Rattle.cobs.specs.Frames.{Frame, part, after, missing}
-use Rattle.cobs.specs.Feeding.{fed, standing}
-use Rattle.cobs.specs.InPlace.{stretch, in_place, overwritten}
-use Rattle.cobs.specs.Reports.{report}
+use Rattle.cobs.specs.Frames.{part}
+use Rattle.cobs.specs.Feeding.{standing}
+use Rattle.cobs.specs.InPlace.{stretch, overwritten}
 use Rattle.cobs.specs.Sentinel.{masked}
-use Rattle.cobs.specs.declared.dec.state.DecoderState.{DecoderState}
 use Rattle.cobs.specs.declared.dec.progress.Progress.{Progress}
 use Rattle.cobs.specs.Streaming.{HasStreamed}
-use Rattle.cobs.specs.declared.dec.state.DecodeResult.{DecodeResult}
-use Rattle.cobs.specs.declared.dec.report.DecodeError.{DecodeError}
-use Rattle.cobs.specs.declared.dec.report.DecodeError.TheVariants.{InvalidFrame}
-use Rattle.cobs.specs.declared.dec.state.DecodeResult.TheVariants.{DataComplete}
-use Rattle.cobs.proofs.DecodingLemmas.{Stretch, part_shorter, stretch_frame, frame_ends}
-use Rattle.cobs.proofs.FeedsLemmas.{fed_zero}
+use Rattle.cobs.proofs.DecodingLemmas.{Stretch, part_shorter}
 use Rattle.cobs.proofs.MaskingLemmas.{masked_length, masked_get}
-use Rattle.cobs.proofs.OverwritingLemmas.{behind, front, rest}
+use Rattle.cobs.proofs.OverwritingLemmas.{behind, rest}
 
 -- The first bytes of a source are of a frame, and were taken in.
 pub record Reads (source : List ℕ) (read : ℕ) (d : Progress) : Type 0 where

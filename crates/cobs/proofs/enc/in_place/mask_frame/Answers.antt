@@ -1,6 +1,5 @@
-use Rattle.std.proofs.Common.{◌≡◌, ◌-◌, length, take, drop, sym, ap, ◌∙◌, arith}
+use Rattle.std.proofs.Common.{◌≡◌, length, take, drop, sym, ap, ◌∙◌}
 use Rattle.std.proofs.lemmas.List.{take_at, length-take-le}
-use Rattle.cobs.specs.Sentinel.{masked}
 use Rattle.cobs.proofs.MaskingLemmas.{masked_length, masked_zero}
 use Rattle.cobs.proofs.enc.in_place.mask_frame.Goals as goal
 

@@ -1,11 +1,11 @@
-use Rattle.std.proofs.Common.{◌≡◌, ◌+◌, ◌<◌, arith, ap, sym, ◌∙◌, get_or, length, Ok, None, List, ℕ}
+use Rattle.std.proofs.Common.{◌≡◌, ◌<◌, arith, ap, sym, ◌∙◌, get_or, length, Ok, None, List, ℕ}
 use Rattle.std.specs.Prelude.{bit_xor}
 use Rattle.cobs.specs.Feeding.{answer_of, frame_after, placed}
 use Rattle.cobs.specs.Sentinel.{masked}
 use Rattle.cobs.specs.Streaming.{HasStreamed}
 use Rattle.cobs.proofs.MaskingLemmas.{masked_length, masked_get}
 use Rattle.cobs.proofs.TakesLemmas.{takes_piece}
-use Rattle.cobs.proofs.TurnsLemmas.{Turn, turn_none, turn_some, turn_refused, turn_on, turn_end}
+use Rattle.cobs.proofs.TurnsLemmas.{turn_none, turn_some, turn_refused, turn_on, turn_end}
 use Rattle.cobs.proofs.dec.progress.Progress.push_few.Goals as goal
 use Rattle.cobs.proofs.dec.progress.Progress.push_few.Goals.{After-feed}
 
