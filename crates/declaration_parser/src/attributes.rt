@@ -1,5 +1,5 @@
 //! Groups, parts and attributes, as slices of tokens.
-use crate::tokens::{Token, Word, first_letter, is_among, is_comment_mark};
+use crate::tokens::{Token, Word, is_among, is_name};
 
 /// Names that mark if they are in a derive, or before a name there; and `self`, which a `use` may have for one.
 const RENAMED: &[&str] = &["Deserialize", "Serialize", "self", "serde", "serde_derive"];
@@ -44,10 +44,7 @@ pub fn plain_name(word: &str) -> &str {
 /// The name that the first is, if it is one.
 pub fn name_at(tokens: &[Token]) -> Option<&str> {
     let word = plain_name(first_word(tokens));
-    match first_letter(word) {
-        Some(first) if first.is_alphabetic() || first == '_' => Some(word),
-        _ => None,
-    }
+    if is_name(word) { Some(word) } else { None }
 }
 
 /// What follows the first alone.
@@ -160,25 +157,14 @@ pub fn held(words: &[Token]) -> &[Token] {
 
 /// Whether these are the same words.
 pub fn same_words(first: &[Token], second: &[Token]) -> bool {
-    if first.len() != second.len() {
-        return false;
-    }
-    for (one, other) in first.iter().zip(second) {
-        if one.text.as_str() != other.text.as_str() {
-            return false;
+    let mut rest = second;
+    for token in first {
+        match rest {
+            [other, behind @ ..] if other.text.as_str() == token.text.as_str() => rest = behind,
+            _ => return false,
         }
     }
-    true
-}
-
-/// Whether one of these is a mark.
-pub fn has_mark(words: &[Token]) -> bool {
-    for token in words {
-        if is_comment_mark(token.text.as_str()) {
-            return true;
-        }
-    }
-    false
+    rest.is_empty()
 }
 
 /// Whether a derive among these words has this name.

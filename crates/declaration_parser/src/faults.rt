@@ -74,6 +74,14 @@ impl<'a> Faults<'a> {
         self.put(": ");
     }
 
+    /// Appends what is said of a word in a line.
+    pub fn refuse(&mut self, line: usize, word: &str, why: &str)
+        ensures { ¬ SaysNothing self.new }
+    {
+        self.put_line_number(line);
+        self.put_all(&["`", word, why]);
+    }
+
     /// Notes whether memory ran out for something.
     pub fn note(&mut self, failed: bool)
         ensures silent { SaysNothing self.new → SaysNothing self.old }

@@ -15,15 +15,6 @@ const UNMARKED: Marks = Marks {
     read: false,
 };
 
-/// What is wrong with a comment that marks.
-#[derive(Clone, Copy, Drop)]
-pub struct Mismark<'a> {
-    pub line: usize,
-    /// The word, and what is said of it.
-    pub word: &'a str,
-    pub why: &'a str,
-}
-
 /// What marks add up to.
 #[derive(Clone, Copy, Drop)]
 pub struct Marking<'a> {
@@ -32,8 +23,9 @@ pub struct Marking<'a> {
     pub condition: &'a [Token],
     /// Whether derives alone mark.
     pub is_derived: bool,
-    /// The first thing that is wrong with comments. Beside a derive that marks a comment may be a headline.
-    pub wrong: Option<Mismark<'a>>,
+    /// The line of the first thing that is wrong with comments, the word there, and what is said of it. Beside a derive that
+    /// marks a comment may be a headline.
+    pub wrong: Option<(usize, &'a str, &'a str)>,
 }
 
 /// Comments and attributes, what they mark, and the tokens after them.
@@ -138,7 +130,7 @@ impl<'a> Marking<'a> {
             _ => NO_MARK,
         };
         if self.wrong.is_none() {
-            self.wrong = Some(Mismark { line, word, why });
+            self.wrong = Some((line, word, why));
         }
     }
 

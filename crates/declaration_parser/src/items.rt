@@ -117,11 +117,6 @@ fn behind_attributes(tokens: &[Token]) -> &[Token] {
     rest
 }
 
-/// Whether a name is the first of these tokens.
-fn is_name(tokens: &[Token]) -> bool {
-    name_at(tokens).is_some()
-}
-
 impl<'a> Walk<'a> {
     /// No files.
     pub fn new(alloc: Global) -> Walk<'a> {
@@ -253,20 +248,21 @@ impl<'a> Walk<'a> {
         words: &'a [Token],
         rest: &'a [Token],
     ) -> &'a [Token] {
+        let is_named = name_at(rest).is_some();
         match front(words) {
-            Word::Module if is_name(rest) => return self.read_module(item, rest),
-            Word::Struct | Word::Enum | Word::Union if is_name(rest) => {
+            Word::Module if is_named => return self.read_module(item, rest),
+            Word::Struct | Word::Enum | Word::Union if is_named => {
                 let body = self.take(item, ItemKind::Type, rest, BODY);
                 self.quiet = behind(body).len();
             }
-            Word::Alias if is_name(rest) => {
+            Word::Alias if is_named => {
                 self.take(item, ItemKind::Alias, rest, &[";"]);
             }
-            Word::Constant if is_name(rest) => self.read_constant(item, rest),
+            Word::Constant if is_named => self.read_constant(item, rest),
             Word::Import if first_word(rest) != "<" => {
                 self.take(item, ItemKind::Import, rest, &[";"]);
             }
-            Word::Function if is_name(rest) => self.read_body(Kind::Body, rest),
+            Word::Function if is_named => self.read_body(Kind::Body, rest),
             Word::Impl => self.read_body(Kind::Impl, rest),
             Word::Extern if first_word(rest) == "crate" => {
                 self.take(item, ItemKind::Crate, behind_first(rest), &[";"]);

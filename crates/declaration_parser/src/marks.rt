@@ -2,19 +2,19 @@
 ghost use Rattle.std.specs.Prelude.{◌≡◌};
 ghost use Rattle.declaration_parser.specs.Marked.{is_marking};
 
-use crate::tokens::is_of_word;
+use crate::tokens::{common, first_letter, is_of_word};
 
 /// What marks a declaration.
 const MESSAGE: &str = "message";
-
-/// The same from its end.
-const BACKWARDS: &[u8] = b"egassem";
 
 /// How many letters a word has in common with `message`, from the start and from the back, that seems meant for it.
 const COMMON: usize = 5;
 
 /// How long such a word is at most, in bytes.
 const LONGEST: usize = 9;
+
+/// What messages are marked for, or were thought to be.
+const MARKED_FOR: &[&str] = &["Serialize", "Deserialize", "MaxSize", "Exact"];
 
 /// Whether a line marks the declaration after it.
 pub fn is_mark(line: &str) -> bool
@@ -45,33 +45,9 @@ fn first_word(text: &str) -> (&str, &str) {
 
 /// Whether a word is `message` but for a letter or two.
 fn is_like_message(word: &str) -> bool {
-    let letters = word.as_bytes();
-    let front = common_front(letters);
-    front > 0 && letters.len() <= LONGEST && front.saturating_add(common_back(letters)) >= COMMON
-}
-
-/// How many letters a word begins with as `message` does.
-fn common_front(letters: &[u8]) -> usize {
-    let mut rest = letters;
-    for (place, wanted) in MESSAGE.as_bytes().iter().enumerate() {
-        match rest {
-            [first, behind @ ..] if first.eq_ignore_ascii_case(wanted) => rest = behind,
-            _ => return place,
-        }
-    }
-    MESSAGE.len()
-}
-
-/// How many letters a word ends with as `message` does.
-fn common_back(letters: &[u8]) -> usize {
-    let mut rest = letters;
-    for (place, wanted) in BACKWARDS.iter().enumerate() {
-        match rest {
-            [before @ .., last] if last.eq_ignore_ascii_case(wanted) => rest = before,
-            _ => return place,
-        }
-    }
-    BACKWARDS.len()
+    matches!(first_letter(word), Some('m' | 'M'))
+        && word.len() <= LONGEST
+        && common(word, MESSAGE) >= COMMON
 }
 
 /// Whether what follows a word like `message` is as after a mark.
@@ -82,20 +58,13 @@ fn is_behind_mark(rest: &str) -> bool {
     }
     let mut has_words = false;
     for word in rest.split_whitespace() {
-        if is_marked_for(word.trim_matches(',')) {
+        let name = word.trim_matches(',');
+        if MARKED_FOR.iter().any(|it| name.eq_ignore_ascii_case(it)) {
             return true;
         }
         has_words = has_words || word.chars().any(is_of_word);
     }
     !has_words
-}
-
-/// Whether a word names what messages are marked for, or were thought to be.
-fn is_marked_for(word: &str) -> bool {
-    word.eq_ignore_ascii_case("Serialize")
-        || word.eq_ignore_ascii_case("Deserialize")
-        || word.eq_ignore_ascii_case("MaxSize")
-        || word.eq_ignore_ascii_case("Exact")
 }
 
 /// The way in which a comment says that the field after it is sent, as `// with = "postcard::fixint::le"` does.

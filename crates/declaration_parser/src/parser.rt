@@ -3,14 +3,15 @@ pub mod by_hand;
 mod said;
 
 pub use crate::attributes::plain_name;
-use crate::attributes::{behind_attribute, first_word, front, group, has_mark, type_up_to, up_to};
+use crate::attributes::{behind_attribute, first_word, front, group, type_up_to, up_to};
 use crate::cursor::Cursor;
 use crate::declaration::{Body, Declaration, Field, Fields, Form, VariantOf};
 use crate::faults::Faults;
 use crate::head::{Head, Marking};
-use crate::tokens::{Read, Token, Word, first_letter, is_among};
+use crate::reading::first_mark;
+use crate::tokens::{Read, Token, Word, is_among, is_listed, is_name};
 use crate::words::{
-    HIDDEN_MARK, MOST_FIELDS, OF_IMPLEMENTATIONS, OF_POSTCARD, ONLY_FIELD, TOO_MANY, is_listed,
+    HIDDEN_MARK, MOST_FIELDS, OF_IMPLEMENTATIONS, OF_POSTCARD, ONLY_FIELD, TOO_MANY,
 };
 use by_hand::ByHand;
 use said::At;
@@ -39,14 +40,6 @@ pub struct Parser<'a> {
     at: Cursor<'a>,
 }
 
-/// Whether a word stands for no type: a lifetime, a number or a mark.
-fn is_no_type(word: &str) -> bool {
-    match first_letter(word) {
-        Some(first) => !(first.is_alphabetic() || first == '_'),
-        None => true,
-    }
-}
-
 impl<'a> Parser<'a> {
     /// A parser of the tokens after what marks a declaration.
     pub fn new(alloc: Global, purpose: Purpose, file: &'a Read, head: &Head<'a>) -> Parser<'a> {
@@ -55,9 +48,9 @@ impl<'a> Parser<'a> {
         if let [.., token] = head.attributes {
             at.line = token.line;
         }
-        if let Some(mark) = head.marking.wrong {
-            at.line = mark.line;
-            at.refuse(mark.word, mark.why);
+        if let Some((line, word, why)) = head.marking.wrong {
+            at.line = line;
+            at.refuse(word, why);
         }
         Parser {
             alloc,
@@ -83,7 +76,7 @@ impl<'a> Parser<'a> {
     /// Takes a name.
     fn word(&mut self) -> &'a str {
         let word = self.at.step();
-        if is_no_type(word) {
+        if !is_name(word) {
             self.at
                 .wrong(&["a name is wanted in place of `", word, "`"]);
         }
@@ -216,17 +209,12 @@ impl<'a> Parser<'a> {
 
     /// Takes fields in braces, in parentheses, or none.
     fn fields(&mut self) -> Fields<'a> {
-        let form = if self.at.take("{") {
-            Form::Named
+        let (form, (items, count)) = if self.at.take("{") {
+            (Form::Named, self.items("}", true))
         } else if self.at.take("(") {
-            Form::Tuple
+            (Form::Tuple, self.items(")", false))
         } else {
-            Form::Unit
-        };
-        let (items, count) = match form {
-            Form::Unit => (Vec::new(self.alloc), 0),
-            Form::Tuple => self.items(")", false),
-            Form::Named => self.items("}", true),
+            (Form::Unit, (Vec::new(self.alloc), 0))
         };
         Fields { form, items, count }
     }
@@ -247,7 +235,7 @@ impl<'a> Parser<'a> {
     /// Takes what precedes the first of these words that nothing encloses, and refuses a mark in it.
     fn skip_to(&mut self, ends: &[&str]) {
         let (skipped, rest) = up_to(self.at.rest, ends);
-        if has_mark(skipped) {
+        if first_mark(skipped).is_some() {
             return self.at.wrong(&[HIDDEN_MARK]);
         }
         self.at.rest = rest;

@@ -4,7 +4,7 @@ ghost use Rattle.declaration_parser.specs.Marked.{NoMark};
 ghost use Rattle.declaration_parser.specs.Silent.{SaysNothing};
 ghost use Rattle.declaration_parser.specs.Standing.{Accounts, AreDeclaredIn, GoneOver, tokens_in};
 
-use crate::attributes::{first_word, front, has_mark, is_derived, line_at, renamed_derive};
+use crate::attributes::{first_word, front, is_derived, line_at, renamed_derive};
 use crate::declaration::Declaration;
 use crate::faults::Faults;
 use crate::head::{Head, head_of};
@@ -33,14 +33,13 @@ fn refuse_almost(head: &Head<'_>, faults: &mut Faults<'_>)
     }
     for token in head.attributes {
         if matches!(token.word, Word::Comment) {
-            faults.put_line_number(token.line);
-            faults.put_all(&["`", token.text.as_str(), ALMOST]);
+            faults.refuse(token.line, token.text.as_str(), ALMOST);
         }
     }
 }
 
 /// The first mark among tokens.
-fn first_mark(tokens: &[Token]) -> Option<&Token>
+pub(crate) fn first_mark(tokens: &[Token]) -> Option<&Token>
     ensures { result ≡ None → NoMark tokens.now }
 {
     for token in tokens {
@@ -57,19 +56,16 @@ fn refuse_mark(tokens: &[Token], why: &str, faults: &mut Faults<'_>)
     ensures no_mark { SaysNothing faults.new → NoMark tokens.now }
 {
     if let Some(token) = first_mark(tokens) {
-        faults.put_line_number(token.line);
-        faults.put_all(&["`", token.text.as_str(), why]);
+        faults.refuse(token.line, token.text.as_str(), why);
     }
 }
 
 /// Whether an item is the call of a macro that holds something marked; of rules only by comments.
 fn is_marked_call(item: &Item<'_>) -> bool {
-    let is_derived = match item.kind {
-        ItemKind::Call | ItemKind::Hidden => is_derived(item.inside, "Serialize")
-            || is_derived(item.inside, "Deserialize"),
-        _ => false,
-    };
-    is_derived || has_mark(item.inside)
+    let may_derive = matches!(item.kind, ItemKind::Call | ItemKind::Hidden);
+    first_mark(item.inside).is_some()
+        || (may_derive && is_derived(item.inside, "Serialize"))
+        || (may_derive && is_derived(item.inside, "Deserialize"))
 }
 
 /// Refuses a call of a macro that holds something marked, and says whether it did.
@@ -80,8 +76,7 @@ fn refuses_call(item: &Item<'_>, faults: &mut Faults<'_>) -> bool
     if !is_marked_call(item) {
         return false;
     }
-    faults.put_line_number(line_at(item.words));
-    faults.put_all(&["`", first_word(item.words), IN_MACRO]);
+    faults.refuse(line_at(item.words), first_word(item.words), IN_MACRO);
     true
 }
 
@@ -119,13 +114,11 @@ fn keep<'a>(
 {
     declaration.attributes = attributes;
     declaration.words = words;
-    match wrong.finished() {
-        Ok(wrong) => declaration.wrong = wrong,
-        Err(_) => faults.note(true),
-    }
-    if found.push(declaration).is_err() {
-        faults.note(true);
-    }
+    let Ok(wrong) = wrong.finished() else {
+        return faults.note(true);
+    };
+    declaration.wrong = wrong;
+    faults.note(found.push(declaration).is_err());
 }
 
 /// Reads what is marked, and returns how many tokens after its attributes it takes. What is wrong is kept with it, and hides
@@ -199,8 +192,7 @@ fn refuse_renamed(tokens: &[Token], faults: &mut Faults<'_>)
     ensures { SaysNothing faults.new → SaysNothing faults.old }
 {
     if let Some(name) = renamed_derive(tokens) {
-        faults.put_line_number(name.line);
-        faults.put_all(&["`", name.text.as_str(), RENAMES]);
+        faults.refuse(name.line, name.text.as_str(), RENAMES);
     }
 }
 
@@ -237,15 +229,6 @@ fn add_declarations<'a>(
     refuse_mark(rest, ALMOST, faults);
 }
 
-/// The types of all files that implement one of serde's traits by hand.
-fn by_hand_in<'a>(alloc: Global, files: &'a [Read]) -> Result<ByHand<'a>, AllocError> {
-    let mut by_hand = ByHand::new(alloc);
-    for file in files {
-        by_hand.add_all(&file.tokens)?;
-    }
-    Ok(by_hand)
-}
-
 /// Says that nothing is marked, if there is nothing else to say.
 fn refuse_nothing<'a>(files: &'a [Read], finds_none: bool, faults: &mut Faults<'a>)
     ensures { SaysNothing faults.new → SaysNothing faults.old }
@@ -271,7 +254,7 @@ pub fn declarations(
     ensures accounted { IfOk result (λ r. string_bytes r.1 ≡ []
         → AreDeclaredIn r.0.items (tokens_in files.now)) }
 {
-    let by_hand = by_hand_in(alloc, files)?;
+    let by_hand = ByHand::of(alloc, files)?;
     let mut found = Vec::new(alloc);
     let mut faults = Faults::new(alloc);
     for file in files {

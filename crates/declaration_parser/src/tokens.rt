@@ -116,7 +116,7 @@ pub struct Read {
 }
 
 /// What is read to its end, over lines.
-#[derive(Clone, Copy, PartialEq, Eq, Drop)]
+#[derive(Clone, Copy, Drop)]
 enum Inside {
     /// A comment between `/*` and `*/`.
     Comment,
@@ -150,7 +150,16 @@ struct Tokens<'a> {
 pub fn tokens_of<'a>(alloc: Global, file: &'a str, text: &'a str) -> Result<Read, AllocError> {
     let name = String::from_str(alloc, file)?;
     let text = text.strip_prefix('\u{feff}').unwrap_or(text);
-    let mut tokens = Tokens::new(alloc, text);
+    let mut tokens = Tokens {
+        alloc,
+        rest: text,
+        line: 1,
+        is_behind_code: false,
+        almost: None,
+        found: Vec::new(alloc),
+        open: Vec::new(alloc),
+        faults: Faults::new(alloc),
+    };
     tokens.faults.turn_to(file);
     for _ in 0..text.len() {
         if tokens.rest.is_empty() {
@@ -204,19 +213,32 @@ pub fn is_among(word: &str, words: &[&str]) -> bool {
     false
 }
 
-/// Whether a word opens what another closes.
-pub fn opens(word: &str) -> bool {
-    matches!(word, "(" | "[" | "{")
-}
-
-/// Whether a word closes.
-pub fn closes(word: &str) -> bool {
-    matches!(word, ")" | "]" | "}")
+/// Whether a word is in a list, which has blanks between them.
+pub fn is_listed(word: &str, list: &str) -> bool {
+    for known in list.split_whitespace() {
+        if known == word {
+            return true;
+        }
+    }
+    false
 }
 
 /// The first letter of a word.
 pub fn first_letter(word: &str) -> Option<char> {
     word.chars().next()
+}
+
+/// Whether a word is a name.
+pub fn is_name(word: &str) -> bool {
+    matches!(first_letter(word), Some(first) if first.is_alphabetic() || first == '_')
+}
+
+/// How many letters two words have in common at their starts, and at their ends, ignoring case.
+pub fn common(word: &str, other: &str) -> usize {
+    let is_same = |(first, second): &(char, char)| first.eq_ignore_ascii_case(second);
+    let front = word.chars().zip(other.chars()).take_while(is_same).count();
+    let pairs = word.chars().rev().zip(other.chars().rev());
+    front.saturating_add(pairs.take_while(is_same).count())
 }
 
 /// How many bytes of a text precede what is left of it.
@@ -252,20 +274,6 @@ fn first_line(text: &str) -> &str {
 }
 
 impl<'a> Tokens<'a> {
-    /// None yet.
-    fn new(alloc: Global, text: &'a str) -> Tokens<'a> {
-        Tokens {
-            alloc,
-            rest: text,
-            line: 1,
-            is_behind_code: false,
-            almost: None,
-            found: Vec::new(alloc),
-            open: Vec::new(alloc),
-            faults: Faults::new(alloc),
-        }
-    }
-
     /// Takes so many bytes.
     fn skip(&mut self, length: usize) {
         self.rest = behind(self.rest, length);
@@ -320,7 +328,7 @@ impl<'a> Tokens<'a> {
     /// Appends a comment that marks what is after it, in a line of its own.
     fn read_mark(&mut self, comment: &str) {
         if self.is_behind_code {
-            self.refuse(self.line, comment, ALMOST);
+            self.faults.refuse(self.line, comment, ALMOST);
         } else {
             self.put(comment, self.line);
         }
@@ -332,26 +340,18 @@ impl<'a> Tokens<'a> {
         let way = way_of(comment);
         if self.is_behind_code {
             if way.is_some() {
-                self.refuse(self.line, comment, ALMOST_WAY);
+                self.faults.refuse(self.line, comment, ALMOST_WAY);
                 self.faults.put("\n");
             }
             return;
         }
-        for word in ["#", "[", "with"] {
-            self.put(word, self.line);
-        }
-        if way.is_some() {
-            self.put("=", self.line);
-        }
         let words = comment.trim_start_matches('/').trim_start();
-        self.put(way.unwrap_or(words), self.line);
-        self.put("]", self.line);
-    }
-
-    /// Notes what is wrong with a comment.
-    fn refuse(&mut self, line: usize, comment: &str, why: &str) {
-        self.faults.put_line_number(line);
-        self.faults.put_all(&["`", comment, why]);
+        let equals = if way.is_some() { "=" } else { "" };
+        for word in ["#", "[", "with", equals, way.unwrap_or(words), "]"] {
+            if !word.is_empty() {
+                self.put(word, self.line);
+            }
+        }
     }
 
     /// Reads a character or a lifetime.
@@ -412,17 +412,18 @@ impl<'a> Tokens<'a> {
     fn read_inside(&mut self, inside: Inside, line: usize) {
         let mut depth: usize = 0;
         let mut is_fresh = false;
-        if inside != Inside::Comment {
+        let is_comment = matches!(inside, Inside::Comment);
+        if !is_comment {
             self.skip(1);
         }
         for _ in 0..self.rest.len() {
             if is_fresh {
-                self.refuse_inside(inside);
+                self.refuse_inside(is_comment);
             }
             let first = first_letter(self.rest);
             is_fresh = matches!(first, Some('\n'))
                 || (is_fresh && matches!(first, Some(' ' | '\t')));
-            if inside == Inside::Comment && self.rest.starts_with("/*") {
+            if is_comment && self.rest.starts_with("/*") {
                 depth = depth.saturating_add(1);
                 self.skip(2);
             } else if let Some(length) = self.ending(inside) {
@@ -432,14 +433,14 @@ impl<'a> Tokens<'a> {
                     return;
                 }
             } else {
-                if inside == Inside::Text && self.rest.starts_with('\\') {
+                if matches!(inside, Inside::Text) && self.rest.starts_with('\\') {
                     self.skip(1);
                 }
                 self.skip_one();
             }
         }
         self.faults.put_line_number(line);
-        self.faults.put(if inside == Inside::Comment {
+        self.faults.put(if is_comment {
             "a comment begins here with `/*` that no `*/` ends\n"
         } else {
             "a text begins here that isn't ended\n"
@@ -460,15 +461,15 @@ impl<'a> Tokens<'a> {
     }
 
     /// Refuses a mark at the start, inside a comment or a text.
-    fn refuse_inside(&mut self, inside: Inside) {
+    fn refuse_inside(&mut self, is_comment: bool) {
         let line = first_line(self.rest).trim_end();
         if is_mark(line) {
-            let why = if inside == Inside::Comment {
+            let why = if is_comment {
                 INSIDE_COMMENT
             } else {
                 INSIDE_TEXT
             };
-            self.refuse(self.line, line, why);
+            self.faults.refuse(self.line, line, why);
         }
     }
 

@@ -1,15 +1,5 @@
 //! The words that the parser knows, and what is said of them.
 
-/// Whether a word is in a list, which has blanks between them.
-pub fn is_listed(word: &str, list: &str) -> bool {
-    for known in list.split_whitespace() {
-        if known == word {
-            return true;
-        }
-    }
-    false
-}
-
 /// How many fields a struct or a variant can have.
 pub const MOST_FIELDS: usize = 36;
 

@@ -2,12 +2,17 @@
 use Rattle.std.specs.Prelude.{◌≡◌, ◌⊎◌, ℕ, List, [], ◌∷◌}
 use Rattle.declarations.specs.Candidates.{candidates}
 use Rattle.declarations.specs.declared.names.Item.{Item}
+use Rattle.declarations.specs.declared.names.Scopes.{Scopes}
 use Rattle.declaration_parser.specs.declared.items.Scope.{Scope}
 use Rattle.declarations.specs.declared.names.What.{What}
 use Rattle.declarations.specs.declared.names.candidates.Space.{Space}
 use Rattle.declarations.specs.declared.names.candidates.Step.{Step}
 use Rattle.declarations.specs.declared.names.rule.Found.{Found}
 use Rattle.declarations.specs.declared.names.rule.Found.TheVariants as found
+
+-- the candidates of a step among the items of files
+abbrev pub candidates_in : Scopes → Step → List ℕ → Space → List Item
+candidates_in files step name space = candidates files.scopes.items step name space files.items.items
 
 -- an item is answered as what it is, where it is, or refused
 abbrev pub IsAnswerOf : Item → Found → Type 0
@@ -53,11 +58,11 @@ pub record IsOnlyCandidate (scopes : List Scope) (items : List Item) (name : Lis
   pub within : item.scope ≡ scope
 
 -- if an item is answered, it is the only candidate of a step
-abbrev pub IsOnlyOfAStep : List Scope → List Item → List ℕ → Space → Found → Type 0
-IsOnlyOfAStep scopes items name space (found.In it scope) =
-    IsOnlyCandidate scopes items name space it scope
-IsOnlyOfAStep scopes items name space (found.Known other) = Unit {0}
-IsOnlyOfAStep scopes items name space (found.Wrong why) = Unit {0}
-IsOnlyOfAStep scopes items name space found.Two = Unit {0}
-IsOnlyOfAStep scopes items name space found.Outside = Unit {0}
-IsOnlyOfAStep scopes items name space found.Not = Unit {0}
+abbrev pub IsOnlyOfAStep : Scopes → List ℕ → Space → Found → Type 0
+IsOnlyOfAStep files name space (found.In it scope) =
+    IsOnlyCandidate files.scopes.items files.items.items name space it scope
+IsOnlyOfAStep files name space (found.Known other) = Unit {0}
+IsOnlyOfAStep files name space (found.Wrong why) = Unit {0}
+IsOnlyOfAStep files name space found.Two = Unit {0}
+IsOnlyOfAStep files name space found.Outside = Unit {0}
+IsOnlyOfAStep files name space found.Not = Unit {0}

@@ -177,7 +177,7 @@ impl<'a, 'b> Builder<'a, 'b> {
         }
         self.begin(index, it);
         self.words.line = it.line;
-        if self.declared.is_twice(index) {
+        if self.declared.twice.get(index).copied().unwrap_or(false) {
             self.wrong(&[TWICE]);
             return;
         }

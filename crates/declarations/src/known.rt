@@ -2,20 +2,11 @@
 ghost use Rattle.std.specs.Prelude.{IfSome};
 ghost use Rattle.declarations.specs.TypeWords.{IsWordOf};
 
-use declaration_parser::tokens::is_among;
+use declaration_parser::tokens::{is_among, is_listed};
 use schema_table::{IntegerType, Node};
 
 /// Crates whose types are known here by their names.
-pub const KNOWN_CRATES: &[&str] = &[
-    "alloc",
-    "arrayvec",
-    "core",
-    "hashbrown",
-    "heapless",
-    "postcard",
-    "serde_bytes",
-    "std",
-];
+pub const KNOWN_CRATES: &str = "alloc arrayvec core hashbrown heapless postcard serde_bytes std";
 
 /// Names that every file has, unless it declares them or a `use` brings others in.
 const EVERYWHERE: &[&str] = &["Box", "Option", "Result", "String", "Vec"];
@@ -111,11 +102,6 @@ const SENT_AS: &[(&str, &str)] = &[
     ("SocketAddrV6", "([u8; 16], u16)"),
 ];
 
-/// Whether a text with blanks between names has this name.
-fn has_name(names: &str, word: &str) -> bool {
-    names.split(' ').any(|name| name == word)
-}
-
 /// The node of a type that holds no other, by its word.
 pub fn plain_node(word: &str) -> Option<Node>
     ensures { IfSome result (λ node. IsWordOf node word.now) }
@@ -146,7 +132,7 @@ pub fn plain_node(word: &str) -> Option<Node>
 /// The form of the known type of this name, if it holds others or a length.
 pub fn form_of(word: &str) -> Option<KnownForm> {
     for (names, form) in ROWS {
-        if has_name(names, word) {
+        if is_listed(word, names) {
             return Some(*form);
         }
     }
@@ -171,7 +157,7 @@ pub fn is_known(word: &str) -> bool {
 /// As what a type is sent that isn't read, if that is known.
 pub fn sent_as(word: &str) -> Option<&'static str> {
     for (names, sent) in SENT_AS {
-        if has_name(names, word) {
+        if is_listed(word, names) {
             return Some(*sent);
         }
     }

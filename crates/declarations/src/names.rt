@@ -10,7 +10,7 @@ use crate::known::KNOWN_CRATES;
 pub use candidates::Space;
 use declaration_parser::declaration::Declaration;
 use declaration_parser::items::{Kind, Scope, Walk};
-use declaration_parser::tokens::{Read, Token, is_among};
+use declaration_parser::tokens::{Read, Token, is_listed};
 pub use rule::{Found, Path};
 use std::alloc::{AllocError, Global};
 use std::collections::BTreeMap;
@@ -59,9 +59,9 @@ struct Import<'a> {
 
 /// Where a declaration is, and how many declarations are where it was found.
 #[derive(Clone, Copy, Drop)]
-struct Stand {
-    scope: usize,
-    count: usize,
+pub struct Stand {
+    pub scope: usize,
+    pub count: usize,
 }
 
 /// The names of files. If memory runs out for one, [`failed`](Scopes::failed) says so.
@@ -78,9 +78,9 @@ pub struct Scopes<'a> {
     /// Macros that declare a type by the name that is handed to them first.
     makers: Vec<&'a str>,
     /// Names that are handed to macros.
-    handed: Vec<&'a str>,
+    pub handed: Vec<&'a str>,
     /// The words in tables of endpoints and topics.
-    endpoints: Vec<&'a str>,
+    pub endpoints: Vec<&'a str>,
     pub failed: bool,
 }
 
@@ -156,27 +156,17 @@ impl<'a> Scopes<'a> {
         Ok(names)
     }
 
-    /// What a scope is.
-    fn kind_of(&self, scope: usize) -> Kind {
-        match self.scopes.get(scope) {
-            Some(it) => it.kind,
-            None => Kind::File,
-        }
-    }
-
-    /// The scope round one; of a file's its own.
-    fn outer_of(&self, scope: usize) -> usize {
-        match self.scopes.get(scope) {
-            Some(it) => it.outer,
-            None => scope,
-        }
-    }
-
-    /// The file of a scope, by its place.
-    fn file_at(&self, scope: usize) -> usize {
-        match self.scopes.get(scope) {
-            Some(it) => it.file,
-            None => 0,
+    /// The scope at a place; a file without a name if there is none.
+    fn scope(&self, place: usize) -> Scope<'a> {
+        match self.scopes.get(place) {
+            Some(it) => *it,
+            None => Scope {
+                kind: Kind::File,
+                name: "",
+                file: 0,
+                outer: place,
+                end: 0,
+            },
         }
     }
 
@@ -190,15 +180,7 @@ impl<'a> Scopes<'a> {
 
     /// The name of the file of a scope.
     pub fn file_of(&self, scope: usize) -> &'a str {
-        self.name_of_file(self.file_at(scope))
-    }
-
-    /// The name of a scope.
-    pub fn module_name(&self, scope: usize) -> &'a str {
-        match self.scopes.get(scope) {
-            Some(it) => it.name,
-            None => "",
-        }
+        self.name_of_file(self.scope(scope).file)
     }
 
     /// Whether the item at a place is what a declaration says.
@@ -227,19 +209,11 @@ impl<'a> Scopes<'a> {
         self.failed = self.stands.push(stand).is_err() || self.failed;
     }
 
-    /// Whether a marked declaration is one alone where it was found.
-    pub fn is_single(&self, index: usize) -> bool {
+    /// Where a marked declaration is.
+    pub fn stand(&self, index: usize) -> Stand {
         match self.stands.get(index) {
-            Some(stand) => stand.count == 1,
-            None => false,
-        }
-    }
-
-    /// The scope of a marked declaration.
-    pub fn scope_of(&self, index: usize) -> usize {
-        match self.stands.get(index) {
-            Some(stand) => stand.scope,
-            None => 0,
+            Some(stand) => *stand,
+            None => Stand { scope: 0, count: 0 },
         }
     }
 
@@ -261,19 +235,9 @@ impl<'a> Scopes<'a> {
     pub fn has(&self, name: &str) -> bool {
         self.named.contains_key(name)
     }
-
-    /// Whether a name is in a table of endpoints or topics.
-    pub fn is_endpoint(&self, name: &str) -> bool {
-        is_among(name, &self.endpoints)
-    }
-
-    /// Whether a macro is handed a name.
-    pub fn is_handed(&self, name: &str) -> bool {
-        is_among(name, &self.handed)
-    }
 }
 
 /// Whether a crate's types are known by their names.
 fn is_known_crate(name: &str) -> bool {
-    is_among(name, KNOWN_CRATES)
+    is_listed(name, KNOWN_CRATES)
 }

@@ -1,14 +1,7 @@
 //! Which declared name is nearest to one that isn't declared, and all that there are.
 use declaration_parser::declaration::Declaration;
 use declaration_parser::faults::Faults;
-
-/// How many letters two words have in common at their starts, and at their ends, ignoring case.
-fn common(word: &str, other: &str) -> usize {
-    let is_same = |(first, second): &(char, char)| first.eq_ignore_ascii_case(second);
-    let front = word.chars().zip(other.chars()).take_while(is_same).count();
-    let pairs = word.chars().rev().zip(other.chars().rev());
-    front.saturating_add(pairs.take_while(is_same).count())
-}
+use declaration_parser::tokens::common;
 
 /// Appends which declared name is most like a word, if half of it is, and all that there are.
 pub fn put_nearest<'a>(faults: &mut Faults<'a>, declared: &[Declaration<'a>], word: &str) {

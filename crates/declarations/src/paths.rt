@@ -1,7 +1,7 @@
 //! Paths among the words of types and lengths.
 use crate::names::Path;
 use declaration_parser::parser::plain_name;
-use declaration_parser::tokens::{Token, first_letter};
+use declaration_parser::tokens::{Token, is_name};
 
 /// A path: the names before the last, the last, and the words after it.
 #[derive(Clone, Copy, Drop)]
@@ -10,14 +10,6 @@ pub struct PathAt<'a> {
     /// Empty if there is none.
     pub last: &'a str,
     pub rest: &'a [Token],
-}
-
-/// Whether a word is a name.
-fn is_name(word: &str) -> bool {
-    match first_letter(word) {
-        Some(first) => first.is_alphabetic() || first == '_',
-        None => false,
-    }
 }
 
 /// The path at the start of words.

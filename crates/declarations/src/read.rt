@@ -66,7 +66,7 @@ pub struct Declared<'a> {
     /// The scope of words that are in no file, but asked for.
     pub asked: usize,
     /// Of each whether another of its name precedes it in its module.
-    twice: Vec<bool>,
+    pub twice: Vec<bool>,
     /// What is wrong with the files, a line each.
     faults: String,
 }
@@ -79,7 +79,7 @@ impl<'a> Declared<'a> {
         let mut met = BTreeMap::new(alloc);
         let mut twice = Vec::new(alloc);
         for (index, it) in all.iter().enumerate() {
-            match met.insert((names.scope_of(index), it.name), ()) {
+            match met.insert((names.stand(index).scope, it.name), ()) {
                 Ok(before) => twice.push(before.is_some())?,
                 Err(_) => return Err(AllocError),
             }
@@ -92,11 +92,6 @@ impl<'a> Declared<'a> {
             twice,
             faults,
         })
-    }
-
-    /// Whether another declaration of the same module has this one's name, and precedes it.
-    pub fn is_twice(&self, index: usize) -> bool {
-        self.twice.get(index).copied().unwrap_or(false)
     }
 }
 

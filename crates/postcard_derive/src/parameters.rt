@@ -1,42 +1,22 @@
 //! The words of types and bounds, and the parameters of a declaration, as the module below has them.
 use crate::scope::{is_wordy, words_of};
 use crate::text::Text;
-use declaration_parser::attributes::first_word;
+use declaration_parser::attributes::{behind_first, first_word, type_up_to};
 use declaration_parser::declaration::Declaration;
-use declaration_parser::tokens::{Token, closes, is_among, is_lifetime, opens};
-
-/// What precedes the first of these marks that nothing encloses, and what begins with it.
-fn up_to<'a>(tokens: &'a [Token], marks: &[&str]) -> (&'a [Token], &'a [Token]) {
-    let mut depth: usize = 0;
-    let mut before = "";
-    for (place, token) in tokens.iter().enumerate() {
-        let word = token.text.as_str();
-        let is_arrow = word == ">" && before == "-";
-        if depth == 0 && !is_arrow && is_among(word, marks) {
-            return tokens.split_at(place.min(tokens.len()));
-        }
-        if word == "<" || opens(word) {
-            depth = depth.saturating_add(1);
-        } else if closes(word) || (word == ">" && !is_arrow) {
-            depth = depth.saturating_sub(1);
-        }
-        before = word;
-    }
-    (tokens, &[])
-}
+use declaration_parser::tokens::{Token, is_lifetime};
 
 /// What is between the marks round the parameters of a declaration, and its bounds after `where`.
 pub fn bounding<'a>(it: &Declaration<'a>) -> [&'a [Token]; 2] {
-    let (_, declared) = up_to(it.words, &["struct", "enum"]);
+    let (_, declared) = type_up_to(it.words, &["struct", "enum"]);
     let (parameters, behind) = match declared {
-        [_, _, open, rest @ ..] if open.text.as_str() == "<" => up_to(rest, &[">"]),
+        [_, _, open, rest @ ..] if open.text.as_str() == "<" => type_up_to(rest, &[">"]),
         _ => declared.split_at(0),
     };
-    let (_, bounds) = up_to(behind, &["where", "{", ";"]);
+    let (_, bounds) = type_up_to(behind, &["where", "{", ";"]);
     if first_word(bounds) != "where" {
         return [parameters, &[]];
     }
-    let (bounds, _) = up_to(bounds.get(1..).unwrap_or(&[]), &["{", ";"]);
+    let (bounds, _) = type_up_to(behind_first(bounds), &["{", ";"]);
     [parameters, bounds]
 }
 
@@ -48,16 +28,21 @@ impl Text {
         };
         let mut before = "";
         for word in &words {
-            let is_parted = is_wordy(before) && is_wordy(word.text);
-            self.put(if is_parted && !word.is_led { " " } else { "" });
-            self.put(if word.is_led { "::" } else { "" });
-            self.put(match word.text {
+            let parted = if word.is_led {
+                "::"
+            } else if is_wordy(before) && is_wordy(word.text) {
+                " "
+            } else {
+                ""
+            };
+            let text = match word.text {
                 text if word.is_led || !word.leads => text,
                 "self" => "super",
                 "super" => "super::super",
                 "alloc" | "core" => "std",
                 text => text,
-            });
+            };
+            self.put_all(&[parted, text]);
             before = word.text;
         }
     }
@@ -65,21 +50,21 @@ impl Text {
     /// Appends a parameter without its default: without bounds for an alias, else with them and, if it is a type, with this
     /// one too, unless that is empty.
     fn put_parameter(&mut self, parameter: &[Token], bound: Option<&str>) {
-        let (parameter, _) = up_to(parameter, &["="]);
+        let (parameter, _) = type_up_to(parameter, &["="]);
         let name = first_word(parameter);
         let Some(bound) = bound else {
-            let (alone, _) = up_to(parameter, &[":"]);
+            let (alone, _) = type_up_to(parameter, &[":"]);
             return self.put_words(if name == "const" { parameter } else { alone });
         };
         self.put_words(parameter);
         let is_had = parameter.iter().any(|token| token.text.as_str() == bound);
         if !bound.is_empty() && !is_had && name != "const" && !is_lifetime(name) {
-            self.put(match parameter {
+            let joined = match parameter {
                 [_] => ": ",
                 [_, _] => " ",
                 _ => " + ",
-            });
-            self.put(bound);
+            };
+            self.put_all(&[joined, bound]);
         }
     }
 
@@ -88,13 +73,13 @@ impl Text {
         let [mut rest, _] = bounding(it);
         let mut before = "<";
         for _ in 0..rest.len() {
-            let (parameter, behind) = up_to(rest, &[","]);
+            let (parameter, behind) = type_up_to(rest, &[","]);
             if !parameter.is_empty() {
                 self.put(before);
                 self.put_parameter(parameter, bound);
                 before = ", ";
             }
-            rest = behind.get(1..).unwrap_or(&[]);
+            rest = behind_first(behind);
         }
         self.put(if before == "<" { "" } else { ">" });
     }

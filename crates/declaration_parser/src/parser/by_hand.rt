@@ -1,7 +1,7 @@
 //! Types of which one side is derived, and the other written by hand.
 use super::Parser;
 use crate::attributes::{behind_first, first_word, front, type_up_to, up_to};
-use crate::tokens::{Token, Word};
+use crate::tokens::{Read, Token, Word};
 use crate::words::BY_HAND;
 use std::alloc::{AllocError, Global};
 use std::collections::BTreeMap;
@@ -13,60 +13,54 @@ pub struct ByHand<'a> {
     read: BTreeMap<&'a str, ()>,
 }
 
-/// Whether a trait of this name is before the `for` of an `impl`.
-fn is_of(words: &[Token], name: &str) -> bool {
-    let (_, rest) = type_up_to(words, &[name, "for"]);
-    first_word(rest) == name
-}
-
-/// Adds a name.
-fn add<'a>(names: &mut BTreeMap<&'a str, ()>, name: &'a str) -> Result<(), AllocError> {
-    match names.insert(name, ()) {
-        Ok(_) => Ok(()),
-        Err(_) => Err(AllocError),
+/// Adds the type after the `for` of an `impl` of this trait, with all names of the path that leads to it.
+fn add_impl<'a>(
+    names: &mut BTreeMap<&'a str, ()>,
+    words: &'a [Token],
+    of: &str,
+) -> Result<(), AllocError> {
+    let (_, rest) = type_up_to(words, &[of, "for"]);
+    if first_word(rest) != of {
+        return Ok(());
     }
+    let (_, rest) = type_up_to(rest, &["for"]);
+    let mut is_next = true;
+    for token in behind_first(rest) {
+        let is_name = !matches!(token.word, Word::Colon);
+        if is_name && !is_next {
+            break;
+        }
+        if is_name && names.insert(token.text.as_str(), ()).is_err() {
+            return Err(AllocError);
+        }
+        is_next = !is_name;
+    }
+    Ok(())
 }
 
 impl<'a> ByHand<'a> {
-    /// No types.
-    pub fn new(alloc: Global) -> ByHand<'a> {
-        ByHand {
+    /// Those of these files.
+    pub fn of(alloc: Global, files: &'a [Read]) -> Result<ByHand<'a>, AllocError> {
+        let mut by_hand = ByHand {
             written: BTreeMap::new(alloc),
             read: BTreeMap::new(alloc),
+        };
+        for file in files {
+            by_hand.add_all(&file.tokens)?;
         }
+        Ok(by_hand)
     }
 
-    /// Adds those among these tokens. An error is left if memory runs out, and some of them are missing then.
-    pub fn add_all(&mut self, tokens: &'a [Token]) -> Result<(), AllocError> {
+    /// Adds those among these tokens.
+    fn add_all(&mut self, tokens: &'a [Token]) -> Result<(), AllocError> {
         let mut rest = tokens;
         for _ in 0..tokens.len() {
             if matches!(front(rest), Word::Impl) {
                 let (words, _) = up_to(behind_first(rest), &["{", ";"]);
-                self.add_impl(words)?;
+                add_impl(&mut self.written, words, "Serialize")?;
+                add_impl(&mut self.read, words, "Deserialize")?;
             }
             rest = behind_first(rest);
-        }
-        Ok(())
-    }
-
-    /// Adds the type after `for`, with all names of the path that leads to it.
-    fn add_impl(&mut self, words: &'a [Token]) -> Result<(), AllocError> {
-        let writes = is_of(words, "Serialize");
-        let reads = is_of(words, "Deserialize");
-        let (_, of) = type_up_to(words, &["for"]);
-        let mut is_next = true;
-        for token in behind_first(of) {
-            let is_name = !matches!(token.word, Word::Colon);
-            if is_name && !is_next {
-                break;
-            }
-            if is_name && writes {
-                add(&mut self.written, token.text.as_str())?;
-            }
-            if is_name && reads {
-                add(&mut self.read, token.text.as_str())?;
-            }
-            is_next = !is_name;
         }
         Ok(())
     }

@@ -1,18 +1,18 @@
 //! What attributes say of the bytes.
 use super::Parser;
 use crate::attributes::{
-    attribute, behind_first, first_part, first_word, has_mark, held, is_derived, last_word,
-    same_words,
+    attribute, behind_first, first_part, first_word, held, is_derived, last_word, same_words,
 };
 use crate::declaration::Layout;
-use crate::tokens::{Token, is_among};
+use crate::reading::first_mark;
+use crate::tokens::{Token, is_among, is_listed};
 use crate::words::{
     ALMOST_WAY, HIDDEN_MARK, LEFT_OUT, NO_BYTES, OF_ITEMS, OF_SERDE, ON_SOME_DEVICES, ONE_SIDE,
-    OTHER_CONDITION, REPR, UNKNOWN, WAY_OF_SERDE, is_listed,
+    OTHER_CONDITION, REPR, UNKNOWN, WAY_OF_SERDE,
 };
 
 /// The position of an attribute.
-#[derive(Clone, Copy, PartialEq, Eq, Drop)]
+#[derive(Clone, Copy, Drop)]
 pub(super) enum At {
     Item,
     Variant,
@@ -37,14 +37,6 @@ fn layout_of(way: &str) -> Option<Layout> {
             Layout::Array,
         ),
         _ => None,
-    }
-}
-
-/// These without an attribute at their start, which in an attribute is what a comment was.
-fn without_comment(words: &[Token]) -> &[Token] {
-    match attribute(words) {
-        Some((_, behind)) => behind,
-        None => words,
     }
 }
 
@@ -76,7 +68,7 @@ impl<'a> Parser<'a> {
         if let [word, ..] = words {
             self.at.line = word.line;
         }
-        if has_mark(words) {
+        if first_mark(words).is_some() {
             self.at.wrong(&[HIDDEN_MARK]);
         }
         if first_word(words) != "cfg_attr" {
@@ -104,13 +96,14 @@ impl<'a> Parser<'a> {
         said: &mut Said,
     ) {
         let name = first_word(words);
-        let is_free = at != At::Item || is_listed(name, OF_ITEMS) || is_derived(all, name);
+        let is_item = matches!(at, At::Item);
+        let is_free = !is_item || is_listed(name, OF_ITEMS) || is_derived(all, name);
         match name {
             "serde" => self.read_serde(held(words), at, is_other, said),
             "serde_as" | "serde_with" if last_word(words) == "serde_as" => {}
             "with" => self.read_way(words, at, said),
             _ if name.starts_with("serde") || !is_free => self.at.refuse(name, UNKNOWN),
-            "cfg" | "cfg_attr" if at != At::Item => self.at.refuse(name, ON_SOME_DEVICES),
+            "cfg" | "cfg_attr" if !is_item => self.at.refuse(name, ON_SOME_DEVICES),
             "derive" => self.read_derive(held(words)),
             _ => {}
         }
@@ -149,7 +142,11 @@ impl<'a> Parser<'a> {
         let mut rest = words;
         for _ in 0..words.len() {
             let (part, behind) = first_part(rest);
-            let part = without_comment(part);
+            // An attribute in an attribute is what a comment was.
+            let part = match attribute(part) {
+                Some((_, words)) => words,
+                None => part,
+            };
             let name = first_word(part);
             if !name.is_empty() && !is_listed(name, NO_BYTES) {
                 self.read_changing(name, part, at, said);
@@ -167,7 +164,7 @@ impl<'a> Parser<'a> {
             [_, equals, value] if equals.text.as_str() == "=" => value.text.as_str(),
             _ => "",
         };
-        let is_field = at == At::Field;
+        let is_field = matches!(at, At::Field);
         match (name, value) {
             ("with", way) if is_field && layout_of(way).is_some() => {
                 said.layout = layout_of(way).unwrap_or(Layout::Own);

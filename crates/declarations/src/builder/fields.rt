@@ -30,7 +30,7 @@ fn roots_of(layout: Layout) -> &'static [&'static str] {
 impl<'a> Builder<'a, '_> {
     /// Turns to a declaration.
     pub(super) fn begin(&mut self, index: usize, it: &Declaration<'a>) {
-        self.turn_to(self.names.scope_of(index));
+        self.turn_to(self.names.stand(index).scope);
         self.index = index;
         self.words.name = it.name;
         self.words.variant = "";

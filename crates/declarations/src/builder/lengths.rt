@@ -141,7 +141,7 @@ impl<'a> Builder<'a, '_> {
         {
             return Some(Number { value, most });
         }
-        let of = at.path.last();
+        let of = at.path.before;
         if !at.path.is_empty() && is_primitive(of) && !self.names.has_module(of) {
             return self.of_language(&at);
         }
@@ -177,8 +177,8 @@ impl<'a> Builder<'a, '_> {
 
     /// What a type of the language has under a name, if that is the same on all devices.
     fn of_language(&self, at: &PathAt<'a>) -> Option<Number> {
-        let of = at.path.last();
-        let is_plain = at.path.is_single() || at.path.is_of_language();
+        let of = at.path.before;
+        let is_plain = at.path.count == 1 || matches!(at.path.root, "core" | "std");
         if !is_plain || self.given(of).is_some() {
             return None;
         }

@@ -135,7 +135,7 @@ impl<'a> Builder<'a, '_> {
     /// The place of the type whose field is read.
     fn itself(&mut self) -> usize {
         match self.places.get(&self.index).copied() {
-            Some(place) if self.names.scope_of(self.index) == self.here => place,
+            Some(place) if self.names.stand(self.index).scope == self.here => place,
             _ => self.wrong(&[ITSELF]),
         }
     }
@@ -157,7 +157,7 @@ impl<'a> Builder<'a, '_> {
     fn refuse_path(&mut self, at: &PathAt<'a>) -> usize {
         self.wrong(&[
             "`",
-            at.path.root(),
+            at.path.root,
             "::..`: write `",
             at.last,
             "` alone, and its declaration into this file, or the type that is on the wire",
@@ -173,8 +173,8 @@ impl<'a> Builder<'a, '_> {
     fn unknown(&mut self, word: &str) -> usize {
         match sent_as(word) {
             Some(sent) => self.refuse_sent(word, sent),
-            None if self.names.is_endpoint(word) => self.refuse(word, ENDPOINT),
-            None if self.names.is_handed(word) => self.refuse(word, HANDED),
+            None if is_among(word, &self.names.endpoints) => self.refuse(word, ENDPOINT),
+            None if is_among(word, &self.names.handed) => self.refuse(word, HANDED),
             None => {
                 self.refuse(word, UNDECLARED);
                 if self.is_asked() {

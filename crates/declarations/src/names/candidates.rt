@@ -107,7 +107,8 @@ fn first_of<'b, 'a>(
     name: &str,
     space: Space,
 ) -> Option<(&'b Item<'a>, &'b [Item<'a>])>
-    ensures first { IfSome result (λ found. candidates scopes.now step.entry name.now space items.now
+    ensures first { IfSome result (λ found.
+        candidates scopes.now step.entry name.now space items.now
         ≡ found.0.now ∷ candidates scopes.now step.entry name.now space found.1.now) }
     ensures none { IfNone result
         (candidates scopes.now step.entry name.now space items.now ≡ []) }

@@ -1,5 +1,6 @@
 //! Where paths lead: to modules of these files, to what is known, or out of them.
-ghost use Rattle.declarations.specs.Candidates.{candidates, TellsOnly};
+ghost use Rattle.declarations.specs.Candidates.{TellsOnly};
+ghost use Rattle.declarations.specs.NameRule.{candidates_in};
 
 use super::candidates::{Only, Space, Step, is_called, is_within, only_of};
 use super::path::Path;
@@ -20,16 +21,22 @@ pub(super) enum Lead<'a> {
     Wrong(&'static str),
 }
 
-/// Whether a name is that of a module by where it is used.
-fn is_relative(root: &str) -> bool {
-    matches!(root, "crate" | "self" | "super")
+/// The modules of a name in a module.
+#[derive(Clone, Copy, Drop)]
+pub(super) struct Children {
+    /// Whether there are some.
+    pub(super) are_some: bool,
+    /// How many are written there, and the last of these.
+    written: usize,
+    last: usize,
+    /// How many stand under a condition.
+    conditions: usize,
 }
 
 impl<'a> Scopes<'a> {
     /// The candidates of a step.
     pub(super) fn only(&self, step: Step<'a>, name: &str, space: Space) -> Only<'_, 'a>
-        ensures only { TellsOnly result
-            (candidates self.now.scopes.items step.entry name.now space self.now.items.items) }
+        ensures only { TellsOnly result (candidates_in self.now step.entry name.now space) }
     {
         only_of(&self.items, &self.scopes, step, name, space)
     }
@@ -41,7 +48,7 @@ impl<'a> Scopes<'a> {
 
     /// Whether a scope is in a module, as a body is.
     pub(super) fn is_inner(&self, scope: usize) -> bool {
-        matches!(self.kind_of(scope), Kind::Body | Kind::Impl)
+        matches!(self.scope(scope).kind, Kind::Body | Kind::Impl)
     }
 
     /// The module round a body; of others the scope itself.
@@ -51,52 +58,42 @@ impl<'a> Scopes<'a> {
             if !self.is_inner(at) {
                 break;
             }
-            at = self.outer_of(at);
+            at = self.scope(at).outer;
         }
         at
     }
 
-    /// Whether a module has one of this name in it.
-    pub(super) fn has_child(&self, module: usize, name: &str) -> bool {
+    /// The modules of this name that a module has in it.
+    pub(super) fn children(&self, module: usize, name: &str) -> Children {
+        let mut found = Children {
+            are_some: false,
+            written: 0,
+            last: 0,
+            conditions: 0,
+        };
         for (place, it) in self.scopes.iter().enumerate() {
-            let is_module = matches!(it.kind, Kind::Module | Kind::Outline | Kind::Misnamed);
-            if is_module && it.outer == module && place != module && it.name == name {
-                return true;
+            if it.outer != module || it.name != name {
+                continue;
             }
-        }
-        false
-    }
-
-    /// The only module of this name that is written in another.
-    fn child_of(&self, module: usize, name: &str) -> Option<usize> {
-        let mut found = None;
-        for (place, it) in self.scopes.iter().enumerate() {
-            if it.kind == Kind::Module && it.outer == module && it.name == name {
-                if found.is_some() {
-                    return None;
+            match it.kind {
+                Kind::Module => {
+                    found.are_some = true;
+                    found.written = found.written.saturating_add(1);
+                    found.last = place;
                 }
-                found = Some(place);
+                Kind::Outline | Kind::Misnamed => found.are_some = true,
+                Kind::Conditional => found.conditions = found.conditions.saturating_add(1),
+                _ => {}
             }
         }
         found
     }
 
-    /// How many modules of this name a module has in it under a condition.
-    fn conditions_of(&self, module: usize, name: &str) -> usize {
-        let mut count: usize = 0;
-        for it in &self.scopes {
-            if it.kind == Kind::Conditional && it.outer == module && it.name == name {
-                count = count.saturating_add(1);
-            }
-        }
-        count
-    }
-
     /// Whether a module of a step has one of this name in it, under each condition.
     fn is_child_in(&self, step: Step<'a>, name: &str) -> bool {
         for place in 0..self.scopes.len() {
-            let is_it = self.is_in(place, step) && self.has_child(place, name);
-            if is_it && self.conditions_of(place, name) == 0 {
+            let found = self.children(place, name);
+            if found.are_some && found.conditions == 0 && self.is_in(place, step) {
                 return true;
             }
         }
@@ -150,12 +147,9 @@ impl<'a> Scopes<'a> {
 
     /// Whether the first name of a path is that of a module, or of what the module declares.
     fn is_rooted(&self, module: usize, root: &str) -> bool {
-        is_relative(root)
-            || self.has_child(module, root)
-            || !matches!(
-                self.only(Step::Scope(module), root, Space::Types),
-                Only::Nothing
-            )
+        matches!(root, "crate" | "self" | "super")
+            || self.children(module, root).are_some
+            || self.has_type(Step::Scope(module), root)
     }
 
     /// Whether the first name of a `use` is a module's own, or a crate's of these files.
@@ -202,7 +196,7 @@ impl<'a> Scopes<'a> {
             Some(it) if it.is_conditional && !it.is_crate => Lead::Doubtful,
             Some(it) if is_own && it.path.before != root => Lead::Doubtful,
             Some(it) if !is_own && it.path.root != root => self.import_lead(it),
-            _ if is_own => match self.conditions_of(module, root) {
+            _ if is_own => match self.children(module, root).conditions {
                 0 => Lead::In(Step::Scope(module)),
                 1 => Lead::Wrong(BY_MODULE),
                 _ => Lead::Doubtful,
@@ -287,8 +281,9 @@ impl<'a> Scopes<'a> {
         match self.import_of(module, at) {
             Some(it) if is_first && !is_called(it.last, at) => return Lead::Wrong(RENAMED),
             None if is_first => {
-                if let Some(child) = self.child_of(module, at) {
-                    return Lead::In(Step::Scope(child));
+                let found = self.children(module, at);
+                if found.written == 1 {
+                    return Lead::In(Step::Scope(found.last));
                 }
             }
             _ => {}
@@ -323,10 +318,10 @@ impl<'a> Scopes<'a> {
     fn above(&self, module: usize, ups: usize) -> Option<usize> {
         let mut at = module;
         for _ in 0..ups {
-            at = if self.kind_of(at) == Kind::File {
+            at = if self.scope(at).kind == Kind::File {
                 self.parent_of(at)?
             } else {
-                self.outer_of(at)
+                self.scope(at).outer
             };
         }
         Some(at)
@@ -334,7 +329,7 @@ impl<'a> Scopes<'a> {
 
     /// The only module that names a file as the one of a module in it.
     fn parent_of(&self, root: usize) -> Option<usize> {
-        let own = self.module_name(root);
+        let own = self.scope(root).name;
         let mut found = None;
         for it in &self.scopes {
             if it.kind == Kind::Outline && it.name == own && it.outer != root {

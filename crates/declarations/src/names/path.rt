@@ -2,13 +2,13 @@
 use super::is_known_crate;
 
 /// The names before the last of a path: the first, the one before the last, how often `super` stands there, and how many
-/// there are.
+/// there are; the names are empty if there is none.
 #[derive(Clone, Copy, Drop)]
 pub struct Path<'a> {
-    pub(super) root: &'a str,
-    pub(super) before: &'a str,
+    pub root: &'a str,
+    pub before: &'a str,
     pub(super) ups: usize,
-    pub(super) count: usize,
+    pub count: usize,
     /// Whether `::` precedes all of them.
     pub(super) is_absolute: bool,
 }
@@ -52,34 +52,14 @@ impl<'a> Path<'a> {
         name
     }
 
-    /// The first name; empty if there is none.
-    pub fn root(self) -> &'a str {
-        self.root
-    }
-
     /// The first name, if this one follows.
     pub(super) fn first(self, last: &'a str) -> &'a str {
         if self.count == 0 { last } else { self.root }
     }
 
-    /// The last name.
-    pub fn last(self) -> &'a str {
-        self.before
-    }
-
     /// Whether there is no name, nor a `::`.
     pub fn is_empty(self) -> bool {
         self.count == 0 && !self.is_absolute
-    }
-
-    /// Whether there is one name.
-    pub fn is_single(self) -> bool {
-        self.count == 1
-    }
-
-    /// Whether it leads into the language's own crates.
-    pub fn is_of_language(self) -> bool {
-        matches!(self.root, "core" | "std")
     }
 
     /// Whether a `use` of this path brings in a known type by its own name.

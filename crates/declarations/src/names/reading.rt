@@ -16,12 +16,6 @@ fn alias_of(words: &[Token]) -> What<'_> {
     What::Alias(behind_first(value))
 }
 
-/// A constant, by its words from its name on.
-fn constant_of(words: &[Token]) -> What<'_> {
-    let (of, value) = up_to(behind_first(behind_first(words)), &["="]);
-    What::Constant(of, behind_first(value))
-}
-
 /// The first name that the rules of a macro are handed, and what follows it; empty if there is none.
 fn first_handed(rules: &[Token]) -> (&str, &[Token]) {
     let mut rest = rules;
@@ -36,24 +30,19 @@ fn first_handed(rules: &[Token]) -> (&str, &[Token]) {
     ("", &[])
 }
 
-/// Whether a type is declared at the start by a name that is handed to a macro.
-fn declares(tokens: &[Token], handed: &str) -> bool {
-    match tokens {
-        [of, mark, name, ..] => matches!(
-            of.word,
-            Word::Struct | Word::Enum | Word::Union | Word::Alias
-        ) && matches!(mark.word, Word::Dollar)
-            && name.text.as_str() == handed,
-        _ => false,
-    }
-}
-
 /// Whether the rules of a macro declare a type by the first name that they are handed.
 fn is_maker(rules: &[Token]) -> bool {
     let (handed, behind) = first_handed(rules);
     let mut rest = behind;
     for _ in 0..behind.len() {
-        if declares(rest, handed) {
+        if let [of, mark, name, ..] = rest
+            && matches!(
+                of.word,
+                Word::Struct | Word::Enum | Word::Union | Word::Alias
+            )
+            && matches!(mark.word, Word::Dollar)
+            && name.text.as_str() == handed
+        {
             return true;
         }
         rest = behind_first(rest);
@@ -81,11 +70,14 @@ impl<'a> Scopes<'a> {
     fn read_item(&mut self, item: &items::Item<'a>) {
         let is_conditional = item.has("cfg");
         let import = Import::of(item.scope, item.is_public, is_conditional);
-        let is_top = matches!(self.kind_of(item.scope), Kind::File | Kind::Module);
+        let is_top = matches!(self.scope(item.scope).kind, Kind::File | Kind::Module);
         let what = match item.kind {
             ItemKind::Type => What::Unmarked,
             ItemKind::Alias => alias_of(item.words),
-            ItemKind::Constant => constant_of(item.words),
+            ItemKind::Constant => {
+                let (of, value) = up_to(behind_first(behind_first(item.words)), &["="]);
+                What::Constant(of, behind_first(value))
+            }
             ItemKind::Import => return self.read_use(import, item.words),
             ItemKind::Crate => return self.read_crate(import, item.words),
             ItemKind::Rules if is_top => {
@@ -102,7 +94,7 @@ impl<'a> Scopes<'a> {
         let Some(name) = name_at(words) else {
             return;
         };
-        if matches!(self.kind_of(scope), Kind::Impl) {
+        if matches!(self.scope(scope).kind, Kind::Impl) {
             return;
         }
         let item = Item {
@@ -170,7 +162,7 @@ impl<'a> Scopes<'a> {
 
     /// The file of a crate's root that a scope is in: its own, or the only one of its folder.
     pub(super) fn root_of(&self, scope: usize) -> Option<usize> {
-        let own = self.file_at(scope);
+        let own = self.scope(scope).file;
         let (folder, stem) = parts_of(self.name_of_file(own));
         if is_root(stem) || self.files.len() == 1 {
             return Some(own);

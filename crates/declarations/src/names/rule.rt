@@ -1,7 +1,6 @@
 //! What a name stands for: the only candidate of the first step that has one, or nothing.
 ghost use Rattle.std.specs.Prelude.{[]};
-ghost use Rattle.declarations.specs.Candidates.{candidates};
-ghost use Rattle.declarations.specs.NameRule.{IsAnswerOf, IsAnsweredOrPassed, IsNowhereIfNone, IsOnlyOfAStep, IsStepAnswer};
+ghost use Rattle.declarations.specs.NameRule.{IsAnswerOf, IsAnsweredOrPassed, IsNowhereIfNone, IsOnlyOfAStep, IsStepAnswer, candidates_in};
 ghost use Rattle.declarations.specs.declared.names.candidates.Space.TheVariants as space;
 
 use super::candidates::{Only, Space, Step};
@@ -107,7 +106,7 @@ impl<'a> Scopes<'a> {
         ensures { IsAnswerOf item.now result }
     {
         match item.what {
-            What::Marked(index) if !self.is_single(index) => Found::Wrong(UNMARKED),
+            What::Marked(index) if self.stand(index).count != 1 => Found::Wrong(UNMARKED),
             What::Unmarked => Found::Wrong(UNMARKED),
             What::Generic => Found::Wrong(GENERIC),
             What::Made | What::MadeConstant => Found::Wrong(MADE),
@@ -150,11 +149,10 @@ impl<'a> Scopes<'a> {
 
     /// What a name stands for where a scope uses it: what the scope has, before what is round it.
     pub fn find(&self, scope: usize, name: &'a str, space: Space) -> Found<'a>
-        ensures only { IsOnlyOfAStep self.now.scopes.items self.now.items.items name.now space result }
+        ensures only { IsOnlyOfAStep self.now name.now space result }
         ensures own { IsAnsweredOrPassed
-            (candidates self.now.scopes.items (Step.Scope scope) name.now space self.now.items.items) result }
-        ensures last { IsNowhereIfNone
-            (candidates self.now.scopes.items Step.All name.now space self.now.items.items) result }
+            (candidates_in self.now (Step.Scope scope) name.now space) result }
+        ensures last { IsNowhereIfNone (candidates_in self.now Step.All name.now space) result }
     {
         match self.own(scope, name, space) {
             Found::Not => self.around(scope, name, space),
@@ -164,9 +162,8 @@ impl<'a> Scopes<'a> {
 
     /// What a name stands for that a scope doesn't have: what a body's surroundings have, or what is beyond its module.
     fn around(&self, scope: usize, name: &'a str, space: Space) -> Found<'a>
-        ensures only { IsOnlyOfAStep self.now.scopes.items self.now.items.items name.now space result }
-        ensures last { IsNowhereIfNone
-            (candidates self.now.scopes.items Step.All name.now space self.now.items.items) result }
+        ensures only { IsOnlyOfAStep self.now name.now space result }
+        ensures last { IsNowhereIfNone (candidates_in self.now Step.All name.now space) result }
     {
         let mut at = scope;
         for _ in 0..self.scopes.len() {
@@ -177,7 +174,7 @@ impl<'a> Scopes<'a> {
             if stars.is_outside || (self.has_star(at) && self.has(name)) {
                 return Found::Wrong(BY_STAR);
             }
-            at = self.outer_of(at);
+            at = self.scope(at).outer;
             match self.own(at, name, space) {
                 Found::Not => {}
                 found => return found,
@@ -188,9 +185,9 @@ impl<'a> Scopes<'a> {
 
     /// What a scope itself declares or brings in under a name.
     fn own(&self, scope: usize, name: &'a str, space: Space) -> Found<'a>
-        ensures only { IsOnlyOfAStep self.now.scopes.items self.now.items.items name.now space result }
+        ensures only { IsOnlyOfAStep self.now name.now space result }
         ensures own { IsAnsweredOrPassed
-            (candidates self.now.scopes.items (Step.Scope scope) name.now space self.now.items.items) result }
+            (candidates_in self.now (Step.Scope scope) name.now space) result }
     {
         let step = Step::Scope(scope);
         let brought = self.brought(step, name, space);
@@ -210,7 +207,7 @@ impl<'a> Scopes<'a> {
     fn no_module(&self, scope: usize, name: &str, space: Space) -> Found<'a>
         ensures { IsStepAnswer [] result }
     {
-        if space == Space::Types && !is_primitive(name) && self.has_child(scope, name) {
+        if space == Space::Types && !is_primitive(name) && self.children(scope, name).are_some {
             return Found::Wrong(OF_MODULE);
         }
         Found::Not
@@ -218,7 +215,7 @@ impl<'a> Scopes<'a> {
 
     /// What a `use` brings in: from other crates what is known; from these files what its path says, by the same name.
     fn brought_in(&self, index: usize, name: &'a str, space: Space) -> Found<'a>
-        ensures only { IsOnlyOfAStep self.now.scopes.items self.now.items.items name.now space result }
+        ensures only { IsOnlyOfAStep self.now name.now space result }
     {
         let Some(it) = self.imports.get(index) else {
             return Found::Not;
@@ -237,9 +234,8 @@ impl<'a> Scopes<'a> {
 
     /// The only thing that a step has under a name. What is brought in there from these files is in another.
     fn step(&self, step: Step<'a>, name: &'a str, space: Space) -> Found<'a>
-        ensures answer { IsStepAnswer
-            (candidates self.now.scopes.items step.entry name.now space self.now.items.items) result }
-        ensures only { IsOnlyOfAStep self.now.scopes.items self.now.items.items name.now space result }
+        ensures answer { IsStepAnswer (candidates_in self.now step.entry name.now space) result }
+        ensures only { IsOnlyOfAStep self.now name.now space result }
     {
         let brought = self.brought(step, name, space);
         match self.only(step, name, space) {
@@ -266,9 +262,8 @@ impl<'a> Scopes<'a> {
 
     /// What a name stands for that neither a module nor a body in it declares or brings in.
     fn beyond(&self, module: usize, name: &'a str, space: Space) -> Found<'a>
-        ensures only { IsOnlyOfAStep self.now.scopes.items self.now.items.items name.now space result }
-        ensures last { IsNowhereIfNone
-            (candidates self.now.scopes.items Step.All name.now space self.now.items.items) result }
+        ensures only { IsOnlyOfAStep self.now name.now space result }
+        ensures last { IsNowhereIfNone (candidates_in self.now Step.All name.now space) result }
     {
         let stars = self.stars_of(module);
         let is_type = space == Space::Types;
@@ -283,7 +278,7 @@ impl<'a> Scopes<'a> {
         if stars.is_outside || (stars.is_known && !stars.is_inside) {
             return Found::Wrong(BY_STAR);
         }
-        let file = Step::File(self.file_at(module));
+        let file = Step::File(self.scope(module).file);
         let near = if stars.is_inside { Step::All } else { file };
         let found = self.in_files(near, name, space);
         match found {
@@ -297,11 +292,10 @@ impl<'a> Scopes<'a> {
 
     /// What a name stands for by a step, or by all files, or if it is known.
     fn in_files(&self, near: Step<'a>, name: &'a str, space: Space) -> Found<'a>
-        ensures only { IsOnlyOfAStep self.now.scopes.items self.now.items.items name.now space result }
+        ensures only { IsOnlyOfAStep self.now name.now space result }
         ensures near { IsAnsweredOrPassed
-            (candidates self.now.scopes.items near.entry name.now space self.now.items.items) result }
-        ensures last { IsNowhereIfNone
-            (candidates self.now.scopes.items Step.All name.now space self.now.items.items) result }
+            (candidates_in self.now near.entry name.now space) result }
+        ensures last { IsNowhereIfNone (candidates_in self.now Step.All name.now space) result }
     {
         match self.step(near, name, space) {
             Found::Not => self.in_all(name, space),
@@ -311,9 +305,8 @@ impl<'a> Scopes<'a> {
 
     /// What a name stands for by all files, or if it is known.
     fn in_all(&self, name: &'a str, space: Space) -> Found<'a>
-        ensures only { IsOnlyOfAStep self.now.scopes.items self.now.items.items name.now space result }
-        ensures answer { IsStepAnswer
-            (candidates self.now.scopes.items Step.All name.now space self.now.items.items) result }
+        ensures only { IsOnlyOfAStep self.now name.now space result }
+        ensures answer { IsStepAnswer (candidates_in self.now Step.All name.now space) result }
     {
         match self.step(Step::All, name, space) {
             Found::Not if space == Space::Types && is_known(name) => Found::Known(name),
@@ -381,7 +374,7 @@ impl<'a> Scopes<'a> {
         name: &'a str,
         space: Space,
     ) -> Found<'a>
-        ensures only { IsOnlyOfAStep self.now.scopes.items self.now.items.items name.now space result }
+        ensures only { IsOnlyOfAStep self.now name.now space result }
     {
         let module = self.module_of(scope);
         match self.lead(module, path, name) {
@@ -395,7 +388,7 @@ impl<'a> Scopes<'a> {
 
     /// What a step has under a name, or all files, if it only passes it on. A `*` in another of its modules may bring in another.
     fn by_path(&self, step: Step<'a>, name: &'a str, space: Space) -> Found<'a>
-        ensures only { IsOnlyOfAStep self.now.scopes.items self.now.items.items name.now space result }
+        ensures only { IsOnlyOfAStep self.now name.now space result }
     {
         match self.step(step, name, space) {
             Found::In(_, there) if self.has_star_beside(step, there) => Found::Two,
@@ -420,7 +413,7 @@ impl<'a> Scopes<'a> {
         let mut before = ", as in `";
         let mut last = "";
         for item in &self.items {
-            let module = self.module_name(item.scope);
+            let module = self.scope(item.scope).name;
             let is_it = item.name == name && self.is_in(item.scope, Step::All);
             if is_it && !module.is_empty() && module != last {
                 faults.put_all(&[before, module, "::", name, "`"]);
@@ -432,7 +425,7 @@ impl<'a> Scopes<'a> {
 
     /// What a name stands for that is requested: a type that is marked or an alias, outside of bodies where there is one.
     pub fn find_asked(&self, path: Path<'a>, name: &'a str) -> Found<'a>
-        ensures only { IsOnlyOfAStep self.now.scopes.items self.now.items.items name.now space.Asked result }
+        ensures only { IsOnlyOfAStep self.now name.now space.Asked result }
     {
         let step = if path.count > 0 {
             Step::Module(path.before)
