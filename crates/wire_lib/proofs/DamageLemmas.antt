@@ -1,12 +1,12 @@
 -- The texts of damages, and the bytes that are kept for them.
-use Rattle.std.proofs.Common.{◌≡◌, ◌⊎◌, inl, inr, ◌<◌, ◌≤◌, ℕ, zero, suc, ◌+◌, ◌-◌, ◌^◌, ◌==◌, min, codes, if◌then◌else◌, false, List, [], ◌∷◌, ◌++◌, length, take, drop, get_or, map, String, string_bytes, Global, Result, Ok, Err, Some, OnOk, is_some, refl, sym, ap, ◌∙◌, subst, arith, append_assoc, append-nil, take-append-drop, bit_xor, eq-eqb, length-append}
-use Rattle.std.proofs.lemmas.List.{take-take, drop-drop, drop-append-le, length-take-le, length-drop, map-append, length-map, drop-map}
+use Rattle.std.proofs.Common.{◌≡◌, ◌⊎◌, inl, inr, ◌<◌, ◌≤◌, ℕ, zero, suc, ◌+◌, ◌-◌, ◌^◌, ◌==◌, min, codes, if◌then◌else◌, List, [], ◌∷◌, ◌++◌, length, take, drop, get_or, map, String, string_bytes, Global, Result, Ok, Err, OnOk, refl, sym, ap, ◌∙◌, subst, arith, append_assoc, append-nil, bit_xor, eq-eqb, length-append}
+use Rattle.std.proofs.lemmas.List.{drop-drop, drop-append-le, length-take-le, length-drop, map-append, length-map, drop-map}
 use Rattle.std.proofs.Math.Seq.{drop-append_seam}
 use Rattle.cobs.specs.Frames.{NoZero}
 use Rattle.cobs.specs.Sentinel.{masked}
 use Rattle.schemas.specs.declared.value.Value.{Value}
 use Rattle.link.specs.Stream.{Begun, kept, over, begun, unfinished}
-use Rattle.link.specs.Pushes.{finished, begun_length}
+use Rattle.link.specs.Pushes.{begun_length}
 use Rattle.link.specs.Listening.{HasGiven}
 use Rattle.link.specs.Lemmas.FeedLaws.{is_short}
 use Rattle.link.specs.Lemmas.MaskLaws.{masked_length}
@@ -15,10 +15,10 @@ use Rattle.link.specs.declared.receiver.Answer.{Answer}
 use Rattle.link.specs.declared.receiver.Answer.TheVariants as answer
 use Rattle.wire_lib.specs.declared.receive.Reading.{Reading}
 use Rattle.wire_lib.specs.declared.watching.table.Table.{Table}
-use Rattle.wire_lib.specs.Received.{held_by, read_by, as_list, place_from}
+use Rattle.wire_lib.specs.Received.{held_by, read_by, place_from}
 use Rattle.wire_lib.specs.Fronts.{most_kept, kept_behind, damage_said}
 use Rattle.wire_lib.specs.Tables.{last_of}
-use Rattle.wire_lib.specs.Damages.{IsWordOf, first_bytes, IsTextAt, IsTextOf, HasTexts, AreTextsOf, HasKept, HasKeptAll}
+use Rattle.wire_lib.specs.Damages.{IsDamageWord, first_bytes, IsTextAt, IsTextOf, HasTexts, AreTextsOf, HasKept, HasKeptAll}
 use Rattle.wire_lib.specs.Seen.{KeepsDamage, KeepsText}
 
 -- what is kept behind bytes in two parts
@@ -175,14 +175,14 @@ unchanged (Err x) a v from count bytes old new e h = tt
 
 -- the text of a result that isn't a message was kept, by which one it is
 kept_word : (a : Answer Value) (what : List ℕ) (from count : ℕ) (bytes : List ℕ) (old new : Table)
-    → IsWordOf a what → KeepsDamage what from count bytes old new → KeepsText a from count bytes old new
+    → IsDamageWord a what → KeepsDamage what from count bytes old new → KeepsText a from count bytes old new
 kept_word (answer.Value v) what from count bytes old new w h = absurd w
 kept_word answer.Damaged what from count bytes old new w h = (what, w, h)
 kept_word answer.TooLong what from count bytes old new w h = (what, w, h)
 kept_word answer.Cut what from count bytes old new w h = (what, w, h)
 
 pub kept_as : {A E : Type 0} (r : Result A E) (a b : Answer Value) (what : List ℕ) (from count : ℕ)
-    (bytes : List ℕ) (old new : Table) → a ≡ b → IsWordOf b what
+    (bytes : List ℕ) (old new : Table) → a ≡ b → IsDamageWord b what
     → OnOk r (length old.damages.items ≤ 3 → KeepsDamage what from count bytes old new)
     → OnOk r (length old.damages.items ≤ 3 → KeepsText a from count bytes old new)
 kept_as (Ok x) a b what from count bytes old new e w h =
@@ -239,7 +239,7 @@ module _ (r : Reading) (at at' used n : ℕ) (stream rest front front' before la
       → HasGiven (held_by r) (read_by r) 65536 r.sentinel (answers ++ a ∷ []) (stream ++ take used rest)
       → at' ≡ min (at + used) (2 ^ 64 - 1) → take used rest ≡ before ++ last → length last ≡ 1
       → length before + 1 ≡ used
-      → n ≡ length (unfinished r.sentinel (stream ++ before)) → IsWordOf a what
+      → n ≡ length (unfinished r.sentinel (stream ++ before)) → IsDamageWord a what
       → string_bytes text ≡ damage_said what (at' - 1 - n) n (kept_behind r.sentinel front before)
       → IsTextOf r (stream ++ take used rest) answers a (string_bytes text)
   text_of what a text h g g' e f one many size word said =
@@ -299,7 +299,7 @@ module _ (r : Reading) (at at' used n : ℕ) (stream rest front front' before la
         last = last3;
       }
 
-      damage : (x : Answer Value) (what : List ℕ) → IsWordOf x what
+      damage : (x : Answer Value) (what : List ℕ) → IsDamageWord x what
           → HasGiven (held_by r) (read_by r) 65536 r.sentinel (answers ++ x ∷ []) stream'
           → (k : KeepsDamage what (at' - 1 - n) n (kept_behind r.sentinel front before) old new)
           → IsTextOf r stream' answers x (string_bytes k.0)

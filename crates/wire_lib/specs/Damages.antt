@@ -13,11 +13,11 @@ use Rattle.wire_lib.specs.declared.receive.Reading.{Reading}
 use Rattle.wire_lib.specs.declared.watching.table.Table.{Table}
 
 -- a word for a result that isn't a message
-abbrev pub IsWordOf : Answer Value → List ℕ → Type 0
-IsWordOf (answer.Value v) what = ⊥
-IsWordOf answer.Damaged what = (what ≡ codes "damaged") ⊎ (what ≡ codes "too deep")
-IsWordOf answer.TooLong what = what ≡ codes "too long"
-IsWordOf answer.Cut what = what ≡ codes "cut"
+abbrev pub IsDamageWord : Answer Value → List ℕ → Type 0
+IsDamageWord (answer.Value v) what = ⊥
+IsDamageWord answer.Damaged what = (what ≡ codes "damaged") ⊎ (what ≡ codes "too deep")
+IsDamageWord answer.TooLong what = what ≡ codes "too long"
+IsDamageWord answer.Cut what = what ≡ codes "cut"
 
 -- the first bytes of the stretch that a prefix of a stream leaves unfinished
 abbrev pub first_bytes : ℕ → List ℕ → List ℕ
@@ -28,7 +28,7 @@ first_bytes s front = take most_kept (drop (place_from 0 s front) front)
 pub record IsTextAt (s : ℕ) (front : List ℕ) (a : Answer Value) (text : List ℕ) : Type 0 where
   -- what it is
   pub what : List ℕ
-  pub word : IsWordOf a what
+  pub word : IsDamageWord a what
   -- the position in the text
   pub from : ℕ
   -- how many bytes the stretch has, and the first of them

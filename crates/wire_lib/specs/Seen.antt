@@ -12,7 +12,7 @@ use Rattle.wire_lib.specs.Received.{held_by, read_by, as_list}
 use Rattle.wire_lib.specs.declared.receive.Reading.{Reading}
 use Rattle.wire_lib.specs.Kinds.{kind_in}
 use Rattle.wire_lib.specs.Rates.{capped}
-use Rattle.wire_lib.specs.Damages.{IsWordOf, HasKept, HasKeptAll}
+use Rattle.wire_lib.specs.Damages.{IsDamageWord, HasKept, HasKeptAll}
 use Rattle.wire_lib.specs.Fronts.{damage_said}
 use Rattle.wire_lib.specs.Tables.{last_of}
 use Rattle.wire_lib.specs.declared.watching.table.Row.{Row}
@@ -66,7 +66,7 @@ KeepsDamage what from count bytes old new = (text : String Global)
 -- the text of a result was kept if it isn't a message
 abbrev pub KeepsText : Answer Value → ℕ → ℕ → List ℕ → Table → Table → Type 0
 KeepsText (answer.Value v) from count bytes old new = new.damages ≡ old.damages
-KeepsText a from count bytes old new = (what : List ℕ) × IsWordOf a what × KeepsDamage what from count bytes old new
+KeepsText a from count bytes old new = (what : List ℕ) × IsDamageWord a what × KeepsDamage what from count bytes old new
 
 -- how frames are read
 abbrev pub reading_of : Viewer → Reading

@@ -5,7 +5,7 @@ ghost use Rattle.link.specs.Receivers.{IsBehind};
 ghost use Rattle.link.specs.Pushes.{Answered};
 ghost use Rattle.link.specs.declared.receiver.Answer.{Answer as Answers};
 ghost use Rattle.schemas.specs.declared.value.Value.{Value as Values};
-ghost use Rattle.wire_lib.specs.Damages.{IsWordOf};
+ghost use Rattle.wire_lib.specs.Damages.{IsDamageWord};
 ghost use Rattle.wire_lib.specs.Fronts.{dots_after, damage_said};
 ghost use Rattle.wire_lib.specs.Received.{held_by, read_by, are_all_values};
 ghost use Rattle.wire_lib.specs.Rates.{CountsOneMore};
@@ -229,7 +229,7 @@ impl<'a> Viewer<'a> {
 
 /// The word for a stretch that isn't a value of the type.
 fn damaged_word(is_deep: bool) -> &'static str
-    ensures { IsWordOf Answer.Damaged result.now }
+    ensures { IsDamageWord Answer.Damaged result.now }
 {
     if is_deep { "too deep" } else { "damaged" }
 }

@@ -1,6 +1,6 @@
-use Rattle.std.proofs.Common.{◌-◌, ◌≤◌, length, codes, OnOk, refl, sym, subst, inl, inr}
+use Rattle.std.proofs.Common.{◌-◌, codes, OnOk, refl, sym, subst}
 use Rattle.link.specs.declared.receiver.Answer.TheVariants as answer
-use Rattle.wire_lib.specs.Seen.{CountsToo, KeepsText}
+use Rattle.wire_lib.specs.Seen.{CountsToo}
 use Rattle.wire_lib.proofs.SeenLemmas.{damage_told}
 use Rattle.wire_lib.proofs.DamageLemmas.{unchanged, kept_as}
 use Rattle.wire_lib.proofs.watching.viewer.Viewer.hear.Goals as goal
