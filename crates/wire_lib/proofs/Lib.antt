@@ -1,3 +1,4 @@
+pub mod DamageLemmas
 pub mod DrawnLemmas
 pub mod LineLemmas
 pub mod SeenLemmas

@@ -135,7 +135,7 @@ module _ (r : Reading) (stream rest : List ℕ) (answers : List (Answer Value)) 
   used_some (suc used) g h = omega arith
 
   -- without the last byte the answer isn't there
-  before_it : (used : ℕ) → 0 < used
+  pub before_it : (used : ℕ) → 0 < used
       → (g : HasGiven (held_by r) (read_by r) 65536 r.sentinel answers stream)
       → Answered (held_by r) (read_by r) 65536 r.sentinel stream rest used (Ok (Some a))
       → HasGiven (held_by r) (read_by r) 65536 r.sentinel answers (stream ++ take (used - 1) rest)

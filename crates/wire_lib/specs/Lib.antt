@@ -1,3 +1,4 @@
+pub mod Damages
 pub mod Drawn
 pub mod Fronts
 pub mod Kinds

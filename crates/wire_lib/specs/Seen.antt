@@ -12,6 +12,7 @@ use Rattle.wire_lib.specs.Received.{held_by, read_by, as_list}
 use Rattle.wire_lib.specs.declared.receive.Reading.{Reading}
 use Rattle.wire_lib.specs.Kinds.{kind_in}
 use Rattle.wire_lib.specs.Rates.{capped}
+use Rattle.wire_lib.specs.Damages.{IsDamageWord, HasKept, HasKeptAll}
 use Rattle.wire_lib.specs.Fronts.{damage_said}
 use Rattle.wire_lib.specs.Tables.{last_of}
 use Rattle.wire_lib.specs.declared.watching.table.Row.{Row}
@@ -62,25 +63,40 @@ KeepsDamage what from count bytes old new = (text : String Global)
     × (string_bytes text ≡ damage_said what from count bytes)
     × (new.damages.items ≡ last_of 3 (old.damages.items ++ text ∷ []))
 
+-- the text of a result was kept if it isn't a message
+abbrev pub KeepsText : Answer Value → ℕ → ℕ → List ℕ → Table → Table → Type 0
+KeepsText (answer.Value v) from count bytes old new = new.damages ≡ old.damages
+KeepsText a from count bytes old new = (what : List ℕ) × IsDamageWord a what × KeepsDamage what from count bytes old new
+
 -- how frames are read
 abbrev pub reading_of : Viewer → Reading
 reading_of v = v.reading
 
--- The viewer's type, limits and receiver are unchanged.
+-- The viewer's type, limits, receiver, position and partial frame are unchanged.
 pub record StandsStill (old new : Viewer) : Type 0 where
   -- how frames are read
   pub reading : new.reading ≡ old.reading
   -- the receiver of the stream
   pub receiver : new.receiver ≡ old.receiver
+  -- how many bytes came
+  pub at : new.at ≡ old.at
+  -- the first bytes of the partial frame
+  pub front : new.front ≡ old.front
 
--- The viewer got this stream, these were its results, and its table has counted them.
+-- The viewer got this stream, these were its results, and its table has counted them and keeps the last damages.
 pub record HasSeen (v : Viewer) (stream : List ℕ) (answers : List (Answer Value)) : Type 0 where
   -- these are the results of the stream
   pub hears : Hears in_owner (held_by v.reading) (read_by v.reading)
       65536 v.reading.sentinel v.receiver answers stream
   -- the table has counted them
   pub counted : HasCounted v.table answers
+  -- the last damages, with their positions and bytes
+  pub kept : HasKept v.reading v.at v.front.items v.table stream answers
 
 -- the results that the end of such a stream adds
 abbrev pub added_by_end : Viewer → List ℕ → List (Answer Value)
 added_by_end v stream = as_list (finished (begun 65536 v.reading.sentinel stream))
+
+-- what the table keeps of the damages after the end of such a stream
+abbrev pub KeepsAll : Viewer → Table → List ℕ → List (Answer Value) → Type 0
+KeepsAll v table stream answers = HasKeptAll v.reading table stream answers (added_by_end v stream)

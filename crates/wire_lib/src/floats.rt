@@ -66,67 +66,76 @@ pub fn word_of_double(alloc: Global, bits: u64) -> Result<String, AllocError> {
     }
 }
 
-/// The bits after `NaN:`, if exactly `digits` hexadecimal digits follow.
-fn bits_of_nan(word: &str, digits: usize) -> Option<u64> {
-    let text = word.strip_prefix(BITS)?;
-    if text.len() != digits {
+/// Whether a word is `NaN:` and the hexadecimal digits of all these bytes, which it sets.
+fn has_bits(word: &str, bytes: &mut [u8]) -> bool {
+    match word.strip_prefix(BITS) {
+        Some(digits) => hex::decode_to_slice(digits.as_bytes(), bytes).is_ok(),
+        None => false,
+    }
+}
+
+/// The bits of an `f32` that is a NaN, after `NaN:`.
+fn bits_of_nan(word: &str) -> Option<u32> {
+    let mut bytes = [0u8; 4];
+    if !has_bits(word, &mut bytes) {
         return None;
     }
-    let mut bits: u64 = 0;
-    for character in text.chars() {
-        bits = bits
-            .checked_mul(16)?
-            .checked_add(u64::from(character.to_digit(16)?))?;
+    let bits = u32::from_be_bytes(bytes);
+    if bits % SIGN > EXPONENT {
+        Some(bits)
+    } else {
+        None
     }
-    Some(bits)
+}
+
+/// The same of an `f64`.
+fn bits_of_nan_double(word: &str) -> Option<u64> {
+    let mut bytes = [0u8; 8];
+    if !has_bits(word, &mut bytes) {
+        return None;
+    }
+    let bits = u64::from_be_bytes(bytes);
+    if bits % DOUBLE_SIGN > DOUBLE_EXPONENT {
+        Some(bits)
+    } else {
+        None
+    }
 }
 
 /// The bits of an `f32` from its string.
 fn bits_of_word(word: &str) -> Option<u32> {
     match word {
-        "Infinity" => return Some(0x7f80_0000),
-        "-Infinity" => return Some(0xff80_0000),
-        "NaN" => return Some(0x7fc0_0000),
-        _ => {}
+        "Infinity" => Some(0x7f80_0000),
+        "-Infinity" => Some(0xff80_0000),
+        "NaN" => Some(0x7fc0_0000),
+        _ => bits_of_nan(word),
     }
-    let bits = bits_of_nan(word, 8)?;
-    if bits % 0x8000_0000 <= 0x7f80_0000 {
-        return None;
-    }
-    u32::try_from(bits).ok()
 }
 
 /// The bits of an `f64` from its string.
 fn bits_of_word_of_double(word: &str) -> Option<u64> {
     match word {
-        "Infinity" => return Some(0x7ff0_0000_0000_0000),
-        "-Infinity" => return Some(0xfff0_0000_0000_0000),
-        "NaN" => return Some(0x7ff8_0000_0000_0000),
-        _ => {}
+        "Infinity" => Some(0x7ff0_0000_0000_0000),
+        "-Infinity" => Some(0xfff0_0000_0000_0000),
+        "NaN" => Some(0x7ff8_0000_0000_0000),
+        _ => bits_of_nan_double(word),
     }
-    let bits = bits_of_nan(word, 16)?;
-    if bits % 0x8000_0000_0000_0000 <= 0x7ff0_0000_0000_0000 {
-        return None;
-    }
-    Some(bits)
 }
 
 /// The bits of the `f32` nearest to a number, or `None` if that is an infinity.
 fn bits_of_number(text: &str) -> Option<u32> {
-    let number: f32 = fast_float::parse(text).ok()?;
-    if !number.is_finite() {
-        return None;
+    match fast_float::parse::<f32, &str>(text) {
+        Ok(number) if number.is_finite() => Some(number.to_bits()),
+        _ => None,
     }
-    Some(number.to_bits())
 }
 
 /// The bits of the `f64` nearest to a number, or `None` if that is an infinity.
 fn bits_of_double(text: &str) -> Option<u64> {
-    let number: f64 = fast_float::parse(text).ok()?;
-    if !number.is_finite() {
-        return None;
+    match fast_float::parse::<f64, &str>(text) {
+        Ok(number) if number.is_finite() => Some(number.to_bits()),
+        _ => None,
     }
-    Some(number.to_bits())
 }
 
 /// Returns the bits of the float nearest to a JSON number, in the width of `of`: `U32` for `f32`, `U64` for `f64`.

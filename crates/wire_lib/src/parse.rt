@@ -99,11 +99,19 @@ fn bytes_of_digits(alloc: Global, digits: &str) -> Result<Vec<u8>, ParseError> {
     }
 }
 
-fn bytes(alloc: Global, json: &Json<'_>) -> Parsed {
+/// Bytes from an array of numbers or from hexadecimal digits.
+fn bytes_of(alloc: Global, json: &Json<'_>) -> Result<Vec<u8>, ParseError> {
     match json {
-        Json::Array(elements) => Ok(Value::Bytes(bytes_of_numbers(alloc, elements)?)),
-        Json::String(digits) => Ok(Value::Bytes(bytes_of_digits(alloc, digits)?)),
+        Json::Array(elements) => bytes_of_numbers(alloc, elements),
+        Json::String(digits) => bytes_of_digits(alloc, digits),
         _ => Err(refusal("expected an array of bytes or a string of hexadecimal digits")),
+    }
+}
+
+fn bytes(alloc: Global, json: &Json<'_>) -> Parsed {
+    match bytes_of(alloc, json) {
+        Ok(bytes) => Ok(Value::Bytes(bytes)),
+        Err(error) => Err(error),
     }
 }
 
@@ -356,6 +364,14 @@ fn one_part(alloc: Global, held: Value) -> Parsed {
     Ok(Value::Group(parts))
 }
 
+/// A pair.
+fn two_parts(alloc: Global, first: Value, second: Value) -> Parsed {
+    let mut parts = Vec::new(alloc);
+    parts.push(first)?;
+    parts.push(second)?;
+    Ok(Value::Group(parts))
+}
+
 /// A pair of a map from a member: its name and its value.
 #[cycle(parse)]
 fn pair(
@@ -371,10 +387,7 @@ fn pair(
     };
     let key = key_of(alloc, schema, *first, depth, key)?;
     let held = value(alloc, schema, *second, depth, json)?;
-    let Ok(parts) = Vec::from_array(alloc, [key, held]) else {
-        return Err(ParseError::OutOfMemory);
-    };
-    Ok(Value::Group(parts))
+    two_parts(alloc, key, held)
 }
 
 /// A pair of the type at index `place` from a member.
@@ -785,6 +798,17 @@ fn no_json(alloc: Global, text: &str, offset: usize) -> ParseError {
     at_column(alloc, before.saturating_add(1))
 }
 
+/// The value that a text contains, as the text says it.
+fn value_of_text(alloc: Global, schema: &Schema, place: usize, depth: u32, text: &str) -> Parsed {
+    let mut scratch = Scratch::new(alloc);
+    let mut reader = Reader::new(text, &mut scratch)?;
+    match json_of(alloc, depth, &mut reader) {
+        Ok(Some(json)) => value_of_line(alloc, schema, place, depth, &json),
+        Ok(None) => Err(no_json(alloc, text, reader.offset())),
+        Err(error) => Err(error),
+    }
+}
+
 /// Returns the value of the type at index `place` that a line of JSON contains, with at most `depth` nested nodes.
 ///
 /// The line is a value as [`print`](crate::print::print) writes it, or `{"value": ..}`. The fields of a struct can have any order.
@@ -801,13 +825,8 @@ pub fn parse(alloc: Global, schema: &Schema, place: usize, depth: u32, line: &[u
     let Ok(text) = from_utf8(line) else {
         return Err(refusal("the line isn't UTF-8"));
     };
-    let mut scratch = Scratch::new(alloc);
-    let mut reader = Reader::new(text, &mut scratch)?;
-    match json_of(alloc, depth, &mut reader)? {
-        Some(json) => {
-            let value = value_of_line(alloc, schema, place, depth, &json)?;
-            as_read(alloc, schema, place, depth, &value)
-        }
-        None => Err(no_json(alloc, text, reader.offset())),
+    match value_of_text(alloc, schema, place, depth, text) {
+        Ok(value) => as_read(alloc, schema, place, depth, &value),
+        Err(error) => Err(error),
     }
 }

@@ -1,7 +1,7 @@
 //! A table of types as JSON, for other tools. README.md of the program `wire` documents its form.
 use crate::sizes::greatest_sizes;
 use json::Writer;
-use schema_table::{IntegerType, Names, Node, Schema};
+use schema_table::{IntegerType, Named, Names, Node, Schema};
 use std::alloc::{AllocError, Global};
 
 type Put = Result<(), AllocError>;
@@ -184,31 +184,50 @@ fn put_node(out: &mut Writer, names: &Names, node: &Node) -> Put {
     }
 }
 
-/// Appends the declared types, each with its name, its line and its index.
+/// Appends a declared type, with its name, its line and its index.
+fn put_type(out: &mut Writer, it: &Named, place: usize) -> Put {
+    out.begin_object()?;
+    put_text(out, "name", it.name.as_str())?;
+    put_number(out, "line", it.line as u64)?;
+    put_number(out, "node", place as u64)?;
+    out.end_object()
+}
+
+/// Appends the declared types.
 fn put_types(out: &mut Writer, schema: &Schema) -> Put {
     out.key("types")?;
     out.begin_array()?;
     for (place, it) in schema.types.iter().enumerate() {
-        out.begin_object()?;
-        put_text(out, "name", it.name.as_str())?;
-        put_number(out, "line", it.line as u64)?;
-        put_number(out, "node", place as u64)?;
-        out.end_object()?;
+        put_type(out, it, place)?;
     }
     out.end_array()
 }
 
-/// Appends the nodes, each with its maximum size.
+/// Appends a node, with its maximum size.
+fn put_sized(out: &mut Writer, node: &Node, names: &Names, size: Option<u64>) -> Put {
+    out.begin_object()?;
+    put_node(out, names, node)?;
+    put_maybe(out, "size", size)?;
+    out.end_object()
+}
+
+/// Appends the nodes.
 fn put_nodes(out: &mut Writer, schema: &Schema, sizes: &[Option<u64>]) -> Put {
     out.key("nodes")?;
     out.begin_array()?;
     for ((node, names), size) in schema.nodes.iter().zip(&schema.names).zip(sizes) {
-        out.begin_object()?;
-        put_node(out, names, node)?;
-        put_maybe(out, "size", *size)?;
-        out.end_object()?;
+        put_sized(out, node, names, *size)?;
     }
     out.end_array()
+}
+
+/// Appends the table as an object.
+fn put_table(out: &mut Writer, schema: &Schema, sizes: &[Option<u64>]) -> Put {
+    out.begin_object()?;
+    put_number(out, "version", VERSION)?;
+    put_types(out, schema)?;
+    put_nodes(out, schema, sizes)?;
+    out.end_object()
 }
 
 /// Returns a table of types as one line of JSON: `{"version":1,"types":[..],"nodes":[..]}`.
@@ -218,10 +237,6 @@ fn put_nodes(out: &mut Writer, schema: &Schema, sizes: &[Option<u64>]) -> Put {
 pub fn table_json(alloc: Global, schema: &Schema) -> Result<Vec<u8>, AllocError> {
     let sizes = greatest_sizes(alloc, &schema.nodes)?;
     let mut out = Writer::new(Vec::new(alloc));
-    out.begin_object()?;
-    put_number(&mut out, "version", VERSION)?;
-    put_types(&mut out, schema)?;
-    put_nodes(&mut out, schema, &sizes)?;
-    out.end_object()?;
+    put_table(&mut out, schema, &sizes)?;
     Ok(out.into_inner())
 }

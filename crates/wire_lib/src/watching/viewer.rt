@@ -5,10 +5,11 @@ ghost use Rattle.link.specs.Receivers.{IsBehind};
 ghost use Rattle.link.specs.Pushes.{Answered};
 ghost use Rattle.link.specs.declared.receiver.Answer.{Answer as Answers};
 ghost use Rattle.schemas.specs.declared.value.Value.{Value as Values};
+ghost use Rattle.wire_lib.specs.Damages.{IsDamageWord};
 ghost use Rattle.wire_lib.specs.Fronts.{dots_after, damage_said};
 ghost use Rattle.wire_lib.specs.Received.{held_by, read_by, are_all_values};
 ghost use Rattle.wire_lib.specs.Rates.{CountsOneMore};
-ghost use Rattle.wire_lib.specs.Seen.{HasSeen, HasCounted, CountsToo, CountsMessage, KeepsDamage, StandsStill, reading_of, added_by_end};
+ghost use Rattle.wire_lib.specs.Seen.{HasSeen, HasCounted, CountsToo, CountsMessage, KeepsDamage, KeepsText, KeepsAll, StandsStill, reading_of, added_by_end};
 
 use crate::receive::{LIMIT, Reading, push_next};
 use crate::watching::front::keep_front;
@@ -84,6 +85,7 @@ impl<'a> Viewer<'a> {
         lines: &mut Vec<u8>,
     ) -> Result<(), AllocError>
         ensures counted { OnOk result (CountsMessage value.now self.old.table self.new.table) }
+        ensures damages { self.new.table.damages ≡ self.old.table.damages }
         ensures same { StandsStill self.old self.new }
     {
         let alloc = self.reading.alloc;
@@ -105,7 +107,7 @@ impl<'a> Viewer<'a> {
     ) -> Result<(), AllocError>
         ensures damaged { OnOk result
             (CountsOneMore self.old.table.damaged self.new.table.damaged) }
-        ensures kept { length self.old.table.damages.items ≤ 3 → OnOk result (KeepsDamage what.now
+        ensures kept { OnOk result (length self.old.table.damages.items ≤ 3 → KeepsDamage what.now
             (self.old.at - 1 - stretch) stretch self.old.front.items self.old.table self.new.table) }
         ensures rows { self.new.table.rows ≡ self.old.table.rows }
         ensures same { StandsStill self.old self.new }
@@ -126,16 +128,14 @@ impl<'a> Viewer<'a> {
         lines: &mut Vec<u8>,
     ) -> Result<(), AllocError>
         ensures counted { OnOk result (CountsToo answer.now self.old.table self.new.table) }
+        ensures kept { OnOk result (length self.old.table.damages.items ≤ 3 → KeepsText answer.now
+            (self.old.at - 1 - stretch) stretch self.old.front.items self.old.table self.new.table) }
         ensures same { StandsStill self.old self.new }
     {
         match answer {
             Answer::Value(value) => self.hear_value(value, window, lines),
             Answer::Damaged => {
-                let what = if self.is_deep.replace(false) {
-                    "too deep"
-                } else {
-                    "damaged"
-                };
+                let what = damaged_word(self.is_deep.replace(false));
                 self.hear_damage(what, stretch, lines)
             }
             Answer::TooLong => self.hear_damage("too long", stretch, lines),
@@ -165,16 +165,17 @@ impl<'a> Viewer<'a> {
             answer,
         } = push_next(self.reading, &self.is_deep, &mut self.receiver, rest);
         self.at = self.at.saturating_add(used as u64);
-        let (before, last) = rest.split_at(used - 1);
+        let (taken, _) = rest.split_at(used);
+        let (before, last) = taken.split_at(used - 1);
         keep_front(&mut self.front, sentinel, before)?;
         match answer {
             Ok(None) => {
-                keep_front(&mut self.front, sentinel, &last[..1])?;
+                keep_front(&mut self.front, sentinel, last)?;
                 Ok(used)
             }
             Ok(Some(answer)) => {
                 self.hear(&answer, stretch, window, lines)?;
-                self.front.clear();
+                keep_front(&mut self.front, sentinel, last)?;
                 Ok(used)
             }
             Err(NoMemory) => Err(AllocError),
@@ -212,6 +213,8 @@ impl<'a> Viewer<'a> {
         ensures good { IfOk result (λ good. (stream : List ℕ) (answers : List (Answers Values))
             → HasSeen self.old stream answers
             → good ≡ are_all_values (answers ++ added_by_end self.old stream)) }
+        ensures kept { OnOk result ((stream : List ℕ) (answers : List (Answers Values))
+            → HasSeen self.old stream answers → KeepsAll self.old self.new.table stream answers) }
         ensures rows { self.new.table.rows ≡ self.old.table.rows }
     {
         let begun = self.receiver.begun_bytes();
@@ -222,6 +225,13 @@ impl<'a> Viewer<'a> {
         self.hear_damage("cut", begun, lines)?;
         Ok(false)
     }
+}
+
+/// The word for a stretch that isn't a value of the type.
+fn damaged_word(is_deep: bool) -> &'static str
+    ensures { IsDamageWord Answer.Damaged result.now }
+{
+    if is_deep { "too deep" } else { "damaged" }
 }
 
 /// Two dots if there are more than these bytes, else nothing.

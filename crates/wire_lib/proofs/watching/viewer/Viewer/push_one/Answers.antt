@@ -1,44 +1,86 @@
-use Rattle.std.proofs.Common.{[], ◌∷◌, ◌++◌, take, Ok, Some, None, refl, sym, ap, subst, ◌∙◌, append-nil}
+use Rattle.std.proofs.Common.{◌≡◌, ℕ, ◌+◌, ◌-◌, ◌<◌, List, [], ◌∷◌, ◌++◌, length, take, drop, Ok, Some, None, refl, sym, ap, subst, ◌∙◌, arith, append-nil, take-append-drop}
+use Rattle.std.proofs.lemmas.List.{take-take}
 use Rattle.link.specs.Decoding.{in_owner}
-use Rattle.link.specs.Pushes.{Answered}
-use Rattle.link.specs.Listening.{Hears}
+use Rattle.link.specs.Stream.{unfinished}
+use Rattle.link.specs.Pushes.{Answered, IsStretchOf}
+use Rattle.link.specs.Listening.{Hears, HasGiven}
 use Rattle.link.specs.Lemmas.Givens.{heard_behind}
+use Rattle.wire_lib.specs.Fronts.{kept_behind}
+use Rattle.wire_lib.specs.Damages.{HasKept}
 use Rattle.wire_lib.specs.Received.{held_by, read_by}
-use Rattle.wire_lib.specs.Seen.{HasCounted}
+use Rattle.wire_lib.specs.Seen.{HasCounted, KeepsText}
+use Rattle.wire_lib.proofs.LineLemmas.{before_it}
+use Rattle.wire_lib.proofs.DamageLemmas.{kept_none, kept_one}
 use Rattle.wire_lib.proofs.watching.viewer.Viewer.push_one.Goals as goal
+
+-- the bytes that were used, in two parts
+in_parts : (used : ℕ) (rest taken before last : List ℕ) → taken ≡ take used rest
+    → before ≡ take (used - 1) taken → last ≡ drop (used - 1) taken → take used rest ≡ before ++ last
+in_parts used rest taken before last e f g = sym e ∙ sym (take-append-drop (used - 1) taken)
+    ∙ ap (λ x. x ++ drop (used - 1) taken) (sym f) ∙ ap (λ x. before ++ x) (sym g)
 
 pub returns-in_ok-keep_front-in-Ok-None-clause-seen : goal.returns-in_ok-keep_front-in-Ok-None-clause-seen
 returns-in_ok-keep_front-in-Ok-None-clause-seen c stream answers h =
     let v = c.args.self.now in
     let p = c.push_next-used in
+    let rest = c.args.rest.now in
+    let used = p.result.used in
     let holds = held_by v.reading in
     let reads = read_by v.reading in
     let s = v.reading.sentinel in
-    let answered = subst (λ a. Answered holds reads 65536 s stream c.args.rest.now p.result.used a) (c.in-Ok-None.is ∙ ap Ok c.in-Ok-None.field-0-is) (p.ensures.answers 65536 s stream h.hears.after) in (
+    let parts = c.split_at-2 in
+    let last = parts.result.1.now in
+    let whole = in_parts used rest c.split_at.result.0.now parts.result.0.now last c.split_at.ensures.front parts.ensures.front parts.ensures.back in
+    let answered = subst (λ a. Answered holds reads 65536 s stream rest used a) (c.in-Ok-None.is ∙ ap Ok c.in-Ok-None.field-0-is) (p.ensures.answers 65536 s stream h.hears.after) in (
       [],
       record {
-        hears = heard_behind holds reads 65536 s stream c.args.rest.now answers (answers ++ []) p.result.used in_owner v.receiver p.new.receiver (Ok None) h.hears (p.ensures.stands 65536 s stream h.hears.after) answered (append-nil answers);
+        hears = heard_behind holds reads 65536 s stream rest answers (answers ++ []) used in_owner v.receiver p.new.receiver (Ok None) h.hears (p.ensures.stands 65536 s stream h.hears.after) answered (append-nil answers);
         counted = subst (λ xs. HasCounted v.table xs) (sym (append-nil answers)) h.counted;
+        kept = kept_none v.reading v.at c.saturating_add-self.result used p.result.stretch stream rest v.front.items c.keep_front-in-Ok-None.new.bytes.items parts.result.0.now last v.table v.table answers
+            h.kept c.saturating_add-self.ensures (c.in_ok-keep_front-in-Ok-None.ensures ∙ ap (λ x. kept_behind s x last) c.in_ok-keep_front.ensures) whole p.ensures.within;
       },
     )
 
-pub returns-in_ok-hear-in-Ok-Some-clause-seen : goal.returns-in_ok-hear-in-Ok-Some-clause-seen
-returns-in_ok-hear-in-Ok-Some-clause-seen c stream answers h =
+pub returns-in_ok-keep_front-in-Ok-Some-clause-seen : goal.returns-in_ok-keep_front-in-Ok-Some-clause-seen
+returns-in_ok-keep_front-in-Ok-Some-clause-seen c stream answers h =
     let v = c.args.self.now in
     let p = c.push_next-used in
+    let rest = c.args.rest.now in
+    let used = p.result.used in
+    let n = p.result.stretch in
     let a = c.in-Ok-Some.answer in
     let holds = held_by v.reading in
     let reads = read_by v.reading in
     let s = v.reading.sentinel in
     let new = c.hear.new.self in
+    let at = c.saturating_add-self.result in
     let xs = answers ++ a ∷ [] in
-    let behind = stream ++ take p.result.used c.args.rest.now in
-    let answered = subst (λ x. Answered holds reads 65536 s stream c.args.rest.now p.result.used x) (c.in-Ok-Some.is ∙ ap Ok c.in-Ok-Some.field-0-is) (p.ensures.answers 65536 s stream h.hears.after) in
-    let hears = heard_behind holds reads 65536 s stream c.args.rest.now answers xs p.result.used in_owner v.receiver p.new.receiver (Ok (Some a)) h.hears (p.ensures.stands 65536 s stream h.hears.after) answered refl in (
+    let behind = stream ++ take used rest in
+    let taken = c.split_at.result.0.now in
+    let parts = c.split_at-2 in
+    let before = parts.result.0.now in
+    let last = parts.result.1.now in
+    let front = c.keep_front-in-Ok-Some.new.bytes.items in
+    let some : 0 < used = p.ensures.forward c.requires in
+    let whole = in_parts used rest taken before last c.split_at.ensures.front parts.ensures.front parts.ensures.back in
+    let first : stream ++ before ≡ stream ++ take (used - 1) rest =
+    ap (λ x. stream ++ x) (parts.ensures.front ∙ ap (take (used - 1)) c.split_at.ensures.front ∙ take-take (used - 1) used rest (omega arith)) in
+    let answered = subst (λ x. Answered holds reads 65536 s stream rest used x) (c.in-Ok-Some.is ∙ ap Ok c.in-Ok-Some.field-0-is) (p.ensures.answers 65536 s stream h.hears.after) in
+    let size = subst (λ x. IsStretchOf s stream rest used x n) (c.in-Ok-Some.is ∙ ap Ok c.in-Ok-Some.field-0-is) (p.ensures.stretch 65536 s stream h.hears.after) in
+    let hears = heard_behind holds reads 65536 s stream rest answers xs used in_owner v.receiver p.new.receiver (Ok (Some a)) h.hears (p.ensures.stands 65536 s stream h.hears.after) answered refl in
+    let given = subst (HasGiven holds reads 65536 s answers) (sym first) (before_it v.reading stream rest answers a used some h.hears.given answered) in
+    let one : length last ≡ 1 = omega (arith, some, parts.ensures.back_len, c.split_at.ensures.front_len) in
+    let many : length before + 1 ≡ used = omega (arith, some, parts.ensures.front_len) in
+    let kept = kept_one v.reading v.at at used n stream rest v.front.items front before last v.table new.table answers a h.kept given hears.given c.saturating_add-self.ensures whole one many p.ensures.within
+    (size ∙ ap (λ x. length (unfinished s x)) (sym first))
+    (λ few. subst (λ x. KeepsText a (at - 1 - n) n x v.table new.table) c.in_ok-keep_front.ensures (c.in_ok-hear-in-Ok-Some.ensures.kept few))
+    (c.in_ok-keep_front-in-Ok-Some.ensures ∙ ap (λ f. kept_behind s f.items last) c.hear.ensures.same.front ∙ ap (λ x. kept_behind s x last) c.in_ok-keep_front.ensures) in (
       a ∷ [],
       record {
         hears = subst (λ x. Hears in_owner (held_by x) (read_by x) 65536 x.sentinel new.receiver xs behind) (sym c.hear.ensures.same.reading)
             (subst (λ x. Hears in_owner holds reads 65536 s x xs behind) (sym c.hear.ensures.same.receiver) hears);
         counted = c.in_ok-hear-in-Ok-Some.ensures.counted answers h.counted;
+        kept = subst (λ x. HasKept x new.at front new.table behind xs) (sym c.hear.ensures.same.reading)
+            (subst (λ x. HasKept v.reading x front new.table behind xs) (sym c.hear.ensures.same.at) kept);
       },
     )
