@@ -184,7 +184,7 @@ fn writer_of_three(flushes: bool) -> Narrow {
 }
 
 #[test]
-fn writers(rt: HostRuntime) {
+fn writers_that_fail(rt: HostRuntime) {
     let mut serializer = Serializer {
         output: WriteFlavor::new(Vec::new(rt.alloc())),
     };
