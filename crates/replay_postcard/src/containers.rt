@@ -1,6 +1,7 @@
 //! Types that have parts, each asked by a function of its parts.
-// A generic call at a type carries the implementations of each of its parts, anew at each call. So what a container adds is
-// carried once, by its function here. An array has none, since the size of one of any type isn't known.
+// A generic call at a type carries the implementations of each of its parts, anew at each call. So
+// what a container adds is carried once, by its function here. An array has none, since the size of
+// one of any type isn't known.
 use crate::messages::{Line, perform};
 use postcard::{Deserialize, DeserializeOwned, Serialize};
 use replay::{Findings, Shown, Trouble};
