@@ -1,7 +1,8 @@
 //! Values that are received by an accumulator.
 use crate::answers::need_end;
 use crate::linked::Line;
-use crate::receiving::{From, reader_of};
+use crate::receiving::{By, receive};
+use line_io::Inlet;
 use link::{Gathered, receive_by_accumulator_with_sentinel};
 use postcard::DeserializeOwned;
 use replay::{Findings, Shown, Trouble};
@@ -14,16 +15,16 @@ pub(crate) fn compare_gathered<T: DeserializeOwned + Shown>(
     findings: &mut Findings,
 ) -> Result<(), Trouble> {
     for each in [usize::MAX, 1] {
-        let answer = gather::<T>(line, reader_of(pieces, each));
+        let answer = receive::<T>(line, By::Accumulator, pieces, each);
         findings.check("receive_by_accumulator", answer, line.wanted)?;
     }
     Ok(())
 }
 
 /// The values that an accumulator of so many bytes gives.
-fn gather<T: DeserializeOwned + Shown>(
+pub(crate) fn gather<T: DeserializeOwned + Shown, R: Inlet + Drop>(
     line: Line<'_>,
-    reader: From<'_>,
+    reader: R,
 ) -> Result<String, Trouble> {
     let Line {
         alloc,
@@ -42,9 +43,9 @@ fn gather<T: DeserializeOwned + Shown>(
 }
 
 /// The values that were gathered, in the words of a line.
-fn show<T: Shown + Drop>(
+fn show<T: Shown + Drop, R: Drop>(
     alloc: Global,
-    gathered: Gathered<T, From<'_>>,
+    gathered: Gathered<T, R>,
 ) -> Result<String, Trouble> {
     let mut text = String::new(alloc);
     for (i, value) in gathered.values.iter().enumerate() {

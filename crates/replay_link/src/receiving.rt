@@ -1,7 +1,8 @@
 //! Streams that a reader gives.
 use crate::answers::{need_end, show_answers};
+use crate::gathering::gather;
 use crate::linked::Line;
-use line_io::Reads;
+use line_io::{Inlet, Reads};
 use link::{
     Received, receive_owned, receive_owned_strict, receive_strict_with_sentinel,
     receive_with_sentinel,
@@ -13,9 +14,6 @@ use std::alloc::Global;
 /// How many bytes a stretch has at most where a sent line is received.
 pub(crate) const HEARD: usize = 1025;
 
-/// What comes from a reader.
-pub(crate) type From<'a> = Reads<Pieces<'a>>;
-
 /// A stream that is received whole.
 #[derive(Clone, Copy, Drop)]
 pub(crate) struct Stream<'a> {
@@ -23,6 +21,41 @@ pub(crate) struct Stream<'a> {
     pub pieces: &'a [Vec<u8>],
     /// The answers, without their places.
     pub wanted: &'a str,
+}
+
+/// What receives a stream.
+#[derive(Clone, Copy, Drop)]
+pub(crate) enum By {
+    /// A receiver of so many bytes.
+    Receiver(usize),
+    /// A receiver whose limit, the line's, is set at run time.
+    OwnedReceiver,
+    /// An accumulator of as many bytes as the line says.
+    Accumulator,
+}
+
+/// What is answered to chunks of which a read gives at most so many bytes.
+pub(crate) fn receive<T: DeserializeOwned + Shown>(
+    line: Line<'_>,
+    by: By,
+    pieces: &[Vec<u8>],
+    each: usize,
+) -> Result<String, Trouble> {
+    receive_from::<T, _>(line, by, reader_of(pieces, each))
+}
+
+/// What is answered to what a reader gives.
+// Of any reader, as the functions below: else each call of `link` carries those of this one anew.
+fn receive_from<T: DeserializeOwned + Shown, R: Inlet + Drop>(
+    line: Line<'_>,
+    by: By,
+    reader: R,
+) -> Result<String, Trouble> {
+    match by {
+        By::Receiver(limit) => receive_all::<T, R>(line, limit, reader),
+        By::OwnedReceiver => receive_by_value::<T, R>(line, line.limit, reader),
+        By::Accumulator => gather::<T, R>(line, reader),
+    }
 }
 
 /// Compares the answers to a stream that comes in its chunks, and to one that comes byte by byte.
@@ -37,10 +70,10 @@ pub(crate) fn compare_received<T: DeserializeOwned + Shown>(
         _ => "receive_owned",
     };
     for each in [usize::MAX, 1] {
-        let answer = receive_all::<T>(line, line.limit, reader_of(pieces, each));
+        let answer = receive::<T>(line, By::Receiver(line.limit), pieces, each);
         findings.check(name, answer, wanted)?;
     }
-    let answer = receive_by_value::<T>(line, line.limit, reader_of(pieces, usize::MAX));
+    let answer = receive::<T>(line, By::OwnedReceiver, pieces, usize::MAX);
     findings.check("receive_owned", answer, wanted)
 }
 
@@ -52,7 +85,7 @@ pub(crate) fn compare_received_strictly<T: DeserializeOwned + Exact + Shown>(
 ) -> Result<(), Trouble> {
     let Stream { pieces, wanted } = stream;
     for each in [usize::MAX, 1] {
-        match receive_all_strictly::<T>(line, reader_of(pieces, each)) {
+        match receive_all_strictly::<T, _>(line, reader_of(pieces, each)) {
             Some(answer) => findings.check("receive_strict", answer, wanted)?,
             None => {}
         }
@@ -66,9 +99,9 @@ pub(crate) fn compare_received_strictly<T: DeserializeOwned + Exact + Shown>(
 }
 
 /// The strict answers of a receiver whose limit is in its type, for two of the limits.
-fn receive_all_strictly<T: DeserializeOwned + Exact + Shown>(
+fn receive_all_strictly<T: DeserializeOwned + Exact + Shown, R: Inlet + Drop>(
     line: Line<'_>,
-    reader: From<'_>,
+    reader: R,
 ) -> Option<Result<String, Trouble>> {
     let Line {
         alloc,
@@ -84,16 +117,16 @@ fn receive_all_strictly<T: DeserializeOwned + Exact + Shown>(
 }
 
 /// A reader of the chunks, of at most so many bytes a call.
-pub(crate) fn reader_of<'a>(pieces: &'a [Vec<u8>], each: usize) -> From<'a> {
+fn reader_of<'a>(pieces: &'a [Vec<u8>], each: usize) -> Reads<Pieces<'a>> {
     Reads::new(Pieces::new(pieces, each))
 }
 
 /// The answers of a receiver of so many bytes: of one whose limit is in its type for three of the limits, since each is compiled
 /// anew, else of one whose limit is set at run time.
-pub(crate) fn receive_all<T: DeserializeOwned + Shown>(
+fn receive_all<T: DeserializeOwned + Shown, R: Inlet + Drop>(
     line: Line<'_>,
     limit: usize,
-    reader: From<'_>,
+    reader: R,
 ) -> Result<String, Trouble> {
     let Line {
         alloc,
@@ -104,26 +137,26 @@ pub(crate) fn receive_all<T: DeserializeOwned + Shown>(
         3 => receive_with_sentinel::<T, _, 3>(alloc, reader, s),
         64 => receive_with_sentinel::<T, _, 64>(alloc, reader, s),
         HEARD => receive_with_sentinel::<T, _, HEARD>(alloc, reader, s),
-        0 | 1 | 8 | 16 | 256 | 512 => return receive_by_value::<T>(line, limit, reader),
+        0 | 1 | 8 | 16 | 256 | 512 => return receive_by_value::<T, R>(line, limit, reader),
         _ => return Err(Trouble::Unreadable),
     };
     show(alloc, received)
 }
 
 /// The answers of a receiver whose limit is set at run time.
-fn receive_by_value<T: DeserializeOwned + Shown>(
+fn receive_by_value<T: DeserializeOwned + Shown, R: Inlet + Drop>(
     line: Line<'_>,
     limit: usize,
-    reader: From<'_>,
+    reader: R,
 ) -> Result<String, Trouble> {
     let received = receive_owned::<T, _>(line.alloc, reader, limit, line.sentinel);
     show(line.alloc, received)
 }
 
 /// The answers that were received, in the words of a line.
-fn show<T: Shown + Drop>(
+fn show<T: Shown + Drop, R: Drop>(
     alloc: Global,
-    received: Received<T, From<'_>>,
+    received: Received<T, R>,
 ) -> Result<String, Trouble> {
     let mut text = String::new(alloc);
     show_answers(&received.answers, &mut text)?;

@@ -3,7 +3,7 @@ ghost use Rattle.std.specs.Prelude.{◌≡◌, length};
 ghost use Rattle.link.specs.Fates.{SenderFitsInMemory};
 
 use crate::linked::Line;
-use crate::receiving::{HEARD, reader_of, receive_all};
+use crate::receiving::{By, HEARD, receive};
 use line_io::Outlet;
 use line_io::memory::{Fault, Out};
 use link::{Fate, SendError, Sender, send_each_with_sentinel};
@@ -64,7 +64,7 @@ fn send_sessions<T: Serialize + DeserializeOwned + Shown>(
 fn hear<T: DeserializeOwned + Shown>(line: Line<'_>, taken: Vec<u8>) -> Result<String, Trouble> {
     let mut pieces = Vec::new(line.alloc);
     pieces.push(taken)?;
-    receive_all::<T>(line, HEARD, reader_of(&pieces, usize::MAX))
+    receive::<T>(line, By::Receiver(HEARD), &pieces, usize::MAX)
 }
 
 /// `K@VALUE:BYTES;VALUE:BYTES;..`: adds what the writer of a session took, and what became of each send.

@@ -3,6 +3,7 @@
 #![tactic(auto)]
 
 mod accumulating;
+mod containers;
 mod messages;
 mod reading;
 mod sizes;

@@ -1,9 +1,13 @@
 //! The types of messages, by their names.
+use crate::containers::{
+    perform_box, perform_map, perform_option, perform_pair, perform_result, perform_results,
+    perform_triple, perform_vec,
+};
 use crate::reading::{read, read_frame, read_owned};
 use crate::writing::write;
 use arrayvec::{ArrayString, ArrayVec};
 use example_by_hand::DataEnum;
-use postcard::fixint::{BE, LE};
+use postcard::fixint::{BE, FixInt, LE};
 use postcard::{Deserialize, DeserializeOwned, Serialize};
 use replay::{Findings, Shown, Trouble, Words};
 use std::alloc::Global;
@@ -20,7 +24,7 @@ enum Task {
 
 /// A line that speaks of a type.
 #[derive(Drop)]
-struct Line<'a> {
+pub(crate) struct Line<'a> {
     alloc: Global,
     task: Task,
     /// The type's name.
@@ -119,7 +123,7 @@ pub(crate) fn replay_read_frame(
 }
 
 /// Does what a line asks of a type that keeps none of the bytes that it is read from.
-fn perform<'a, T: Serialize + Deserialize<&'a [u8]> + DeserializeOwned + Shown>(
+pub(crate) fn perform<'a, T: Serialize + Deserialize<&'a [u8]> + DeserializeOwned + Shown>(
     line: &mut Line<'a>,
     findings: &mut Findings,
 ) -> Result<(), Trouble> {
@@ -184,23 +188,27 @@ fn ask_number(line: &mut Line<'_>, findings: &mut Findings) -> Result<(), Troubl
 /// Asks a number of a fixed width.
 fn ask_fixed(line: &mut Line<'_>, findings: &mut Findings) -> Result<(), Trouble> {
     match line.name {
-        "LE<u16>" => perform::<LE<u16>>(line, findings),
-        "LE<u32>" => perform::<LE<u32>>(line, findings),
-        "LE<u64>" => perform::<LE<u64>>(line, findings),
-        "LE<u128>" => perform::<LE<u128>>(line, findings),
-        "LE<i16>" => perform::<LE<i16>>(line, findings),
-        "LE<i32>" => perform::<LE<i32>>(line, findings),
-        "LE<i64>" => perform::<LE<i64>>(line, findings),
-        "LE<i128>" => perform::<LE<i128>>(line, findings),
-        "BE<u16>" => perform::<BE<u16>>(line, findings),
-        "BE<u32>" => perform::<BE<u32>>(line, findings),
-        "BE<u64>" => perform::<BE<u64>>(line, findings),
-        "BE<u128>" => perform::<BE<u128>>(line, findings),
-        "BE<i16>" => perform::<BE<i16>>(line, findings),
-        "BE<i32>" => perform::<BE<i32>>(line, findings),
-        "BE<i64>" => perform::<BE<i64>>(line, findings),
-        "BE<i128>" => perform::<BE<i128>>(line, findings),
+        "LE<u16>" | "BE<u16>" => ask_either_end::<u16>(line, findings),
+        "LE<u32>" | "BE<u32>" => ask_either_end::<u32>(line, findings),
+        "LE<u64>" | "BE<u64>" => ask_either_end::<u64>(line, findings),
+        "LE<u128>" | "BE<u128>" => ask_either_end::<u128>(line, findings),
+        "LE<i16>" | "BE<i16>" => ask_either_end::<i16>(line, findings),
+        "LE<i32>" | "BE<i32>" => ask_either_end::<i32>(line, findings),
+        "LE<i64>" | "BE<i64>" => ask_either_end::<i64>(line, findings),
+        "LE<i128>" | "BE<i128>" => ask_either_end::<i128>(line, findings),
         _ => ask_text(line, findings),
+    }
+}
+
+/// Asks a number of a fixed width, by its last byte first or by its first.
+fn ask_either_end<T: FixInt + Shown>(
+    line: &mut Line<'_>,
+    findings: &mut Findings,
+) -> Result<(), Trouble> {
+    if line.name.starts_with("LE") {
+        perform::<LE<T>>(line, findings)
+    } else {
+        perform::<BE<T>>(line, findings)
     }
 }
 
@@ -220,19 +228,19 @@ fn ask_text<'a>(line: &mut Line<'a>, findings: &mut Findings) -> Result<(), Trou
 /// Asks a vector.
 fn ask_vector(line: &mut Line<'_>, findings: &mut Findings) -> Result<(), Trouble> {
     match line.name {
-        "Vec<u8>" => perform::<Vec<u8>>(line, findings),
-        "Vec<i64>" => perform::<Vec<i64>>(line, findings),
-        "Vec<u16>" => perform::<Vec<u16>>(line, findings),
-        "Vec<bool>" => perform::<Vec<bool>>(line, findings),
-        "Vec<char>" => perform::<Vec<char>>(line, findings),
-        "Vec<String>" => perform::<Vec<String>>(line, findings),
-        "Vec<[u8;3]>" => perform::<Vec<[u8; 3]>>(line, findings),
-        "Vec<LE<u16>>" => perform::<Vec<LE<u16>>>(line, findings),
-        "Vec<Vec<u8>>" => perform::<Vec<Vec<u8>>>(line, findings),
-        "Vec<(u8,u16)>" => perform::<Vec<(u8, u16)>>(line, findings),
-        "Vec<DataEnum>" => perform::<Vec<DataEnum>>(line, findings),
-        "Vec<Option<i32>>" => perform::<Vec<Option<i32>>>(line, findings),
-        "Vec<Result<u8,()>>" => perform::<Vec<Result<u8, ()>>>(line, findings),
+        "Vec<u8>" => perform_vec::<u8>(line, findings),
+        "Vec<i64>" => perform_vec::<i64>(line, findings),
+        "Vec<u16>" => perform_vec::<u16>(line, findings),
+        "Vec<bool>" => perform_vec::<bool>(line, findings),
+        "Vec<char>" => perform_vec::<char>(line, findings),
+        "Vec<String>" => perform_vec::<String>(line, findings),
+        "Vec<[u8;3]>" => perform_vec::<[u8; 3]>(line, findings),
+        "Vec<LE<u16>>" => perform_vec::<LE<u16>>(line, findings),
+        "Vec<Vec<u8>>" => perform_vec::<Vec<u8>>(line, findings),
+        "Vec<(u8,u16)>" => perform_vec::<(u8, u16)>(line, findings),
+        "Vec<DataEnum>" => perform_vec::<DataEnum>(line, findings),
+        "Vec<Option<i32>>" => perform_vec::<Option<i32>>(line, findings),
+        "Vec<Result<u8,()>>" => perform_vec::<Result<u8, ()>>(line, findings),
         _ => ask_array(line, findings),
     }
 }
@@ -261,15 +269,15 @@ fn ask_array(line: &mut Line<'_>, findings: &mut Findings) -> Result<(), Trouble
 /// Asks a tuple.
 fn ask_tuple(line: &mut Line<'_>, findings: &mut Findings) -> Result<(), Trouble> {
     match line.name {
-        "(BE<u32>,u8)" => perform::<(BE<u32>, u8)>(line, findings),
+        "(BE<u32>,u8)" => perform_pair::<BE<u32>, u8>(line, findings),
         "(bool,i16,char,u64)" => perform::<(bool, i16, char, u64)>(line, findings),
-        "(i32,u8,u64)" => perform::<(i32, u8, u64)>(line, findings),
+        "(i32,u8,u64)" => perform_triple::<i32, u8, u64>(line, findings),
         "(i8,u16,i32,u64,i128,bool)" => perform::<(i8, u16, i32, u64, i128, bool)>(line, findings),
         "(u16,u8,u128,u64,u32)" => perform::<(u16, u8, u128, u64, u32)>(line, findings),
         "(u8,)" => perform::<(u8,)>(line, findings),
-        "(u8,u16)" => perform::<(u8, u16)>(line, findings),
-        "(u8,u32,String)" => perform::<(u8, u32, String)>(line, findings),
-        "(u8,u8)" => perform::<(u8, u8)>(line, findings),
+        "(u8,u16)" => perform_pair::<u8, u16>(line, findings),
+        "(u8,u32,String)" => perform_triple::<u8, u32, String>(line, findings),
+        "(u8,u8)" => perform_pair::<u8, u8>(line, findings),
         _ => ask_choice(line, findings),
     }
 }
@@ -277,20 +285,20 @@ fn ask_tuple(line: &mut Line<'_>, findings: &mut Findings) -> Result<(), Trouble
 /// Asks an option, a result or a box.
 fn ask_choice(line: &mut Line<'_>, findings: &mut Findings) -> Result<(), Trouble> {
     match line.name {
-        "Box<u32>" => perform::<Box<u32>>(line, findings),
-        "Box<Option<Box<u8>>>" => perform::<Box<Option<Box<u8>>>>(line, findings),
-        "Option<()>" => perform::<Option<()>>(line, findings),
-        "Option<u8>" => perform::<Option<u8>>(line, findings),
-        "Option<u16>" => perform::<Option<u16>>(line, findings),
-        "Option<String>" => perform::<Option<String>>(line, findings),
-        "Option<Option<bool>>" => perform::<Option<Option<bool>>>(line, findings),
-        "Option<Vec<Result<(u8,String),[u16;2]>>>" => perform::<
-            Option<Vec<Result<(u8, String), [u16; 2]>>>,
-        >(line, findings),
-        "Result<u8,u8>" => perform::<Result<u8, u8>>(line, findings),
-        "Result<u8,u16>" => perform::<Result<u8, u16>>(line, findings),
-        "Result<(),String>" => perform::<Result<(), String>>(line, findings),
-        "Result<Vec<u8>,bool>" => perform::<Result<Vec<u8>, bool>>(line, findings),
+        "Box<u32>" => perform_box::<u32>(line, findings),
+        "Box<Option<Box<u8>>>" => perform_box::<Option<Box<u8>>>(line, findings),
+        "Option<()>" => perform_option::<()>(line, findings),
+        "Option<u8>" => perform_option::<u8>(line, findings),
+        "Option<u16>" => perform_option::<u16>(line, findings),
+        "Option<String>" => perform_option::<String>(line, findings),
+        "Option<Option<bool>>" => perform_option::<Option<bool>>(line, findings),
+        "Option<Vec<Result<(u8,String),[u16;2]>>>" => perform_results::<(u8, String), [u16; 2]>(
+            line, findings,
+        ),
+        "Result<u8,u8>" => perform_result::<u8, u8>(line, findings),
+        "Result<u8,u16>" => perform_result::<u8, u16>(line, findings),
+        "Result<(),String>" => perform_result::<(), String>(line, findings),
+        "Result<Vec<u8>,bool>" => perform_result::<Vec<u8>, bool>(line, findings),
         _ => ask_other(line, findings),
     }
 }
@@ -298,12 +306,10 @@ fn ask_choice(line: &mut Line<'_>, findings: &mut Findings) -> Result<(), Troubl
 /// Asks a map or an enum.
 fn ask_other(line: &mut Line<'_>, findings: &mut Findings) -> Result<(), Trouble> {
     match line.name {
-        "BTreeMap<u8,u8>" => perform::<BTreeMap<u8, u8>>(line, findings),
-        "BTreeMap<u16,String>" => perform::<BTreeMap<u16, String>>(line, findings),
-        "BTreeMap<String,Vec<u8>>" => perform::<BTreeMap<String, Vec<u8>>>(line, findings),
-        "BTreeMap<i8,BTreeMap<bool,u16>>" => perform::<BTreeMap<i8, BTreeMap<bool, u16>>>(
-            line, findings,
-        ),
+        "BTreeMap<u8,u8>" => perform_map::<u8, u8>(line, findings),
+        "BTreeMap<u16,String>" => perform_map::<u16, String>(line, findings),
+        "BTreeMap<String,Vec<u8>>" => perform_map::<String, Vec<u8>>(line, findings),
+        "BTreeMap<i8,BTreeMap<bool,u16>>" => perform_map::<i8, BTreeMap<bool, u16>>(line, findings),
         "DataEnum" => perform::<DataEnum>(line, findings),
         _ => ask_nothings(line, findings),
     }
@@ -312,12 +318,12 @@ fn ask_other(line: &mut Line<'_>, findings: &mut Findings) -> Result<(), Trouble
 /// Asks a container of nothings that the lines of other families don't name.
 fn ask_nothings(line: &mut Line<'_>, findings: &mut Findings) -> Result<(), Trouble> {
     match line.name {
-        "Vec<()>" => perform::<Vec<()>>(line, findings),
+        "Vec<()>" => perform_vec::<()>(line, findings),
         "[();3]" => perform::<[(); 3]>(line, findings),
-        "Box<()>" => perform::<Box<()>>(line, findings),
+        "Box<()>" => perform_box::<()>(line, findings),
         "((),)" => perform::<((),)>(line, findings),
-        "Result<(),()>" => perform::<Result<(), ()>>(line, findings),
-        "BTreeMap<u8,()>" => perform::<BTreeMap<u8, ()>>(line, findings),
+        "Result<(),()>" => perform_result::<(), ()>(line, findings),
+        "BTreeMap<u8,()>" => perform_map::<u8, ()>(line, findings),
         _ => Err(Trouble::Unreadable),
     }
 }

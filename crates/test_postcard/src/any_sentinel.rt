@@ -54,10 +54,6 @@ fn and_back(rt: HostRuntime) {
             ),
         ],
     );
-}
-
-#[test]
-fn accumulator(rt: HostRuntime) {
     let mut accumulator = CobsAccumulator::<4>::new_with_sentinel(0xFF);
     check_all(
         &rt,

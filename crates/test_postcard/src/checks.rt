@@ -11,7 +11,7 @@ pub(crate) fn check(rt: &impl Abort, is_right: bool) {
 
 /// Whether each of these holds. All are found first: calls in a row are cheaper to prove than one after another's success.
 pub(crate) fn all_true<const N: usize>(found: [bool; N]) -> bool {
-    found == [true; N]
+    !found.contains(&false)
 }
 
 /// Ends a test that found one of these wrong.

@@ -8,7 +8,7 @@ const FRAME: [u8; 5] = [9, 0, 1, 8, 6];
 
 // A decoder goes on after a byte of its buffer that is changed in mid-frame.
 #[test]
-fn lent_buffer(rt: HostRuntime) {
+fn lent_buffers(rt: HostRuntime) {
     let mut buffer = [0u8; 4];
     let mut decoder = CobsDecoder::new(&mut buffer);
     let begun = goes_on(decoder.push(&[5, 1, 2]));
@@ -23,11 +23,7 @@ fn lent_buffer(rt: HostRuntime) {
             are_equal(decoder.dest(), &[9, 2, 3, 4]),
         ],
     );
-}
-
-// A frame of two bytes is refused, and its end once more.
-#[test]
-fn refused_twice(rt: HostRuntime) {
+    // A frame of two bytes is refused, and its end once more.
     let mut buffer = [0u8; 1];
     let mut decoder = CobsDecoder::new(&mut buffer);
     let small = DecodeError::TargetBufTooSmall;
@@ -63,7 +59,7 @@ fn full_block_of_another_sentinel(rt: HostRuntime) {
 }
 
 #[test]
-fn array_that_is_given(rt: HostRuntime) {
+fn arrays(rt: HostRuntime) {
     let mut vec: ArrayVec<u8, 4> = ArrayVec::new();
     vec.push(7);
     let mut decoder = CobsDecoderHeapless::new_with_vec(vec);
@@ -77,10 +73,6 @@ fn array_that_is_given(rt: HostRuntime) {
             are_equal(decoder.dest(), &[6, 0, 0, 0]),
         ],
     );
-}
-
-#[test]
-fn arrays_of_their_own(rt: HostRuntime) {
     let mut decoder: CobsDecoderHeapless<4> = CobsDecoderHeapless::new();
     let dest = decoder.dest_mut();
     let length = dest.len();
@@ -136,15 +128,6 @@ fn begins_again(decoder: &mut CobsDecoderOwned) -> bool {
     ])
 }
 
-#[test]
-fn vector_of_another_sentinel(rt: HostRuntime) {
-    let is_right = match CobsDecoderOwned::new_with_sentinel(rt.alloc(), 4, 10) {
-        Ok(mut decoder) => begins_again(&mut decoder),
-        Err(_) => false,
-    };
-    check(&rt, is_right);
-}
-
 // Whether the buffer of a decoder of three bytes can be changed, also in a frame that is then given up.
 fn is_changed(decoder: &mut CobsDecoderOwned) -> bool {
     let begun = goes_on(decoder.feed(2));
@@ -194,7 +177,11 @@ const OTHERS: [(usize, bool, &[u8]); 3] = [
 ];
 
 #[test]
-fn vector_of_its_own(rt: HostRuntime) {
+fn vectors(rt: HostRuntime) {
+    let goes_on_again = match CobsDecoderOwned::new_with_sentinel(rt.alloc(), 4, 10) {
+        Ok(mut decoder) => begins_again(&mut decoder),
+        Err(_) => false,
+    };
     let is_right = match CobsDecoderOwned::new(rt.alloc(), 3) {
         Ok(mut decoder) => all_true([
             are_equal(decoder.dest(), &[0, 0, 0]),
@@ -207,7 +194,7 @@ fn vector_of_its_own(rt: HostRuntime) {
         ]),
         Err(_) => false,
     };
-    check(&rt, is_right);
+    check(&rt, goes_on_again && is_right);
 }
 
 // Whether a decoder of three bytes takes its frames in through each change of its buffer.

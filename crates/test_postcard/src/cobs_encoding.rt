@@ -7,7 +7,7 @@ use cobs::*;
 const MESSAGE: [u8; 4] = [10, 11, 0, 12];
 
 #[test]
-fn greatest_lengths(rt: HostRuntime) {
+fn greatest_lengths_and_a_front(rt: HostRuntime) {
     let lengths = [
         max_encoding_length(0),
         max_encoding_length(253),
@@ -19,6 +19,16 @@ fn greatest_lengths(rt: HostRuntime) {
     check(
         &rt,
         lengths == [1, 254, 255, 257, 510, 512] && max_encoding_overhead(509) == 3,
+    );
+    let mut room = [0u8; 5];
+    let mut front = FrameFront::begin_with_sentinel(&mut room, 255);
+    check_all(
+        &rt,
+        [
+            front.push(&mut room, &[1]).is_ok(),
+            front.length() == 2,
+            begin_with(&room, &[0xFD, 0xFE]),
+        ],
     );
 }
 
@@ -96,20 +106,6 @@ fn what_is_behind_a_long_frame_stays(rt: HostRuntime) {
             check(&rt, leaves(&message, 0) && leaves(&message, 10));
         }
     }
-}
-
-#[test]
-fn front_of_a_frame(rt: HostRuntime) {
-    let mut room = [0u8; 5];
-    let mut front = FrameFront::begin_with_sentinel(&mut room, 255);
-    check_all(
-        &rt,
-        [
-            front.push(&mut room, &[1]).is_ok(),
-            front.length() == 2,
-            begin_with(&room, &[0xFD, 0xFE]),
-        ],
-    );
 }
 
 // A message in chunks, and what an encoder makes of it in so many bytes.

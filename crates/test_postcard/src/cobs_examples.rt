@@ -3,23 +3,15 @@ use crate::checks::{are_equal, check, decodes, fails, gives, goes_on, takes};
 use cobs::*;
 
 #[test]
-fn lengths(rt: HostRuntime) {
+fn encoded_at_once(rt: HostRuntime) {
     check(&rt, max_encoding_length(254) == 255);
     check(&rt, max_encoding_length(255) == 257);
     check(&rt, max_encoding_overhead(0) == 1);
     check(&rt, encoded_length(&[10, 11, 0, 12]) == 5);
     check(&rt, before_sentinel(&[3, 10, 11, 0, 12], 0) == 3);
-}
-
-#[test]
-fn a_frame_that_does_not_fit(rt: HostRuntime) {
     let mut small = [0u8; 4];
     let refused = try_encode(&[10, 11, 0, 12], &mut small);
     check(&rt, refused == Err(DestBufTooSmallError));
-}
-
-#[test]
-fn encoded_in_place(rt: HostRuntime) {
     let mut buffer = [0u8, 10, 11, 0, 12];
     check(&rt, encode_in_place(&mut buffer, 4, 0) == 5);
     check(&rt, are_equal(&buffer, &[3, 10, 11, 2, 12]));
@@ -33,10 +25,6 @@ fn encoded_in_chunks(rt: HostRuntime) {
     check(&rt, encoder.push(&[0, 12]).is_ok());
     check(&rt, encoder.finalize() == 5);
     check(&rt, are_equal(&buffer, &[3, 10, 11, 2, 12]));
-}
-
-#[test]
-fn a_buffer_at_each_call(rt: HostRuntime) {
     let mut buffer = [0u8; 5];
     let mut front = FrameFront::begin(&mut buffer);
     check(&rt, front.push(&mut buffer, &[10, 11]).is_ok());
@@ -59,17 +47,15 @@ fn byte_by_byte(rt: HostRuntime) {
 }
 
 #[test]
-fn decoded_in_place(rt: HostRuntime) {
+fn decoded_at_once(rt: HostRuntime) {
     let mut line = [3u8, 10, 11, 2, 12, 0, 7];
     check(&rt, decodes(decode_in_place_report(&mut line), 5, 4));
     check(&rt, are_equal(&line[..4], &[10, 11, 0, 12]));
     let mut cut = [3u8, 10];
     let refused = DecodeError::InvalidFrame { decoded_bytes: 1 };
     check(&rt, fails(decode_in_place(&mut cut), refused));
-}
-
-#[test]
-fn a_report(rt: HostRuntime) {
+    let refused = DecodeVecError::Decode(DecodeError::EmptyFrame);
+    check(&rt, fails(decode_vec(rt.alloc(), &[0, 0]), refused));
     let mut message = [0u8; 4];
     let decoded: Result<DecodingResult, DecodeError> = decode(&[3, 10, 11, 2, 12, 0], &mut message);
     let is_whole = match decoded {
@@ -80,29 +66,15 @@ fn a_report(rt: HostRuntime) {
 }
 
 #[test]
-fn into_vectors(rt: HostRuntime) {
-    let refused = DecodeVecError::Decode(DecodeError::EmptyFrame);
-    check(&rt, fails(decode_vec(rt.alloc(), &[0, 0]), refused));
-}
-
-#[test]
 fn decoded_in_chunks(rt: HostRuntime) {
     let mut buffer = [0u8; 4];
     let mut decoder = CobsDecoder::new(&mut buffer);
     check(&rt, goes_on(decoder.push(&[3, 10, 11, 2])));
     check(&rt, takes(decoder.push(&[12, 0, 7]), 2, 4));
     check(&rt, are_equal(decoder.dest(), &[10, 11, 0, 12]));
-}
-
-#[test]
-fn decoded_into_an_array(rt: HostRuntime) {
     let mut decoder = CobsDecoderHeapless::<4>::new();
     check(&rt, takes(decoder.push(&[3, 10, 11, 2, 12, 0]), 6, 4));
     check(&rt, gives(decoder.decode_whole(&[2, 7]), 1));
-}
-
-#[test]
-fn decoded_into_its_own_buffer(rt: HostRuntime) {
     let is_decoded = match CobsDecoderOwned::new(rt.alloc(), 4) {
         Ok(mut decoder) => takes(decoder.push(&[3, 10, 11, 2, 12, 0]), 6, 4),
         Err(_) => false,

@@ -61,7 +61,7 @@ impl Read for Broken<'_> {
 }
 
 #[test]
-fn a_slice_gives_its_bytes(rt: HostRuntime) {
+fn a_slice_gives_its_bytes_and_the_rest(rt: HostRuntime) {
     let mut slice = Slice::new(&[1, 2, 3, 4]);
     check_all(
         &rt,
@@ -73,6 +73,13 @@ fn a_slice_gives_its_bytes(rt: HostRuntime) {
             gives_bytes(slice.try_take_n(1), &[3]),
             gives_bytes(slice.finalize(), &[4]),
         ],
+    );
+    let source = Slice::new(&[4, 0, 4, 1, 2, 3]);
+    let mut d = Deserializer::from_flavor(rt.alloc(), source);
+    check(
+        &rt,
+        gives(<(u8, u8, u8)>::deserialize(&mut d), (4, 0, 4))
+            && gives_bytes(d.finalize(), &[1, 2, 3]),
     );
 }
 
@@ -186,17 +193,6 @@ fn a_reader_that_fails_or_is_interrupted_after_each_byte(rt: HostRuntime) {
             gives(read_broken(rt.alloc(), 9, false), true),
             gives(read_broken(rt.alloc(), 9, true), true),
         ],
-    );
-}
-
-#[test]
-fn the_rest_after_a_tuple(rt: HostRuntime) {
-    let source = Slice::new(&[4, 0, 4, 1, 2, 3]);
-    let mut d = Deserializer::from_flavor(rt.alloc(), source);
-    check(
-        &rt,
-        gives(<(u8, u8, u8)>::deserialize(&mut d), (4, 0, 4))
-            && gives_bytes(d.finalize(), &[1, 2, 3]),
     );
 }
 
@@ -391,22 +387,19 @@ fn is_whole(value: &Whole) -> bool {
     ])
 }
 
+type InFixedRoom = (
+    std::result::Result<bool, u8>,
+    ArrayVec<u8, 1>,
+    ArrayString<1>,
+    Box<u8>,
+);
+
 #[test]
 fn what_borrows_nothing(rt: HostRuntime) {
     let bytes = [1, 9, 1, 3, 1, 0x61, 1, 4, 5, 6, 0];
     let read = read_owned::<Whole>(rt.alloc(), &bytes, 1);
     check(&rt, matches!(&read, Some(value) if is_whole(value)));
-}
-
-#[test]
-fn what_borrows_nothing_in_fixed_room(rt: HostRuntime) {
-    type Whole = (
-        std::result::Result<bool, u8>,
-        ArrayVec<u8, 1>,
-        ArrayString<1>,
-        Box<u8>,
-    );
-    let read = read_owned::<Whole>(rt.alloc(), &[0, 1, 1, 7, 1, 0x62, 8], 0);
+    let read = read_owned::<InFixedRoom>(rt.alloc(), &[0, 1, 1, 7, 1, 0x62, 8], 0);
     check(
         &rt,
         matches!(&read, Some((Ok(true), items, _, _)) if are_equal(items, &[7])),

@@ -35,8 +35,17 @@ fn is_buffer(alloc: Global, bytes: &[u8]) -> bool {
     }
 }
 
+// Three hundred numbers, each by itself.
+fn three_hundred(alloc: Global) -> Result<BTreeMap<u16, u16>, AllocError> {
+    let mut map = BTreeMap::new(alloc);
+    for key in 0..300u16 {
+        map.insert(key, key)?;
+    }
+    Ok(map)
+}
+
 #[test]
-fn a_hundred_thousand_letters(rt: HostRuntime) {
+fn a_hundred_thousand_letters_and_a_map(rt: HostRuntime) {
     let alloc = rt.alloc();
     let are_read = match letters(alloc) {
         Ok(bytes) => {
@@ -46,7 +55,14 @@ fn a_hundred_thousand_letters(rt: HostRuntime) {
         }
         Err(_) => false,
     };
-    check(&rt, are_read);
+    let is_read = match three_hundred(alloc) {
+        Ok(map) => match to_stdvec(alloc, &map) {
+            Ok(bytes) => map.len() == 300 && goes_back::<BTreeMap<u16, u16>>(alloc, &bytes),
+            Err(_) => false,
+        },
+        Err(_) => false,
+    };
+    check(&rt, are_read && is_read);
 }
 
 // A count of 4095, and less than one element.
@@ -74,27 +90,6 @@ fn a_count_alone_asks_for_nothing(rt: HostRuntime) {
             is_refused,
         ],
     );
-}
-
-fn three_hundred(alloc: Global) -> Result<BTreeMap<u16, u16>, AllocError> {
-    let mut map = BTreeMap::new(alloc);
-    for key in 0..300u16 {
-        map.insert(key, key)?;
-    }
-    Ok(map)
-}
-
-#[test]
-fn a_map_of_three_hundred(rt: HostRuntime) {
-    let alloc = rt.alloc();
-    let is_read = match three_hundred(alloc) {
-        Ok(map) => match to_stdvec(alloc, &map) {
-            Ok(bytes) => map.len() == 300 && goes_back::<BTreeMap<u16, u16>>(alloc, &bytes),
-            Err(_) => false,
-        },
-        Err(_) => false,
-    };
-    check(&rt, is_read);
 }
 
 // Refuses itself, by the error that it holds.

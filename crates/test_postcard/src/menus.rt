@@ -29,27 +29,21 @@ fn is_written(alloc: Global, menu: &Menu, wanted: &[u8]) -> bool {
 
 /// A menu is written as its nodes, each after those below it.
 #[test]
-fn menu_as_nodes(rt: HostRuntime) {
+fn menu_as_nodes_and_back(rt: HostRuntime) {
     let alloc = rt.alloc();
     let is_right = match sample(alloc) {
         Ok(menu) => is_written(alloc, &menu, &BYTES),
         Err(_) => false,
     };
-    check(&rt, is_right);
-}
-
-/// The menu that is read is the one that was written.
-#[test]
-fn menu_from_nodes(rt: HostRuntime) {
-    let alloc = rt.alloc();
-    let is_right = match from_bytes::<Nodes>(alloc, &BYTES) {
+    // The menu that is read is the one that was written.
+    let is_back = match from_bytes::<Nodes>(alloc, &BYTES) {
         Ok(nodes) => match menu_of(alloc, &nodes) {
             Ok(Some(menu)) => is_written(alloc, &menu, &BYTES),
             _ => false,
         },
         Err(_) => false,
     };
-    check(&rt, is_right);
+    check(&rt, is_right && is_back);
 }
 
 // Whether these nodes are those of no menu.

@@ -17,6 +17,14 @@ const FRAME_OF_TEN: [u8; 12] = [
     11, 0xCC, 0xCC, 0xCC, 0xCC, 0xCC, 0xCC, 0xCC, 0xCC, 0xCC, 0xCC, 0,
 ];
 
+// Whether a vector holds so many bytes and has no place beyond them.
+fn is_exact(written: Result<Vec<u8>>, len: usize) -> bool {
+    match written {
+        Ok(vec) => vec.len() == len && vec.capacity() == len,
+        Err(_) => false,
+    }
+}
+
 #[test]
 fn long_values_and_exact_room(rt: HostRuntime) {
     let is_back = match to_stdvec_cobs(rt.alloc(), &LONG) {
@@ -30,23 +38,7 @@ fn long_values_and_exact_room(rt: HostRuntime) {
             matches!(&to_allocvec_cobs(rt.alloc(), &LONG), Ok(frame) if frame.len() == 145),
             is_array(to_vec_cobs::<_, 12>(&TEN), &FRAME_OF_TEN),
             fails(to_vec_cobs::<_, 11>(&TEN), Error::SerializeBufferFull),
-        ],
-    );
-}
-
-// Whether a vector holds so many bytes and has no place beyond them.
-fn is_exact(written: Result<Vec<u8>>, len: usize) -> bool {
-    match written {
-        Ok(vec) => vec.len() == len && vec.capacity() == len,
-        Err(_) => false,
-    }
-}
-
-#[test]
-fn short_vectors_have_no_place_to_spare(rt: HostRuntime) {
-    check_all(
-        &rt,
-        [
+            // Short vectors have no place to spare.
             is_exact(to_allocvec(rt.alloc(), &300u32), 2),
             is_exact(to_allocvec_cobs(rt.alloc(), &300u32), 4),
         ],
@@ -77,13 +69,21 @@ pub(crate) fn is_value(answer: FeedResult<'_, u8>, wanted: u8, left: usize) -> b
 }
 
 #[test]
-fn lent_bytes(rt: HostRuntime) {
+fn lent_bytes_and_refused_frames(rt: HostRuntime) {
     let mut accumulator: CobsAccumulator<4> = CobsAccumulator::default();
     let is_lent = match accumulator.feed_ref::<&[u8]>(rt.alloc(), &[3, 1, 8, 0]) {
         FeedResult::Success { value, remaining } => are_equal(value, &[8]) && remaining.is_empty(),
         _ => false,
     };
     check(&rt, is_lent);
+    // Whole frames that are refused: one of a block that is cut, one of no bytes, one that doesn't fit.
+    let mut accumulator: CobsAccumulator<10> = CobsAccumulator::new();
+    let cut = accumulator.feed(rt.alloc(), &[11, 1, 1, 1, 1, 1, 1, 1, 1, 0, 5]);
+    let is_cut = is_refused(cut, 1);
+    let empty = accumulator.feed(rt.alloc(), &[0, 2, 7, 0, 1, 1, 1, 1, 1]);
+    let is_empty = is_refused(empty, 8);
+    let long = accumulator.feed(rt.alloc(), &[11, 1, 1, 1, 1, 1, 1, 1, 1, 1, 1, 0, 5]);
+    check_all(&rt, [is_cut, is_empty, is_over_full(long, 1)]);
 }
 
 // Whether the frame of 300 times 01, in two chunks, is returned after the second.
@@ -115,16 +115,4 @@ fn a_frame_whole_and_in_two(rt: HostRuntime) {
             is_gathered(rt.alloc(), &frame[..cut], &frame[cut..]),
         );
     }
-}
-
-// Whole frames that are refused: one of a block that is cut, one of no bytes, one that doesn't fit.
-#[test]
-fn whole_frames_that_are_refused(rt: HostRuntime) {
-    let mut accumulator: CobsAccumulator<10> = CobsAccumulator::new();
-    let cut = accumulator.feed(rt.alloc(), &[11, 1, 1, 1, 1, 1, 1, 1, 1, 0, 5]);
-    let is_cut = is_refused(cut, 1);
-    let empty = accumulator.feed(rt.alloc(), &[0, 2, 7, 0, 1, 1, 1, 1, 1]);
-    let is_empty = is_refused(empty, 8);
-    let long = accumulator.feed(rt.alloc(), &[11, 1, 1, 1, 1, 1, 1, 1, 1, 1, 1, 0, 5]);
-    check_all(&rt, [is_cut, is_empty, is_over_full(long, 1)]);
 }

@@ -1,5 +1,5 @@
 //! `postcard`, reading: worked rows by each call.
-use crate::checks::{are_equal, check, check_all, fails, gives, is_text};
+use crate::checks::{are_equal, check_all, fails, gives, is_text};
 use postcard::fixint::{be, le};
 use postcard::laws::round_trip;
 use postcard::{Deserializer, Error, Result as Answer, from_io};
@@ -33,6 +33,16 @@ fn reads_texts(alloc: Global, buffer: &mut [u8], left: &[u8]) -> Answer<bool> {
     }
 }
 
+// Whether both are read as texts of their own, and all of the buffer is left.
+fn reads_own_texts(alloc: Global, buffer: &mut [u8], left: usize) -> bool {
+    match from_io::<(String, String), _>(alloc, (&TEXTS[..], buffer)) {
+        Ok(((a, b), (unread, rest))) => {
+            is_text(&a, "ab") && is_text(&b, "cd") && unread.is_empty() && rest.len() == left
+        }
+        Err(_) => false,
+    }
+}
+
 // What a value borrows is kept at the start of the buffer, and the rest of it stays.
 #[test]
 fn by_reader(rt: HostRuntime) {
@@ -44,20 +54,9 @@ fn by_reader(rt: HostRuntime) {
             gives(reads_texts(alloc, &mut [0; 4], &[]), true),
             gives(reads_texts(alloc, &mut [9; 6], &[9, 9]), true),
             fails(cut, Error::DeserializeUnexpectedEnd),
+            reads_own_texts(alloc, &mut [0; 2], 2),
         ],
     );
-}
-
-#[test]
-fn owned_by_reader(rt: HostRuntime) {
-    let mut two = [0u8; 2];
-    let is_read = match from_io::<(String, String), _>(rt.alloc(), (&TEXTS[..], &mut two)) {
-        Ok(((a, b), (left, rest))) => {
-            is_text(&a, "ab") && is_text(&b, "cd") && left.is_empty() && rest.len() == 2
-        }
-        Err(_) => false,
-    };
-    check(&rt, is_read);
 }
 
 // Whether a number and a text are those that are written below.

@@ -153,10 +153,6 @@ fn the_front_of_the_room(rt: HostRuntime) {
             begin_with(&frame, &[5, 3, 0x48, 0x69, 0x21, 0]),
         ],
     );
-}
-
-#[test]
-fn the_front_of_a_slice(rt: HostRuntime) {
     let mut room = [0xEEu8; 8];
     let mut slice = Slice::new(&mut room);
     check_all(

@@ -59,7 +59,7 @@ fn fills<B: IndexByte>(slice: &mut B) -> bool {
 }
 
 #[test]
-fn slices(rt: HostRuntime) {
+fn slices_and_sizes(rt: HostRuntime) {
     let mut room = [0u8; 4];
     let mut slice = Slice::new(&mut room);
     let mut given = [9, 2, 3, 4];
@@ -70,6 +70,15 @@ fn slices(rt: HostRuntime) {
             is_slice(slice.finalize(), &[9, 2, 3, 4]),
             fill(300, &mut given) == Ok(2),
             are_equal(&given, &[0xAC, 0x02, 3, 4]),
+        ],
+    );
+    let mut size = Size::default();
+    check_all(
+        &rt,
+        [
+            size.try_extend(&[0; 300]).is_ok(),
+            size.try_push(0).is_ok(),
+            size.finalize() == Ok(301),
         ],
     );
 }
@@ -115,7 +124,7 @@ fn vectors(rt: HostRuntime) {
     );
 }
 
-/// Where a growth is refused, the flavor holds what it held.
+/// Where a growth is refused, the flavor holds what it held; so does one that extends a vector.
 #[test]
 fn out_of_memory(rt: HostRuntime) {
     let mut vec = AllocVec::new(rt.alloc());
@@ -127,30 +136,12 @@ fn out_of_memory(rt: HostRuntime) {
         };
         check(&rt, is_right);
     }
-}
-
-/// As above, of a vector that is extended.
-#[test]
-fn out_of_memory_for_more(rt: HostRuntime) {
     let mut extended = ExtendFlavor::new(Vec::new(rt.alloc()));
     let is_right = match extended.try_extend(&[1; 40]) {
         Ok(()) => is_vector(extended.finalize(), &[1; 40]),
         Err(cause) => cause == Error::OutOfMemory && is_vector(extended.finalize(), &[]),
     };
     check(&rt, is_right);
-}
-
-#[test]
-fn sizes(rt: HostRuntime) {
-    let mut size = Size::default();
-    check_all(
-        &rt,
-        [
-            size.try_extend(&[0; 300]).is_ok(),
-            size.try_push(0).is_ok(),
-            size.finalize() == Ok(301),
-        ],
-    );
 }
 
 /// Takes so many bytes, one a call, and then fails.
@@ -183,18 +174,6 @@ impl Write for Narrow {
     }
 }
 
-#[test]
-fn writers(rt: HostRuntime) {
-    let mut serializer = Serializer {
-        output: WriteFlavor::new(Vec::new(rt.alloc())),
-    };
-    let written = [serializer.serialize_u32(300), serializer.output.try_push(5)];
-    check(
-        &rt,
-        succeed(written) && is_vector(serializer.output.finalize(), &[0xAC, 0x02, 5]),
-    );
-}
-
 // A writer that takes three bytes.
 fn writer_of_three(flushes: bool) -> Narrow {
     Narrow {
@@ -206,6 +185,14 @@ fn writer_of_three(flushes: bool) -> Narrow {
 
 #[test]
 fn writers_that_fail(rt: HostRuntime) {
+    let mut serializer = Serializer {
+        output: WriteFlavor::new(Vec::new(rt.alloc())),
+    };
+    let written = [serializer.serialize_u32(300), serializer.output.try_push(5)];
+    check(
+        &rt,
+        succeed(written) && is_vector(serializer.output.finalize(), &[0xAC, 0x02, 5]),
+    );
     let mut open = writer_of_three(true);
     let mut serializer = Serializer {
         output: WriteFlavor::new(&mut open),

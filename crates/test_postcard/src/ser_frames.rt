@@ -47,8 +47,13 @@ fn is_masked<T: Serialize>(value: &T) -> bool {
     is_array(written, &[0x09, 0xA6, 0x08, 0x0A])
 }
 
+// Rows; and a full block, one of nothing after it, and the end.
 #[test]
-fn rows(rt: HostRuntime) {
+fn rows_and_a_full_block(rt: HostRuntime) {
+    let mut frame = [1u8; 257];
+    frame[0] = 255;
+    frame[256] = 0;
+    let written = framed(&[1u8; 254], Cobs::try_new(AllocVec::new(rt.alloc())));
     check_all(
         &rt,
         [
@@ -56,18 +61,9 @@ fn rows(rt: HostRuntime) {
             is_framed(&"Hi!", &[5, 3, 0x48, 0x69, 0x21, 0]),
             is_masked(&300u32),
             is_masked(&(0xACu8, 2u8)),
+            is_vector(written, &frame),
         ],
     );
-}
-
-// A full block, one of nothing after it, and the end.
-#[test]
-fn full_blocks(rt: HostRuntime) {
-    let mut frame = [1u8; 257];
-    frame[0] = 255;
-    frame[256] = 0;
-    let written = framed(&[1u8; 254], Cobs::try_new(AllocVec::new(rt.alloc())));
-    check(&rt, is_vector(written, &frame));
 }
 
 /// Each growth that is refused is out of memory, and nothing else.

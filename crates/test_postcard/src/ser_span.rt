@@ -17,10 +17,7 @@ fn bytes_are_written(rt: HostRuntime) {
         are_equal(span.front(1), &[0]),
     ]);
     check(&rt, is_written && are_equal(span.into_behind(), &[9, 1, 2]));
-}
-
-#[test]
-fn a_front_stays_while_the_rest_is_written(rt: HostRuntime) {
+    // A front stays while the rest is written.
     let mut buffer = [1u8, 2, 3, 4];
     let (front, mut rest) = Span::new(&mut buffer).split_front(2);
     rest.push(8);
@@ -63,11 +60,7 @@ fn kinds_of_access(rt: HostRuntime) {
     check(&rt, size(&writable) == 4);
     let readable: Span<'_, ReadOnly> = Span::over(&[1, 2]);
     check(&rt, size(&readable) == 2);
-}
-
-// The right to bytes takes no space beside the pointer to them.
-#[test]
-fn a_right_has_no_size(rt: HostRuntime) {
+    // The right to bytes takes no space beside the pointer to them.
     check(&rt, size_of::<Memory<'static, Writable>>() == 0);
     check(&rt, size_of::<Start>() == 8);
 }

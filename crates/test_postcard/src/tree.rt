@@ -1,7 +1,7 @@
 //! `postcard_tree`: published numbers, and the limits of each width.
 use crate::checks::{all_true, are_equal, begin_with, check, check_all};
 use arrayvec::{ArrayString, ArrayVec};
-use postcard::Deserialize;
+use postcard::{Deserialize, Grows};
 use postcard_tree::fixint::{BE, FixInt, LE};
 use postcard_tree::varint::{
     VarintInt, max_of_last_byte, varint_max, varint_u16, varint_u32, varint_u64, varint_u128,
@@ -49,21 +49,6 @@ fn has_limits<T: VarintInt, S: VarintInt>(max: usize, last: u8) -> bool {
     maxima == (max, max) && lasts == (last, last)
 }
 
-#[test]
-fn numbers_have_their_limits(rt: HostRuntime) {
-    check_all(
-        &rt,
-        [
-            has_limits::<u8, i8>(2, 1),
-            has_limits::<u16, i16>(3, 3),
-            has_limits::<u32, i32>(5, 15),
-            has_limits::<u64, i64>(10, 1),
-            has_limits::<usize, isize>(10, 1),
-            has_limits::<u128, i128>(19, 3),
-        ],
-    );
-}
-
 // Whether a number's bytes are these from its last one on, and those from its first.
 fn is_put<T: FixInt>(value: T, little: &[u8], big: &[u8]) -> bool {
     are_equal(LE(value).put(&mut [0; 16]), little) && are_equal(BE(value).put(&mut [0; 16]), big)
@@ -99,10 +84,16 @@ fn has_size<T: FixInt + PartialEq>(number: T, size: usize) -> bool {
 }
 
 #[test]
-fn fixed_numbers_have_their_sizes(rt: HostRuntime) {
+fn numbers_have_their_limits_and_sizes(rt: HostRuntime) {
     check_all(
         &rt,
         [
+            has_limits::<u8, i8>(2, 1),
+            has_limits::<u16, i16>(3, 3),
+            has_limits::<u32, i32>(5, 15),
+            has_limits::<u64, i64>(10, 1),
+            has_limits::<usize, isize>(10, 1),
+            has_limits::<u128, i128>(19, 3),
             has_size(u16::MAX, 2),
             has_size(u32::MAX - 1, 4),
             has_size(u64::MAX - 2, 8),
@@ -115,6 +106,7 @@ fn fixed_numbers_have_their_sizes(rt: HostRuntime) {
     );
 }
 
+// Whether a type that can be read asks for memory.
 fn grows<'de, T: Deserialize<&'de [u8]>>() -> bool {
     T::grows()
 }
@@ -122,17 +114,18 @@ fn grows<'de, T: Deserialize<&'de [u8]>>() -> bool {
 #[test]
 fn types_that_ask_for_memory(rt: HostRuntime) {
     let plain = [
-        grows::<(bool, u8, i8, u16, i128, usize)>(),
-        grows::<(char, (), &[u8], &str, ArrayString<4>, LE<u32>)>(),
-        grows::<[Option<ArrayVec<BE<u16>, 3>>; 2]>(),
+        grows::<&[u8]>(),
+        <(bool, u8, i8, u16, i128, usize)>::grows(),
+        <(char, (), &[u8], &str, ArrayString<4>, LE<u32>)>::grows(),
+        <[Option<ArrayVec<BE<u16>, 3>>; 2]>::grows(),
     ];
     let growing = [
         grows::<String>(),
-        grows::<Vec<u8>>(),
-        grows::<Box<u8>>(),
-        grows::<BTreeMap<u8, u8>>(),
-        grows::<std::result::Result<u8, String>>(),
-        grows::<(u8, [Option<Box<u8>>; 2])>(),
+        <Vec<u8>>::grows(),
+        <Box<u8>>::grows(),
+        <BTreeMap<u8, u8>>::grows(),
+        <std::result::Result<u8, String>>::grows(),
+        <(u8, [Option<Box<u8>>; 2])>::grows(),
     ];
-    check(&rt, plain == [false; 3] && growing == [true; 6]);
+    check(&rt, plain == [false; 4] && growing == [true; 6]);
 }
