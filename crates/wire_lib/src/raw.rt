@@ -58,6 +58,35 @@ fn take_kept<'a>(reading: Reading<'_>, message: &'a [u8]) -> postcard::Result<(V
     }
 }
 
+/// Appends the line of a message that begins with this value, and one about the bytes after it, if there are any; returns whether
+/// there are none.
+fn put_taken(
+    reading: Reading<'_>,
+    value: &Value,
+    rest: &[u8],
+    message: &[u8],
+    text: &mut Vec<u8>,
+    lines: &mut Vec<u8>,
+) -> Result<bool, AllocError>
+    requires { ReadsFront (read_by reading) message.now rest.now value.now }
+    ensures { IfOk result (λ good. good ≡ true
+        → ShowsWhole reading.entry message.now lines.old.items lines.new.items) }
+{
+    let alloc = reading.alloc;
+    let to = message.len() as u64;
+    if reading.strict && !is_written(reading, value, message)? {
+        put_stretch_line(alloc, "damaged", 0, to, lines)?;
+        return Ok(false);
+    }
+    put_value_line(reading, value, text, lines)?;
+    if rest.is_empty() {
+        return Ok(true);
+    }
+    let from = to.saturating_sub(rest.len() as u64);
+    put_stretch_line(alloc, "rest", from, to, lines)?;
+    Ok(false)
+}
+
 /// Appends the line of a message without a frame, and returns whether the whole message is a value of the type.
 ///
 /// The line is `{"value": ..}`, followed by `{"rest": {"from": .., "to": ..}}` if bytes are left over; else `damaged` or `too_deep`
@@ -75,25 +104,12 @@ pub fn put_message(
     ensures good { IfOk result (λ good. good ≡ true
         → ShowsWhole reading.entry message.now lines.old.items lines.new.items) }
 {
-    let alloc = reading.alloc;
-    let to = message.len() as u64;
     match take_kept(reading, message) {
-        Ok((value, rest)) => {
-            if reading.strict && !is_written(reading, &value, message)? {
-                put_stretch_line(alloc, "damaged", 0, to, lines)?;
-                return Ok(false);
-            }
-            put_value_line(reading, &value, text, lines)?;
-            if rest.is_empty() {
-                return Ok(true);
-            }
-            let from = to.saturating_sub(rest.len() as u64);
-            put_stretch_line(alloc, "rest", from, to, lines)?;
-            Ok(false)
-        }
+        Ok((value, rest)) => put_taken(reading, &value, rest, message, text, lines),
         Err(Error::OutOfMemory) => Err(AllocError),
         Err(error) => {
-            put_stretch_line(alloc, what_of(reading, error, message), 0, to, lines)?;
+            let what = what_of(reading, error, message);
+            put_stretch_line(reading.alloc, what, 0, message.len() as u64, lines)?;
             Ok(false)
         }
     }
