@@ -1,12 +1,17 @@
 //! The types of `example_station::nested`, which hold one another, go over a line at three sentinels, and a pair that is lent. The
 //! bytes are as postcard's format has them.
 use crate::checks::{all_true, check, writes};
-use example_station::nested::{Borrower, Deep, Drawing, Holders, Message, Point, Sample, Text};
+use example_station::nested::{
+    Borrower, Deep, Drawing, Holders, Message, Point, Sample, Six, Text,
+};
 use line_io::memory::{In, Out};
 use link::{Answer, Sender, read_in_place_with_sentinel, receive_with_sentinel};
 use postcard::experimental::max_size::MaxSize;
 use postcard::fixint::{BE, LE};
-use postcard::{Deserialize, DeserializeOwned, Serialize, from_bytes, from_bytes_owned};
+use postcard::{
+    AsShape, Deserialize, DeserializeOwned, MatchesShape, Readable, Serialize, ShapeOf, Shaped,
+    from_bytes, from_bytes_owned,
+};
 use std::alloc::Global;
 
 /// The sentinels.
@@ -68,6 +73,26 @@ fn crossed<T: Serialize + DeserializeOwned>(alloc: Global, bytes: &[u8]) -> Opti
     }
 }
 
+/// The same of a message type, by its shape: a caller carries what the shape is read by, once.
+fn crossed_by_shape<
+    S: DeserializeOwned,
+    M: Shaped<Shape = S> + MatchesShape + Readable<Form = AsShape> + Serialize + Drop,
+>(alloc: Global, bytes: &[u8]) -> Option<M> {
+    crossed::<M>(alloc, bytes)
+}
+
+/// The same of a type that is six tuples round another one.
+fn crossed_by_six<
+    T: DeserializeOwned,
+    M: Shaped<Shape = ((((((T, u8), u8), u8), u8), u8), u8)>
+        + MatchesShape
+        + Readable<Form = AsShape>
+        + Serialize
+        + Drop,
+>(alloc: Global, bytes: &[u8]) -> Option<M> {
+    crossed_by_shape::<((((((T, u8), u8), u8), u8), u8), u8), M>(alloc, bytes)
+}
+
 /// What a text is spelled as.
 const TEXT: &[u8] = &[2, 72, 105, 7];
 
@@ -77,7 +102,7 @@ fn is_the_text(text: &Text) -> bool {
 }
 
 fn text_crosses(alloc: Global) -> bool {
-    match crossed::<Text>(alloc, TEXT) {
+    match crossed_by_shape::<ShapeOf<Text>, Text>(alloc, TEXT) {
         Some(text) => is_the_text(&text),
         None => false,
     }
@@ -118,7 +143,7 @@ const THE_DRAWING: Drawing = Drawing {
 };
 
 fn drawing_crosses(alloc: Global) -> bool {
-    match crossed::<Drawing>(alloc, DRAWING) {
+    match crossed_by_shape::<ShapeOf<Drawing>, Drawing>(alloc, DRAWING) {
         Some(drawing) => drawing == THE_DRAWING,
         None => false,
     }
@@ -133,7 +158,7 @@ fn is_the_sample(sample: &Sample<u8, 3>) -> bool {
 }
 
 fn sample_crosses(alloc: Global) -> bool {
-    match crossed::<Sample<u8, 3>>(alloc, SAMPLE) {
+    match crossed_by_shape::<ShapeOf<Sample<u8, 3>>, Sample<u8, 3>>(alloc, SAMPLE) {
         Some(sample) => is_the_sample(&sample),
         None => false,
     }
@@ -148,7 +173,7 @@ fn structs(rt: HostRuntime) {
         text_crosses(alloc),
         drawing_crosses(alloc),
         sample_crosses(alloc),
-        crossed::<Deep>(alloc, DEEP).is_some(),
+        crossed_by_six::<Six, Deep>(alloc, DEEP).is_some(),
     ];
     check(&rt, all_true(are_crossing));
     check(&rt, Drawing::postcard_max_size() == Some(12 + 5 + 41));
@@ -209,7 +234,7 @@ fn is_the_message(message: &Message, variant: usize) -> bool {
 /// Whether each of these messages crosses, and is what its bytes say.
 fn are_crossing(alloc: Global) -> bool {
     for (variant, bytes) in MESSAGES.iter().enumerate() {
-        match crossed::<Message>(alloc, bytes) {
+        match crossed_by_shape::<ShapeOf<Message>, Message>(alloc, bytes) {
             Some(message) if is_the_message(&message, variant) => {}
             _ => return false,
         }

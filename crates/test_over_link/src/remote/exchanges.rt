@@ -183,6 +183,16 @@ fn wait_by<D: Decoding, M: MessageReader<(u64, u32)>>(
     wait_with(alloc, receiver, messages, reader, waiting, &mut [0u8; 64])
 }
 
+// The same, ordinarily.
+fn wait_ordinarily<D: Decoding>(
+    alloc: Global,
+    receiver: &mut Reception<D>,
+    reader: &mut In<'_>,
+    waiting: &mut Asking,
+) -> Option<End> {
+    wait_by(alloc, receiver, &Ordinary(OfType), reader, waiting)
+}
+
 // Whether 7 was received, and no call is pending.
 fn has_heard(waiting: &mut Asking) -> bool {
     is_reply(waiting.said, 7)
@@ -196,13 +206,7 @@ fn a_call_is_replied(rt: HostRuntime) {
     let (is_called, mut waiting) = calling(alloc);
     let mut receiver = Receiver::<8>::new();
     let mut reader = In::new(&CALL, 1, None);
-    let end = wait_by(
-        alloc,
-        &mut receiver,
-        &Ordinary(OfType),
-        &mut reader,
-        &mut waiting,
-    );
+    let end = wait_ordinarily(alloc, &mut receiver, &mut reader, &mut waiting);
     check(&rt, is_called && end.is_none() && has_heard(&mut waiting));
 }
 
@@ -216,13 +220,7 @@ fn takes_ordinarily(alloc: Global, receiver: &mut OwnedReceiver) -> bool {
     let ended = wait_by(alloc, receiver, &Strict(OfType), &mut reader, &mut waiting);
     let is_pending = is_read(ended) && is_number(waiting.client.pending(), 5);
     let mut reader = In::new(&LONGER, 2, None);
-    let end = wait_by(
-        alloc,
-        receiver,
-        &Ordinary(OfType),
-        &mut reader,
-        &mut waiting,
-    );
+    let end = wait_ordinarily(alloc, receiver, &mut reader, &mut waiting);
     is_called && is_pending && end.is_none() && is_reply(waiting.said, 7)
 }
 
@@ -267,13 +265,7 @@ fn an_old_reply_is_let_go(rt: HostRuntime) {
     let mut receiver = Receiver::<8>::new();
     let mut reader = In::new(&CALL, 100, None);
     for is_last in [false, true] {
-        let end = wait_by(
-            alloc,
-            &mut receiver,
-            &Ordinary(OfType),
-            &mut reader,
-            &mut waiting,
-        );
+        let end = wait_ordinarily(alloc, &mut receiver, &mut reader, &mut waiting);
         let is_right = end.is_some() == is_last && waiting.said.is_none() == is_last;
         check(&rt, is_right && (is_last || waiting.client.call(8).is_ok()));
     }

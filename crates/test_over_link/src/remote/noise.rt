@@ -6,7 +6,7 @@ use crate::checks::check;
 use crate::remote::served::{KEY, Line, line, sender};
 use calls::{Application, Checked, Client, Numbered, Replies, Server, Service, Waiting};
 use line_io::memory::In;
-use link::{OfType, Ordinary, Receiver};
+use link::{Hearer, OfType, Ordinary, Receiver};
 use sealed::Keyed;
 use std::alloc::Global;
 
@@ -83,6 +83,23 @@ impl Noise {
     }
 }
 
+// Brings bytes to a side.
+fn bring<H: Hearer<(u64, Numbered<u32, KEY>)>>(
+    alloc: Global,
+    receiver: &mut Receiver<48>,
+    bytes: &[u8],
+    side: &mut H,
+) {
+    let mut reader = In::new(bytes, 1024, None);
+    let _ = receiver.listen_with::<(u64, Numbered<u32, KEY>), _, _, _>(
+        alloc,
+        &Ordinary(OfType),
+        &mut reader,
+        side,
+        &mut [0u8; 1024],
+    );
+}
+
 // The two sides, and what is between them.
 #[derive(Drop)]
 struct Sides {
@@ -98,32 +115,24 @@ impl Sides {
     fn ask(&mut self, alloc: Global) {
         let asked = self.console.hearer.client.replace_inner(line(alloc));
         let came = self.noise.spoil(alloc, asked.into_inner().as_slice());
-        let mut reader = In::new(came.as_slice(), 1024, None);
-        let _ = self
-            .to_device
-            .listen_with::<(u64, Numbered<u32, KEY>), _, _, _>(
-                alloc,
-                &Ordinary(OfType),
-                &mut reader,
-                &mut self.device,
-                &mut [0u8; 1024],
-            );
+        bring(
+            alloc,
+            &mut self.to_device,
+            came.as_slice(),
+            &mut self.device,
+        );
     }
 
     // Brings what the server wrote to the client.
     fn tell(&mut self, alloc: Global) {
         let told = self.device.hearer.server.replace_inner(line(alloc));
         let came = self.noise.spoil(alloc, told.into_inner().as_slice());
-        let mut reader = In::new(came.as_slice(), 1024, None);
-        let _ = self
-            .to_console
-            .listen_with::<(u64, Numbered<u32, KEY>), _, _, _>(
-                alloc,
-                &Ordinary(OfType),
-                &mut reader,
-                &mut self.console,
-                &mut [0u8; 1024],
-            );
+        bring(
+            alloc,
+            &mut self.to_console,
+            came.as_slice(),
+            &mut self.console,
+        );
     }
 
     // Calls by this value, up to eight times: the number inside and the value of the reply, if one was received.
