@@ -7,6 +7,7 @@
 #![tactic(auto)]
 
 pub mod bounds;
+mod by_shape;
 pub mod laws;
 pub mod messages;
 pub mod nested;
