@@ -10,6 +10,7 @@ use declaration_parser::reading::declarations;
 use declaration_parser::tokens::{Read, tokens_of};
 use std::alloc::{AllocError, Global};
 use std::collections::BTreeMap;
+use std::slice;
 
 /// What is said if no file is named.
 const NO_FILE: &str = "no file of declarations is named\n";
@@ -128,7 +129,7 @@ pub fn read_schema(alloc: Global, text: &str) -> Result<Schema, Error>
     ensures declared { IfOk result (λ s. length s.types.items ≤ length s.nodes.items) }
 {
     let read = tokens_of(alloc, "", text)?;
-    read_all(alloc, &[read])
+    read_all(alloc, slice::from_ref(&read))
 }
 
 /// Returns what [`read_schema`] does, of the declarations of all these files.

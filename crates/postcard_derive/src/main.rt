@@ -29,7 +29,7 @@ use declaration_parser::tokens::tokens_of;
 use help::answer;
 use std::alloc::{AllocError, Global};
 use std::process::ExitCode;
-use std::{env, io};
+use std::{env, io, slice};
 
 /// The path of the definitions of a module: of the crate and the modules in it that these name; empty if one is no name.
 fn path_of(alloc: Global, names: &[String]) -> Result<String, AllocError> {
@@ -48,10 +48,10 @@ fn path_of(alloc: Global, names: &[String]) -> Result<String, AllocError> {
 fn run(rt: &HostRuntime, path: &str, with_schemas: bool) -> io::Result<u8> {
     let alloc = rt.alloc();
     let text = io::read_to_string(alloc, rt.reader())?;
-    let read = [tokens_of(alloc, "", text.as_str())?];
-    let [file] = &read;
+    let file = tokens_of(alloc, "", text.as_str())?;
+    let files = slice::from_ref(&file);
     let scope = Origins::of(alloc, &file.tokens)?;
-    let (all, faults) = declarations(alloc, Purpose::Implementations, &read)?;
+    let (all, faults) = declarations(alloc, Purpose::Implementations, files)?;
     let uses = uses_of(alloc, &scope, &all)?;
     let refused = refused(alloc, &scope, &uses, &all)?;
     if !faults.is_empty() || !refused.is_empty() {

@@ -5,6 +5,7 @@ ghost use Rattle.wire_c_lib.specs.Texts.{IsUnrefused};
 use crate::terms::{Told, is_flag};
 use declarations::{Error, Schema, Source, read_type};
 use std::alloc::Global;
+use std::slice;
 use wire_lib::DEPTH;
 use wire_lib::sizes::bound_lists;
 use wire_lib::summed::add_summed;
@@ -59,7 +60,7 @@ fn read_words(told: Told<'_>) -> Result<(Schema, usize), WireFailure>
         file: String::new(alloc),
         text,
     };
-    match read_type(alloc, &[source], words) {
+    match read_type(alloc, slice::from_ref(&source), words) {
         Ok(it) => Ok(it),
         Err(Error::Wrong(lines)) => Err(WireFailure::Wrong(lines)),
         Err(Error::OutOfMemory) => Err(WireFailure::OutOfMemory),
