@@ -5,6 +5,8 @@
 mod floats;
 mod looks;
 pub mod parse;
+mod parts;
+mod plain;
 pub mod print;
 pub mod raw;
 pub mod receive;
