@@ -5,8 +5,6 @@
 mod floats;
 mod looks;
 pub mod parse;
-mod parts;
-mod plain;
 pub mod print;
 pub mod raw;
 pub mod receive;

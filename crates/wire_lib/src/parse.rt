@@ -2,131 +2,744 @@
 ghost use Rattle.std.specs.Prelude.{IfOk};
 ghost use Rattle.wire_lib.specs.Parsed.{IsOfType};
 
-use crate::parts::{
-    Around, Given, Part, Parts, Plan, check_members, count, inside_part, part_at, plan_of,
-};
-use crate::plain::{Parsed, byte_values_of_digits, value_of_json, value_of_key};
+use crate::floats::{float_of_number, float_of_word};
+use crate::looks::{PRESENT, has_text_keys, is_byte, is_empty, may_be_null};
 use crate::table::as_read;
-use crate::wrong::{ParseError, at_column, inside, refusal};
+use crate::wrong::{ParseError, at_column, inside, inside_element, refusal};
 use json::{Error, Reader, Scratch, Value as Json};
-use schema_table::Schema;
-use schemas::{Node, Value};
+use schema_table::{Names, Schema};
+use schemas::{Integer, IntegerType, Node, Value};
 use std::alloc::Global;
 use std::str::from_utf8;
+
+type Parsed = Result<Value, ParseError>;
 
 /// The error for more nested nodes than allowed.
 const TOO_DEEP: &str = "the value is nested too deeply: `depth=` sets the limit";
 
-/// The allocator, the table of types, and what a variant without fields is read from: `null`.
-#[derive(Clone, Copy, Drop)]
-struct By<'a, 'b> {
-    alloc: Global,
-    schema: &'b Schema,
-    null: &'b Json<'a>,
+/// The error for an index that the table hasn't.
+const NO_TYPE: &str = "the schema has no such type";
+
+fn boolean(json: &Json<'_>) -> Parsed {
+    match json {
+        Json::Bool(b) => Ok(Value::Bool(*b)),
+        _ => Err(refusal("expected true or false")),
+    }
 }
 
-/// A value of these parts.
-fn of_parts(node: &Node, parts: Vec<Value>) -> Parsed {
-    let count = parts.len() as u64;
+/// A character from a string of one character.
+fn character(json: &Json<'_>) -> Parsed {
+    match json {
+        Json::String(text) => char_of(text),
+        _ => Err(refusal("expected a string of one character")),
+    }
+}
+
+/// The only character of a text.
+fn char_of(text: &str) -> Parsed {
+    let mut characters = text.chars();
+    match (characters.next(), characters.next()) {
+        (Some(c), None) => Ok(Value::Char(c)),
+        _ => Err(refusal("expected a string of one character")),
+    }
+}
+
+fn text(alloc: Global, json: &Json<'_>) -> Parsed {
+    match json {
+        Json::String(text) => Ok(Value::Text(String::from_str(alloc, text)?)),
+        _ => Err(refusal("expected a string")),
+    }
+}
+
+/// A text of at most `most` bytes.
+fn text_up_to(alloc: Global, most: u64, held: &str) -> Parsed {
+    if held.len() as u64 > most {
+        return Err(refusal("the string is too long"));
+    }
+    Ok(Value::Text(String::from_str(alloc, held)?))
+}
+
+/// The same from JSON.
+fn short_text(alloc: Global, most: u64, json: &Json<'_>) -> Parsed {
+    match json {
+        Json::String(held) => text_up_to(alloc, most, held),
+        _ => Err(refusal("expected a string")),
+    }
+}
+
+/// A byte from a number.
+fn byte(json: &Json<'_>) -> Result<u8, ParseError> {
+    match json {
+        Json::Number(text) => match text.parse::<u8>() {
+            Ok(byte) => Ok(byte),
+            Err(_) => Err(refusal("expected a number from 0 to 255")),
+        },
+        _ => Err(refusal("expected a byte")),
+    }
+}
+
+/// Bytes from an array of numbers.
+fn bytes_of_numbers(alloc: Global, elements: &[Json<'_>]) -> Result<Vec<u8>, ParseError> {
+    let mut bytes = Vec::new(alloc);
+    for element in elements {
+        match byte(element) {
+            Ok(byte) => bytes.push(byte)?,
+            Err(error) => return Err(inside_element(alloc, bytes.len(), error)),
+        }
+    }
+    Ok(bytes)
+}
+
+/// Bytes from hexadecimal digits.
+fn bytes_of_digits(alloc: Global, digits: &str) -> Result<Vec<u8>, ParseError> {
+    let mut bytes = Vec::from_elem(alloc, 0, digits.len() / 2)?;
+    match hex::decode_to_slice(digits.as_bytes(), &mut bytes) {
+        Ok(()) => Ok(bytes),
+        Err(_) => Err(refusal("the string isn't hexadecimal")),
+    }
+}
+
+/// Bytes from an array of numbers or from hexadecimal digits.
+fn bytes_of(alloc: Global, json: &Json<'_>) -> Result<Vec<u8>, ParseError> {
+    match json {
+        Json::Array(elements) => bytes_of_numbers(alloc, elements),
+        Json::String(digits) => bytes_of_digits(alloc, digits),
+        _ => Err(refusal("expected an array of bytes or a string of hexadecimal digits")),
+    }
+}
+
+fn bytes(alloc: Global, json: &Json<'_>) -> Parsed {
+    match bytes_of(alloc, json) {
+        Ok(bytes) => Ok(Value::Bytes(bytes)),
+        Err(error) => Err(error),
+    }
+}
+
+/// An integer, if it is in the range of the type.
+fn integer_of(of: IntegerType, text: &str) -> Option<Integer> {
+    Some(match of {
+        IntegerType::U16 => Integer::U16(text.parse().ok()?),
+        IntegerType::U32 => Integer::U32(text.parse().ok()?),
+        IntegerType::U64 => Integer::U64(text.parse().ok()?),
+        IntegerType::U128 => Integer::U128(text.parse().ok()?),
+        IntegerType::I16 => Integer::I16(text.parse().ok()?),
+        IntegerType::I32 => Integer::I32(text.parse().ok()?),
+        IntegerType::I64 => Integer::I64(text.parse().ok()?),
+        IntegerType::I128 => Integer::I128(text.parse().ok()?),
+    })
+}
+
+/// A number, if it is in the range of the type.
+fn number_of(node: &Node, text: &str) -> Option<Value> {
+    Some(match node {
+        Node::U8 => Value::U8(text.parse().ok()?),
+        Node::U16 => Value::U16(text.parse().ok()?),
+        Node::U32 => Value::U32(text.parse().ok()?),
+        Node::U64 => Value::U64(text.parse().ok()?),
+        Node::U128 => Value::U128(text.parse().ok()?),
+        Node::I8 => Value::I8(text.parse().ok()?),
+        Node::I16 => Value::I16(text.parse().ok()?),
+        Node::I32 => Value::I32(text.parse().ok()?),
+        Node::I64 => Value::I64(text.parse().ok()?),
+        Node::I128 => Value::I128(text.parse().ok()?),
+        Node::LE(of) => Value::LE(integer_of(*of, text)?),
+        Node::BE(of) => Value::BE(integer_of(*of, text)?),
+        _ => return None,
+    })
+}
+
+/// The error for a number out of the range of the type.
+fn range_of(node: &Node) -> &'static str {
     match node {
-        Node::ListUpTo(most, _) if count > *most => {
-            Err(refusal("the list has more elements than the type allows"))
+        Node::U8 => "expected a number from 0 to 255",
+        Node::I8 => "expected a number from -128 to 127",
+        Node::U16 | Node::LE(IntegerType::U16) | Node::BE(IntegerType::U16) =>
+            "expected a number from 0 to 65535",
+        Node::I16 | Node::LE(IntegerType::I16) | Node::BE(IntegerType::I16) =>
+            "expected a number from -32768 to 32767",
+        Node::U32 | Node::LE(IntegerType::U32) | Node::BE(IntegerType::U32) =>
+            "expected a number from 0 to 4294967295",
+        Node::I32 | Node::LE(IntegerType::I32) | Node::BE(IntegerType::I32) =>
+            "expected a number from -2147483648 to 2147483647",
+        Node::U64 | Node::LE(IntegerType::U64) | Node::BE(IntegerType::U64) =>
+            "expected a number from 0 to 2^64 - 1",
+        Node::I64 | Node::LE(IntegerType::I64) | Node::BE(IntegerType::I64) =>
+            "expected a number from -2^63 to 2^63 - 1",
+        Node::U128 | Node::LE(IntegerType::U128) | Node::BE(IntegerType::U128) =>
+            "expected a number from 0 to 2^128 - 1",
+        _ => "expected a number from -2^127 to 2^127 - 1",
+    }
+}
+
+/// Whether a number has a fraction or an exponent.
+fn has_fraction(text: &str) -> bool {
+    text.chars().any(is_of_fraction)
+}
+
+/// Whether a character of a number begins a fraction or an exponent.
+fn is_of_fraction(c: char) -> bool {
+    matches!(c, '.' | 'e' | 'E')
+}
+
+fn number(node: &Node, json: &Json<'_>) -> Parsed {
+    let Json::Number(text) = json else {
+        return Err(refusal("expected a number"));
+    };
+    match number_of(node, text) {
+        Some(value) => Ok(value),
+        None if has_fraction(text) => {
+            Err(refusal("expected a number without fraction or exponent"))
         }
-        Node::Array(wanted, _) if count != *wanted => {
-            Err(refusal("the array has another length than the type's"))
-        }
-        Node::List(_) | Node::ListUpTo(..) => Ok(Value::List(parts)),
-        _ => Ok(Value::Group(parts)),
+        None => Err(refusal(range_of(node))),
     }
 }
 
-/// A value of bytes from hexadecimal digits.
-fn of_digits(alloc: Global, node: &Node, digits: &str) -> Parsed {
-    match byte_values_of_digits(alloc, digits) {
-        Ok(parts) => of_parts(node, parts),
-        Err(error) => Err(error),
+/// The bits of a float: from a number, or from the string of one that isn't finite.
+fn float(of: IntegerType, json: &Json<'_>) -> Parsed {
+    let bits = match json {
+        Json::Number(text) => float_of_number(of, text),
+        Json::String(word) => float_of_word(of, word),
+        _ => return Err(refusal("expected a number")),
+    };
+    match bits {
+        Some(bits) => Ok(Value::LE(bits)),
+        None => Err(refusal(
+            "the float is out of range, or the string is none of `NaN`, `Infinity`, `-Infinity`",
+        )),
     }
 }
 
-/// A value whose parts have been read, unless it has members too many.
-fn whole(alloc: Global, node: &Node, parts: Parts<'_, '_>, read: Vec<Value>) -> Parsed {
-    match check_members(alloc, parts) {
-        Ok(()) => of_parts(node, read),
-        Err(error) => Err(error),
+/// The JSON of a present optional value, which isn't `null`.
+fn present<'a, 'b>(
+    schema: &Schema,
+    place: usize,
+    json: &'b Json<'a>,
+) -> Result<&'b Json<'a>, ParseError> {
+    if !may_be_null(schema, place) {
+        return Ok(json);
     }
+    if let Json::Object(members) = json
+        && let [(name, held)] = members.as_slice()
+        && *name == PRESENT
+    {
+        return Ok(held);
+    }
+    Err(refusal("expected null or {\"Some\": ..}"))
 }
 
-/// A value around another.
-fn around(alloc: Global, around: Around<'_>, held: Value) -> Parsed {
-    match around {
-        Around::Present => Ok(Value::Present(Box::new(alloc, held)?)),
-        Around::Variant(index, _) => Ok(Value::Variant(index, Box::new(alloc, held)?)),
-    }
-}
-
-/// The error of the value inside, with the path to it.
-fn inside_around(alloc: Global, around: Around<'_>, error: ParseError) -> ParseError {
-    match around {
-        Around::Variant(_, Some(name)) => inside(alloc, name, error),
-        _ => error,
-    }
-}
-
-/// A value without parts that are read by themselves.
-fn plain(alloc: Global, plan: Plan<'_, '_>) -> Parsed {
-    match plan {
-        Plan::Json(names, node, json) => value_of_json(alloc, names, node, json),
-        Plan::Key(node, key) => value_of_key(alloc, node, key),
-        Plan::Digits(node, digits) => of_digits(alloc, node, digits),
-        Plan::Wrong(why) => Err(refusal(why)),
-        Plan::WrongIn(name, why) => Err(inside(alloc, name, refusal(why))),
-        _ => Ok(Value::Absent),
-    }
-}
-
-/// The parts of a value.
 #[cycle(parse)]
-fn read_parts<'a, 'b>(
-    by: By<'a, 'b>,
+fn option(alloc: Global, schema: &Schema, place: usize, depth: u32, json: &Json<'_>) -> Parsed {
+    if json.is_null() {
+        return Ok(Value::Absent);
+    }
+    let held = present(schema, place, json)?;
+    let held = value(alloc, schema, place, depth, held)?;
+    Ok(Value::Present(Box::new(alloc, held)?))
+}
+
+/// Values of one type.
+#[cycle(parse)]
+fn items(
+    alloc: Global,
+    schema: &Schema,
+    place: usize,
     depth: u32,
-    parts: Parts<'a, 'b>,
+    elements: &[Json<'_>],
 ) -> Result<Vec<Value>, ParseError> {
-    let mut read = Vec::new(by.alloc);
-    for i in 0..count(parts) {
-        match read_part(by, depth, part_at(parts, i)) {
-            Ok(value) => read.push(value)?,
-            Err(error) => return Err(inside_part(by.alloc, parts, i, error)),
+    let mut items = Vec::new(alloc);
+    for element in elements {
+        match value(alloc, schema, place, depth, element) {
+            Ok(item) => items.push(item)?,
+            Err(error) => return Err(inside_element(alloc, items.len(), error)),
         }
     }
-    Ok(read)
+    Ok(items)
 }
 
-/// The value of a part.
+/// Bytes as values.
+fn byte_values(alloc: Global, bytes: &[u8]) -> Result<Vec<Value>, ParseError> {
+    let mut items = Vec::new(alloc);
+    for byte in bytes {
+        items.push(Value::U8(*byte))?;
+    }
+    Ok(items)
+}
+
+/// Values of one type: from an array, or from hexadecimal digits if the type is `u8`.
 #[cycle(parse)]
-fn read_part<'a, 'b>(by: By<'a, 'b>, depth: u32, part: Part<'a, 'b>) -> Parsed {
-    match part {
-        Part::From(place, source) => value(by, depth, place, source),
-        Part::Wrong(why) => Err(refusal(why)),
+fn elements(
+    alloc: Global,
+    schema: &Schema,
+    place: usize,
+    depth: u32,
+    json: &Json<'_>,
+) -> Result<Vec<Value>, ParseError> {
+    match json {
+        Json::Array(elements) => items(alloc, schema, place, depth, elements),
+        Json::String(digits) if depth > 0 && is_byte(schema, place) => {
+            let bytes = bytes_of_digits(alloc, digits)?;
+            byte_values(alloc, &bytes)
+        }
+        _ if is_byte(schema, place) => {
+            Err(refusal("expected an array of bytes or a string of hexadecimal digits"))
+        }
+        _ => Err(refusal("expected an array")),
+    }
+}
+
+/// A boolean from a key.
+fn truth_of(key: &str) -> Parsed {
+    match key {
+        "true" => Ok(Value::Bool(true)),
+        "false" => Ok(Value::Bool(false)),
+        _ => Err(refusal("the key is neither true nor false")),
+    }
+}
+
+/// A number from a key.
+fn number_key(node: &Node, key: &str) -> Parsed {
+    match number_of(node, key) {
+        Some(value) => Ok(value),
+        None => Err(refusal(range_of(node))),
+    }
+}
+
+/// A value from a key, newtypes and enums apart.
+fn plain_key(alloc: Global, node: &Node, key: &str) -> Parsed {
+    match node {
+        Node::Bool => truth_of(key),
+        Node::Char => char_of(key),
+        Node::Text => Ok(Value::Text(String::from_str(alloc, key)?)),
+        Node::TextUpTo(most) => text_up_to(alloc, *most, key),
+        _ => number_key(node, key),
+    }
+}
+
+/// A variant without fields from a key.
+#[cycle(parse)]
+fn variant_key(
+    alloc: Global,
+    schema: &Schema,
+    names: &Names,
+    payloads: &[usize],
+    depth: u32,
+    key: &str,
+) -> Parsed {
+    let Some(index) = index_of(names, key) else {
+        return Err(refusal("the type has no such variant"));
+    };
+    if index as usize >= payloads.len() {
+        return Err(refusal(NO_TYPE));
+    }
+    let held = value(alloc, schema, payloads[index as usize], depth, &Json::Null)?;
+    Ok(Value::Variant(index, Box::new(alloc, held)?))
+}
+
+/// The key of a map from a member's name.
+#[cycle(parse)]
+fn key_of(alloc: Global, schema: &Schema, place: usize, depth: u32, key: &str) -> Parsed {
+    if depth == 0 {
+        return Err(refusal(TOO_DEEP));
+    }
+    match (schema.nodes.get(place), schema.names.get(place)) {
+        (Some(Node::Struct(fields)), Some(Names::Newtype)) => {
+            let [only] = fields.as_slice() else {
+                return Err(refusal(NO_TYPE));
+            };
+            let held = key_of(alloc, schema, *only, depth - 1, key)?;
+            one_part(alloc, held)
+        }
+        (Some(Node::Enum(payloads)), Some(names)) => {
+            variant_key(alloc, schema, names, payloads, depth - 1, key)
+        }
+        (Some(node), _) => plain_key(alloc, node, key),
+        _ => Err(refusal(NO_TYPE)),
+    }
+}
+
+/// A struct of one field.
+fn one_part(alloc: Global, held: Value) -> Parsed {
+    let mut parts = Vec::new(alloc);
+    parts.push(held)?;
+    Ok(Value::Group(parts))
+}
+
+/// A pair.
+fn two_parts(alloc: Global, first: Value, second: Value) -> Parsed {
+    let mut parts = Vec::new(alloc);
+    parts.push(first)?;
+    parts.push(second)?;
+    Ok(Value::Group(parts))
+}
+
+/// A pair of a map from a member: its name and its value.
+#[cycle(parse)]
+fn pair(
+    alloc: Global,
+    schema: &Schema,
+    fields: &[usize],
+    depth: u32,
+    key: &str,
+    json: &Json<'_>,
+) -> Parsed {
+    let [first, second] = fields else {
+        return Err(refusal(NO_TYPE));
+    };
+    let key = key_of(alloc, schema, *first, depth, key)?;
+    let held = value(alloc, schema, *second, depth, json)?;
+    two_parts(alloc, key, held)
+}
+
+/// A pair of the type at index `place` from a member.
+#[cycle(parse)]
+fn member(
+    alloc: Global,
+    schema: &Schema,
+    place: usize,
+    depth: u32,
+    key: &str,
+    json: &Json<'_>,
+) -> Parsed {
+    if depth == 0 {
+        return Err(refusal(TOO_DEEP));
+    }
+    match schema.nodes.get(place) {
+        Some(Node::Struct(fields)) => pair(alloc, schema, fields, depth - 1, key, json),
+        _ => Err(refusal(NO_TYPE)),
+    }
+}
+
+/// The pairs of a map from an object.
+#[cycle(parse)]
+fn pairs(
+    alloc: Global,
+    schema: &Schema,
+    place: usize,
+    depth: u32,
+    members: &[(&str, Json<'_>)],
+) -> Result<Vec<Value>, ParseError> {
+    let mut items = Vec::new(alloc);
+    for (key, json) in members {
+        match member(alloc, schema, place, depth, key, json) {
+            Ok(item) => items.push(item)?,
+            Err(error) => return Err(inside(alloc, key, error)),
+        }
+    }
+    Ok(items)
+}
+
+/// Values of one type: from an object if they are the pairs of a map whose keys can be texts, else as `elements` does.
+#[cycle(parse)]
+fn list(
+    alloc: Global,
+    schema: &Schema,
+    names: &Names,
+    place: usize,
+    depth: u32,
+    json: &Json<'_>,
+) -> Result<Vec<Value>, ParseError> {
+    match (names, json) {
+        (Names::Map, Json::Object(members)) if has_text_keys(schema, place) => {
+            pairs(alloc, schema, place, depth, members)
+        }
+        (Names::Map, Json::Array(elements)) => items(alloc, schema, place, depth, elements),
+        (Names::Map, _) => Err(refusal("expected an object or an array of pairs")),
+        _ => elements(alloc, schema, place, depth, json),
+    }
+}
+
+/// A list of at most `most` elements.
+#[cycle(parse)]
+fn list_up_to(
+    alloc: Global,
+    schema: &Schema,
+    names: &Names,
+    (most, place): (u64, usize),
+    depth: u32,
+    json: &Json<'_>,
+) -> Parsed {
+    let items = list(alloc, schema, names, place, depth, json)?;
+    if items.len() as u64 > most {
+        return Err(refusal("the list has more elements than the type allows"));
+    }
+    Ok(Value::List(items))
+}
+
+#[cycle(parse)]
+fn array(
+    alloc: Global,
+    schema: &Schema,
+    (count, place): (u64, usize),
+    depth: u32,
+    json: &Json<'_>,
+) -> Parsed {
+    let items = elements(alloc, schema, place, depth, json)?;
+    if items.len() as u64 != count {
+        return Err(refusal("the array has another length than the type's"));
+    }
+    Ok(Value::Group(items))
+}
+
+/// The value of the first member with this name.
+fn named<'a, 'b>(members: &'b [(&'a str, Json<'a>)], name: &str) -> Option<&'b Json<'a>> {
+    for (key, json) in members {
+        if *key == name {
+            return Some(json);
+        }
+    }
+    None
+}
+
+/// The JSON of field `i` of `count`.
+fn part<'a, 'b>(
+    names: &Names,
+    count: usize,
+    i: usize,
+    json: &'b Json<'a>,
+) -> Result<&'b Json<'a>, &'static str> {
+    match (names, json) {
+        (Names::Newtype, _) => Ok(json),
+        (Names::Tuple, Json::Array(elements)) if elements.len() == count => match elements.get(i) {
+            Some(held) => Ok(held),
+            None => Err(NO_TYPE),
+        },
+        (Names::Tuple, _) => Err("expected an array with as many elements as the tuple has"),
+        (Names::Fields(names), Json::Object(members)) => match names.get(i) {
+            Some(name) => named(members, name.as_str()).ok_or("a field is missing"),
+            None => Err(NO_TYPE),
+        },
+        (Names::Fields(_), _) => Err("expected an object with the fields"),
+        _ => Err(NO_TYPE),
+    }
+}
+
+/// The name of a field; empty if it has none.
+fn field_name(names: &Names, i: usize) -> &str {
+    match names {
+        Names::Fields(names) => match names.get(i) {
+            Some(name) => name.as_str(),
+            None => "",
+        },
+        _ => "",
+    }
+}
+
+/// An error with the field where it is.
+fn inside_field(alloc: Global, names: &Names, i: usize, error: ParseError) -> ParseError {
+    match names {
+        Names::Newtype => error,
+        Names::Tuple => inside_element(alloc, i, error),
+        _ => inside(alloc, field_name(names, i), error),
+    }
+}
+
+/// Whether `wanted` is one of these names.
+fn has_name(names: &[String], wanted: &str) -> bool {
+    for name in names {
+        if name.as_str() == wanted {
+            return true;
+        }
+    }
+    false
+}
+
+/// The first name that appears twice.
+fn doubled<'a>(members: &[(&'a str, Json<'a>)]) -> Option<&'a str> {
+    let mut rest = members;
+    for _ in 0..members.len() {
+        let [(name, _), behind @ ..] = rest else {
+            return None;
+        };
+        if named(behind, name).is_some() {
+            return Some(name);
+        }
+        rest = behind;
+    }
+    None
+}
+
+/// Refuses a member that is none of the fields, or that appears twice.
+fn check_members(alloc: Global, names: &Names, json: &Json<'_>) -> Result<(), ParseError> {
+    let (Names::Fields(names), Json::Object(members)) = (names, json) else {
+        return Ok(());
+    };
+    if members.len() == names.len() {
+        return Ok(());
+    }
+    for (key, _) in members {
+        if !has_name(names, key) {
+            return Err(inside(alloc, key, refusal("the type has no such field")));
+        }
+    }
+    match doubled(members) {
+        Some(name) => Err(inside(alloc, name, refusal("the field appears twice"))),
+        None => Ok(()),
+    }
+}
+
+/// Whether this is the JSON of a struct without fields.
+fn is_right_without_fields(names: &Names, json: &Json<'_>) -> bool {
+    match (names, json) {
+        (Names::Unit | Names::Empty, Json::Null) => true,
+        (Names::Tuple, Json::Array(elements)) => elements.is_empty(),
+        (Names::Fields(_), Json::Object(members)) => members.is_empty(),
+        _ => false,
+    }
+}
+
+/// A struct or a tuple.
+#[cycle(parse)]
+fn group(
+    alloc: Global,
+    schema: &Schema,
+    names: &Names,
+    fields: &[usize],
+    depth: u32,
+    json: &Json<'_>,
+) -> Parsed {
+    if fields.is_empty() && !is_right_without_fields(names, json) {
+        return Err(refusal("expected a struct without fields"));
+    }
+    let mut items = Vec::new(alloc);
+    for i in 0..fields.len() {
+        match field(alloc, schema, names, fields, i, depth, json) {
+            Ok(item) => items.push(item)?,
+            Err(error) => return Err(inside_field(alloc, names, i, error)),
+        }
+    }
+    check_members(alloc, names, json)?;
+    Ok(Value::Group(items))
+}
+
+/// The value of field `i`.
+#[cycle(parse)]
+fn field(
+    alloc: Global,
+    schema: &Schema,
+    names: &Names,
+    fields: &[usize],
+    i: usize,
+    depth: u32,
+    json: &Json<'_>,
+) -> Parsed {
+    let Some(place) = fields.get(i) else {
+        return Err(refusal(NO_TYPE));
+    };
+    match part(names, fields.len(), i, json) {
+        Ok(held) => value(alloc, schema, *place, depth, held),
+        Err(why) => Err(refusal(why)),
+    }
+}
+
+/// The name of a variant, and the JSON of its payload, if there is any.
+fn choice<'a, 'b>(json: &'b Json<'a>) -> Option<(&'a str, Option<&'b Json<'a>>)> {
+    match json {
+        Json::String(name) => Some((name, None)),
+        Json::Object(members) => match members.as_slice() {
+            [(name, held)] => Some((name, Some(held))),
+            _ => None,
+        },
+        _ => None,
+    }
+}
+
+/// The index of the variant with this name.
+fn index_of(names: &Names, wanted: &str) -> Option<u32> {
+    let Names::Variants(names) = names else {
+        return None;
+    };
+    let mut index: u32 = 0;
+    for name in names {
+        if name.as_str() == wanted {
+            return Some(index);
+        }
+        index = index.checked_add(1)?;
+    }
+    None
+}
+
+#[cycle(parse)]
+fn variant(
+    alloc: Global,
+    schema: &Schema,
+    names: &Names,
+    payloads: &[usize],
+    depth: u32,
+    json: &Json<'_>,
+) -> Parsed {
+    let Some((name, held)) = choice(json) else {
+        return Err(refusal("expected a variant"));
+    };
+    let Some(index) = index_of(names, name) else {
+        return Err(inside(alloc, name, refusal("the type has no such variant")));
+    };
+    if index as usize >= payloads.len() {
+        return Err(refusal(NO_TYPE));
+    }
+    match payload(alloc, schema, payloads[index as usize], depth, held) {
+        Ok(held) => Ok(Value::Variant(index, Box::new(alloc, held)?)),
+        Err(error) => Err(inside(alloc, name, error)),
+    }
+}
+
+/// The payload of a variant; without fields it has no JSON, or `null`.
+#[cycle(parse)]
+fn payload(
+    alloc: Global,
+    schema: &Schema,
+    place: usize,
+    depth: u32,
+    held: Option<&Json<'_>>,
+) -> Parsed {
+    let is_empty = is_empty(schema, place);
+    match held {
+        None if is_empty => value(alloc, schema, place, depth, &Json::Null),
+        None => Err(refusal("the variant has fields: expected an object with its name as the key")),
+        Some(json) if is_empty && !json.is_null() => {
+            Err(refusal("the variant has no fields: expected its name alone"))
+        }
+        Some(json) => value(alloc, schema, place, depth, json),
+    }
+}
+
+/// A value of a node, with the names of its parts.
+#[cycle(parse)]
+fn of_node(
+    alloc: Global,
+    schema: &Schema,
+    names: &Names,
+    node: &Node,
+    depth: u32,
+    json: &Json<'_>,
+) -> Parsed {
+    match node {
+        Node::Bool => boolean(json),
+        Node::Char => character(json),
+        Node::Text => text(alloc, json),
+        Node::TextUpTo(most) => short_text(alloc, *most, json),
+        Node::Bytes => bytes(alloc, json),
+        Node::Option(inner) => option(alloc, schema, *inner, depth, json),
+        Node::List(inner) => Ok(Value::List(list(alloc, schema, names, *inner, depth, json)?)),
+        Node::ListUpTo(most, inner) => {
+            list_up_to(alloc, schema, names, (*most, *inner), depth, json)
+        }
+        Node::Array(count, inner) => array(alloc, schema, (*count, *inner), depth, json),
+        Node::Struct(fields) => group(alloc, schema, names, fields, depth, json),
+        Node::Enum(payloads) => variant(alloc, schema, names, payloads, depth, json),
+        Node::LE(of) if matches!(names, Names::Float) => float(*of, json),
+        _ => number(node, json),
     }
 }
 
 /// The value of the type at index `place`, with at most `depth` nested nodes.
 #[cycle(parse)]
-fn value<'a, 'b>(by: By<'a, 'b>, depth: u32, place: usize, source: Given<'a, 'b>) -> Parsed {
+fn value(alloc: Global, schema: &Schema, place: usize, depth: u32, json: &Json<'_>) -> Parsed {
     if depth == 0 {
         return Err(refusal(TOO_DEEP));
     }
-    let depth = depth - 1;
-    match plan_of(by.schema, place, depth, source, by.null) {
-        Plan::Around(outer, place, source) => match value(by, depth, place, source) {
-            Ok(held) => around(by.alloc, outer, held),
-            Err(error) => Err(inside_around(by.alloc, outer, error)),
-        },
-        Plan::Parts(node, parts) => match read_parts(by, depth, parts) {
-            Ok(read) => whole(by.alloc, node, parts, read),
-            Err(error) => Err(error),
-        },
-        plan => plain(by.alloc, plan),
+    match (schema.nodes.get(place), schema.names.get(place)) {
+        (Some(node), Some(names)) => of_node(alloc, schema, names, node, depth - 1, json),
+        _ => Err(refusal(NO_TYPE)),
     }
 }
 
@@ -142,34 +755,23 @@ fn value_in<'a, 'b>(json: &'b Json<'a>) -> Option<&'b Json<'a>> {
 }
 
 /// A value by itself, or as `{"value": ..}`; if the line could be both it is the latter.
-fn value_of_line<'a, 'b>(by: By<'a, 'b>, place: usize, depth: u32, json: &'b Json<'a>) -> Parsed {
-    let Some(held) = value_in(json) else {
-        return value(by, depth, place, Given::Json(json));
-    };
-    match value(by, depth, place, Given::Json(held)) {
-        Err(ParseError::Wrong(why)) => match value(by, depth, place, Given::Json(json)) {
-            Err(ParseError::Wrong(_)) => Err(ParseError::Wrong(why)),
-            whole => whole,
-        },
-        read => read,
-    }
-}
-
-/// The same, where `null` is at hand.
-fn value_of_document(
+fn value_of_line(
     alloc: Global,
     schema: &Schema,
     place: usize,
     depth: u32,
     json: &Json<'_>,
 ) -> Parsed {
-    let null = Json::Null;
-    let by = By {
-        alloc,
-        schema,
-        null: &null,
+    let Some(held) = value_in(json) else {
+        return value(alloc, schema, place, depth, json);
     };
-    value_of_line(by, place, depth, json)
+    match value(alloc, schema, place, depth, held) {
+        Err(ParseError::Wrong(why)) => match value(alloc, schema, place, depth, json) {
+            Err(ParseError::Wrong(_)) => Err(ParseError::Wrong(why)),
+            whole => whole,
+        },
+        read => read,
+    }
 }
 
 /// How deep the JSON of a value with at most `depth` nested nodes can nest: each node has up to two brackets, and the line one.
@@ -201,7 +803,7 @@ fn value_of_text(alloc: Global, schema: &Schema, place: usize, depth: u32, text:
     let mut scratch = Scratch::new(alloc);
     let mut reader = Reader::new(text, &mut scratch)?;
     match json_of(alloc, depth, &mut reader) {
-        Ok(Some(json)) => value_of_document(alloc, schema, place, depth, &json),
+        Ok(Some(json)) => value_of_line(alloc, schema, place, depth, &json),
         Ok(None) => Err(no_json(alloc, text, reader.offset())),
         Err(error) => Err(error),
     }

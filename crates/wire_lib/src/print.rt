@@ -18,51 +18,6 @@ struct Style<'a> {
     depth: u32,
 }
 
-/// A number, by the widest type of its kind; those of 64 bits are printed faster.
-#[derive(Clone, Copy, Drop)]
-enum Number {
-    U64(u64),
-    I64(i64),
-    U128(u128),
-    I128(i128),
-}
-
-/// What a value is as JSON.
-#[derive(Clone, Copy, Drop)]
-enum Shape<'a> {
-    /// What it is by itself.
-    Plain,
-    /// `null`.
-    Null,
-    /// A float, by its bits.
-    Float(Integer),
-    /// Bytes that are values.
-    Bytes(&'a [Value]),
-    /// The name of a variant.
-    Name(&'a str),
-    /// The index of a variant without a name.
-    Index(u32),
-    /// What another value is, of the type at that index.
-    Same(usize, &'a Value),
-    /// An array or an object.
-    Of(Parts<'a>),
-}
-
-/// The parts of an array or an object.
-#[derive(Clone, Copy, Drop)]
-enum Parts<'a> {
-    /// Values of the type at that index.
-    Items(usize, &'a [Value]),
-    /// Values of the types at these indices.
-    Fields(&'a [usize], &'a [Value]),
-    /// The same with names.
-    Members(&'a [String], &'a [usize], &'a [Value]),
-    /// Pairs of the types at these indices.
-    Pairs(usize, usize, &'a [Value]),
-    /// A value of the type at that index, with its name.
-    Only(&'a str, usize, &'a Value),
-}
-
 /// Appends a number by its digits. They are tested here, since no clause says that the digits of each number past 64 bits are a
 /// JSON number.
 fn put_digits(out: &mut Writer, digits: &str) -> Printed {
@@ -73,46 +28,39 @@ fn put_digits(out: &mut Writer, digits: &str) -> Printed {
 }
 
 /// Appends a number.
-fn put_number(out: &mut Writer, number: Number) -> Printed {
+fn put_u128(out: &mut Writer, n: u128) -> Printed {
     let mut buffer = itoa::Buffer::new();
-    match number {
-        Number::U64(n) => out.u64(n),
-        Number::I64(n) => out.i64(n),
-        Number::U128(n) => put_digits(out, buffer.format(n)),
-        Number::I128(n) => put_digits(out, buffer.format(n)),
-    }
+    put_digits(out, buffer.format(n))
 }
 
-/// The number of an integer of fixed width.
-fn number_of(n: Integer) -> Number {
+/// Appends a number that may be negative.
+fn put_i128(out: &mut Writer, n: i128) -> Printed {
+    let mut buffer = itoa::Buffer::new();
+    put_digits(out, buffer.format(n))
+}
+
+/// Appends a number of up to 64 bits.
+fn put_u64(out: &mut Writer, n: u64) -> Printed {
+    out.u64(n)
+}
+
+/// Appends a number of up to 64 bits that may be negative.
+fn put_i64(out: &mut Writer, n: i64) -> Printed {
+    out.i64(n)
+}
+
+/// Appends an integer of fixed width.
+fn put_integer(out: &mut Writer, n: Integer) -> Printed {
     match n {
-        Integer::U16(n) => Number::U64(u64::from(n)),
-        Integer::U32(n) => Number::U64(u64::from(n)),
-        Integer::U64(n) => Number::U64(n),
-        Integer::U128(n) => Number::U128(n),
-        Integer::I16(n) => Number::I64(i64::from(n)),
-        Integer::I32(n) => Number::I64(i64::from(n)),
-        Integer::I64(n) => Number::I64(n),
-        Integer::I128(n) => Number::I128(n),
+        Integer::U16(n) => put_u64(out, u64::from(n)),
+        Integer::U32(n) => put_u64(out, u64::from(n)),
+        Integer::U64(n) => put_u64(out, n),
+        Integer::U128(n) => put_u128(out, n),
+        Integer::I16(n) => put_i64(out, i64::from(n)),
+        Integer::I32(n) => put_i64(out, i64::from(n)),
+        Integer::I64(n) => put_i64(out, n),
+        Integer::I128(n) => put_i128(out, n),
     }
-}
-
-/// A value's number, if it is one.
-fn number_in(value: &Value) -> Option<Number> {
-    Some(match value {
-        Value::U8(n) => Number::U64(u64::from(*n)),
-        Value::U16(n) => Number::U64(u64::from(*n)),
-        Value::U32(n) => Number::U64(u64::from(*n)),
-        Value::U64(n) => Number::U64(*n),
-        Value::U128(n) => Number::U128(*n),
-        Value::I8(n) => Number::I64(i64::from(*n)),
-        Value::I16(n) => Number::I64(i64::from(*n)),
-        Value::I32(n) => Number::I64(i64::from(*n)),
-        Value::I64(n) => Number::I64(*n),
-        Value::I128(n) => Number::I128(*n),
-        Value::LE(n) | Value::BE(n) => number_of(*n),
-        _ => return None,
-    })
 }
 
 /// Appends an `f32`: the shortest number that reads back as it, or a string if it isn't finite.
@@ -148,7 +96,7 @@ fn put_float(out: &mut Writer, alloc: Global, bits: Integer) -> Printed {
     match bits {
         Integer::U32(bits) => put_single(out, alloc, bits),
         Integer::U64(bits) => put_double(out, alloc, bits),
-        other => put_number(out, number_of(other)),
+        other => put_integer(out, other),
     }
 }
 
@@ -186,14 +134,105 @@ fn put_bytes(out: &mut Writer, style: Style<'_>, bytes: &[u8]) -> Printed {
 fn put_plain(out: &mut Writer, style: Style<'_>, value: &Value) -> Printed {
     match value {
         Value::Bool(b) => out.boolean(*b),
+        Value::U8(n) => put_u64(out, u64::from(*n)),
+        Value::U16(n) => put_u64(out, u64::from(*n)),
+        Value::U32(n) => put_u64(out, u64::from(*n)),
+        Value::U64(n) => put_u64(out, *n),
+        Value::U128(n) => put_u128(out, *n),
+        Value::I8(n) => put_i64(out, i64::from(*n)),
+        Value::I16(n) => put_i64(out, i64::from(*n)),
+        Value::I32(n) => put_i64(out, i64::from(*n)),
+        Value::I64(n) => put_i64(out, *n),
+        Value::I128(n) => put_i128(out, *n),
+        Value::LE(n) | Value::BE(n) => put_integer(out, *n),
         Value::Char(c) => put_char(out, style.alloc, *c),
         Value::Text(text) => put_text(out, text.as_str()),
         Value::Bytes(bytes) => put_bytes(out, style, bytes),
-        _ => match number_in(value) {
-            Some(number) => put_number(out, number),
-            None => out.null(),
-        },
+        _ => out.null(),
     }
+}
+
+/// Appends a value of the type at index `place`; parts nested too deeply become `null`.
+#[cycle(print)]
+fn put(out: &mut Writer, style: Style<'_>, place: usize, value: &Value) -> Printed {
+    if style.depth == 0 {
+        return out.null();
+    }
+    let depth = style.depth - 1;
+    let style = Style { depth, ..style };
+    let Some(node) = style.schema.nodes.get(place) else {
+        return put_plain(out, style, value);
+    };
+    match (node, value) {
+        (Node::Option(inner), Value::Present(held)) => put_present(out, style, *inner, held),
+        (Node::List(inner), Value::List(items)) => put_list(out, style, place, *inner, items),
+        (Node::ListUpTo(_, inner), Value::List(items)) => {
+            put_list(out, style, place, *inner, items)
+        }
+        (Node::Array(_, inner), Value::Group(items)) => put_elements(out, style, *inner, items),
+        (Node::Struct(fields), Value::Group(items)) => {
+            put_struct(out, style, place, fields, items)
+        }
+        (Node::Enum(payloads), Value::Variant(index, held)) => {
+            put_variant(out, style, place, payloads, *index, held)
+        }
+        (Node::LE(_), Value::LE(bits)) if is_float(style.schema, place) => put_float(
+            out,
+            style.alloc,
+            *bits,
+        ),
+        _ => put_plain(out, style, value),
+    }
+}
+
+/// Appends a present optional value.
+#[cycle(print)]
+fn put_present(out: &mut Writer, style: Style<'_>, inner: usize, held: &Value) -> Printed {
+    if may_be_null(style.schema, inner) {
+        return put_under(out, style, PRESENT, inner, held);
+    }
+    put(out, style, inner, held)
+}
+
+/// Appends a value as the only member of an object.
+#[cycle(print)]
+fn put_under(
+    out: &mut Writer,
+    style: Style<'_>,
+    name: &str,
+    place: usize,
+    value: &Value,
+) -> Printed {
+    out.begin_object()?;
+    out.key(name)?;
+    put(out, style, place, value)?;
+    out.end_object()
+}
+
+/// Appends a list; a map whose keys can be texts as an object.
+#[cycle(print)]
+fn put_list(
+    out: &mut Writer,
+    style: Style<'_>,
+    place: usize,
+    inner: usize,
+    items: &[Value],
+) -> Printed {
+    let is_map = matches!(style.schema.names.get(place), Some(Names::Map));
+    if is_map && has_text_keys(style.schema, inner) {
+        return put_pairs(out, style, inner, items);
+    }
+    put_elements(out, style, inner, items)
+}
+
+/// Appends values of one type as an array, or bytes as a text.
+#[cycle(print)]
+fn put_elements(out: &mut Writer, style: Style<'_>, inner: usize, items: &[Value]) -> Printed {
+    if style.hex && is_byte(style.schema, inner) {
+        let bytes = bytes_of(style.alloc, items)?;
+        return put_bytes(out, style, &bytes);
+    }
+    put_items(out, style, inner, items)
 }
 
 /// The bytes among values.
@@ -207,146 +246,49 @@ fn bytes_of(alloc: Global, items: &[Value]) -> Result<Vec<u8>, AllocError> {
     Ok(bytes)
 }
 
-/// Appends bytes that are values.
-fn put_byte_values(out: &mut Writer, style: Style<'_>, items: &[Value]) -> Printed {
-    let bytes = bytes_of(style.alloc, items)?;
-    put_bytes(out, style, &bytes)
+/// Appends values of one type as an array.
+#[cycle(print)]
+fn put_items(out: &mut Writer, style: Style<'_>, inner: usize, items: &[Value]) -> Printed {
+    out.begin_array()?;
+    for item in items {
+        put(out, style, inner, item)?;
+    }
+    out.end_array()
 }
 
-/// Appends a value whose parts, if there are any, aren't shown by themselves.
-fn put_whole(out: &mut Writer, style: Style<'_>, shape: Shape<'_>, value: &Value) -> Printed {
-    match shape {
-        Shape::Null => out.null(),
-        Shape::Float(bits) => put_float(out, style.alloc, bits),
-        Shape::Bytes(items) => put_byte_values(out, style, items),
-        Shape::Name(name) => put_text(out, name),
-        Shape::Index(index) => out.u64(u64::from(index)),
-        _ => put_plain(out, style, value),
+/// Appends pairs as an object.
+#[cycle(print)]
+fn put_pairs(out: &mut Writer, style: Style<'_>, pair: usize, items: &[Value]) -> Printed {
+    out.begin_object()?;
+    for item in items {
+        put_pair(out, style, pair, item)?;
     }
-}
-
-/// What a present optional value is.
-fn shape_of_present<'a>(schema: &Schema, inner: usize, held: &'a Value) -> Shape<'a> {
-    if may_be_null(schema, inner) {
-        return Shape::Of(Parts::Only(PRESENT, inner, held));
-    }
-    Shape::Same(inner, held)
-}
-
-/// What values of one type are: an array, or bytes as a text.
-fn shape_of_items<'a>(style: Style<'_>, inner: usize, items: &'a [Value]) -> Shape<'a> {
-    if style.hex && is_byte(style.schema, inner) {
-        return Shape::Bytes(items);
-    }
-    Shape::Of(Parts::Items(inner, items))
-}
-
-/// The indices of the types of a pair.
-fn pair_of(schema: &Schema, pair: usize) -> Option<(usize, usize)> {
-    match schema.nodes.get(pair) {
-        Some(Node::Struct(fields)) => match fields.as_slice() {
-            [key, inner] => Some((*key, *inner)),
-            _ => None,
-        },
-        _ => None,
-    }
-}
-
-/// What a list is: a map whose keys can be texts is an object.
-fn shape_of_list<'a>(
-    style: Style<'_>,
-    place: usize,
-    inner: usize,
-    items: &'a [Value],
-) -> Shape<'a> {
-    let is_map = matches!(style.schema.names.get(place), Some(Names::Map));
-    if is_map
-        && has_text_keys(style.schema, inner)
-        && let Some((key, held)) = pair_of(style.schema, inner)
-    {
-        return Shape::Of(Parts::Pairs(key, held, items));
-    }
-    shape_of_items(style, inner, items)
-}
-
-/// What a struct or a tuple is: an array if its fields have no names; of a newtype the value of its first field, which a checksum may
-/// follow.
-fn shape_of_struct<'a>(
-    names: Option<&'a Names>,
-    fields: &'a [usize],
-    items: &'a [Value],
-) -> Shape<'a> {
-    match names {
-        Some(Names::Unit | Names::Empty) => Shape::Null,
-        Some(Names::Newtype) => match (fields, items) {
-            ([field, ..], [item, ..]) => Shape::Same(*field, item),
-            _ => Shape::Null,
-        },
-        Some(Names::Fields(names)) => Shape::Of(Parts::Members(names, fields, items)),
-        _ => Shape::Of(Parts::Fields(fields, items)),
-    }
-}
-
-/// The name of a variant of the type at index `place`.
-fn variant_name<'a>(schema: &'a Schema, place: usize, index: u32) -> Option<&'a str> {
-    match schema.names.get(place) {
-        Some(Names::Variants(names)) => match names.get(index as usize) {
-            Some(name) => Some(name.as_str()),
-            None => None,
-        },
-        _ => None,
-    }
-}
-
-/// What a variant is: its name, or an object of its name and its payload; its index if it has no name.
-fn shape_of_variant<'a>(
-    schema: &'a Schema,
-    place: usize,
-    payloads: &[usize],
-    index: u32,
-    held: &'a Value,
-) -> Shape<'a> {
-    match (
-        variant_name(schema, place, index),
-        payloads.get(index as usize),
-    ) {
-        (Some(name), Some(payload)) if is_empty(schema, *payload) => Shape::Name(name),
-        (Some(name), Some(payload)) => Shape::Of(Parts::Only(name, *payload, held)),
-        _ => Shape::Index(index),
-    }
-}
-
-/// What a value of the type at index `place` is.
-fn shape_of<'a>(style: Style<'a>, place: usize, value: &'a Value) -> Shape<'a> {
-    let schema = style.schema;
-    let Some(node) = schema.nodes.get(place) else {
-        return Shape::Plain;
-    };
-    match (node, value) {
-        (Node::Option(inner), Value::Present(held)) => shape_of_present(schema, *inner, held),
-        (Node::List(inner) | Node::ListUpTo(_, inner), Value::List(items)) => {
-            shape_of_list(style, place, *inner, items)
-        }
-        (Node::Array(_, inner), Value::Group(items)) => shape_of_items(style, *inner, items),
-        (Node::Struct(fields), Value::Group(items)) => {
-            shape_of_struct(schema.names.get(place), fields, items)
-        }
-        (Node::Enum(payloads), Value::Variant(index, held)) => {
-            shape_of_variant(schema, place, payloads, *index, held)
-        }
-        (Node::LE(_), Value::LE(bits)) if is_float(schema, place) => Shape::Float(*bits),
-        _ => Shape::Plain,
-    }
+    out.end_object()
 }
 
 /// Appends a number as a key.
-fn put_number_key(out: &mut Writer, number: Number) -> Printed {
+fn put_u128_key(out: &mut Writer, n: u128) -> Printed {
     let mut buffer = itoa::Buffer::new();
-    match number {
-        Number::U64(n) => out.key(buffer.format(n)),
-        Number::I64(n) => out.key(buffer.format(n)),
-        Number::U128(n) => out.key(buffer.format(n)),
-        Number::I128(n) => out.key(buffer.format(n)),
+    out.key(buffer.format(n))
+}
+
+/// Appends a number that may be negative as a key.
+fn put_i128_key(out: &mut Writer, n: i128) -> Printed {
+    let mut buffer = itoa::Buffer::new();
+    out.key(buffer.format(n))
+}
+
+/// Appends an integer of fixed width as a key.
+fn put_integer_key(out: &mut Writer, n: Integer) -> Printed {
+    match n {
+        Integer::U16(n) => put_u128_key(out, u128::from(n)),
+        Integer::U32(n) => put_u128_key(out, u128::from(n)),
+        Integer::U64(n) => put_u128_key(out, u128::from(n)),
+        Integer::U128(n) => put_u128_key(out, n),
+        Integer::I16(n) => put_i128_key(out, i128::from(n)),
+        Integer::I32(n) => put_i128_key(out, i128::from(n)),
+        Integer::I64(n) => put_i128_key(out, i128::from(n)),
+        Integer::I128(n) => put_i128_key(out, n),
     }
 }
 
@@ -361,12 +303,31 @@ fn put_char_key(out: &mut Writer, alloc: Global, c: char) -> Printed {
 fn put_plain_key(out: &mut Writer, alloc: Global, value: &Value) -> Printed {
     match value {
         Value::Bool(b) => out.key(if *b { "true" } else { "false" }),
+        Value::U8(n) => put_u128_key(out, u128::from(*n)),
+        Value::U16(n) => put_u128_key(out, u128::from(*n)),
+        Value::U32(n) => put_u128_key(out, u128::from(*n)),
+        Value::U64(n) => put_u128_key(out, u128::from(*n)),
+        Value::U128(n) => put_u128_key(out, *n),
+        Value::I8(n) => put_i128_key(out, i128::from(*n)),
+        Value::I16(n) => put_i128_key(out, i128::from(*n)),
+        Value::I32(n) => put_i128_key(out, i128::from(*n)),
+        Value::I64(n) => put_i128_key(out, i128::from(*n)),
+        Value::I128(n) => put_i128_key(out, *n),
+        Value::LE(n) | Value::BE(n) => put_integer_key(out, *n),
         Value::Char(c) => put_char_key(out, alloc, *c),
         Value::Text(text) => out.key(text.as_str()),
-        _ => match number_in(value) {
-            Some(number) => put_number_key(out, number),
-            None => out.key(""),
+        _ => out.key(""),
+    }
+}
+
+/// The name of a variant of the type at index `place`.
+fn variant_name<'a>(schema: &'a Schema, place: usize, index: u32) -> Option<&'a str> {
+    match schema.names.get(place) {
+        Some(Names::Variants(names)) => match names.get(index as usize) {
+            Some(name) => Some(name.as_str()),
+            None => None,
         },
+        _ => None,
     }
 }
 
@@ -395,8 +356,96 @@ fn put_key(out: &mut Writer, style: Style<'_>, place: usize, value: &Value) -> P
     };
     match variant_name(style.schema, at, *index) {
         Some(name) => out.key(name),
-        None => put_number_key(out, Number::U64(u64::from(*index))),
+        None => put_u128_key(out, u128::from(*index)),
     }
+}
+
+/// The indices of the types of a pair.
+fn pair_of(schema: &Schema, pair: usize) -> Option<(usize, usize)> {
+    match schema.nodes.get(pair) {
+        Some(Node::Struct(fields)) => match fields.as_slice() {
+            [key, inner] => Some((*key, *inner)),
+            _ => None,
+        },
+        _ => None,
+    }
+}
+
+/// Appends a pair as a member; an empty one for what isn't a pair.
+#[cycle(print)]
+fn put_pair(out: &mut Writer, style: Style<'_>, pair: usize, item: &Value) -> Printed {
+    match (pair_of(style.schema, pair), item) {
+        (Some((key, inner)), Value::Group(parts)) => match parts.as_slice() {
+            [name, held] => {
+                put_key(out, style, key, name)?;
+                put(out, style, inner, held)
+            }
+            _ => put_no_pair(out),
+        },
+        _ => put_no_pair(out),
+    }
+}
+
+/// Appends an empty member for what isn't a pair.
+fn put_no_pair(out: &mut Writer) -> Printed {
+    out.key("")?;
+    out.null()
+}
+
+/// Appends a struct or a tuple: as an array if its fields have no names.
+#[cycle(print)]
+fn put_struct(
+    out: &mut Writer,
+    style: Style<'_>,
+    place: usize,
+    fields: &[usize],
+    items: &[Value],
+) -> Printed {
+    match style.schema.names.get(place) {
+        Some(Names::Unit | Names::Empty) => out.null(),
+        Some(Names::Newtype) => put_newtype(out, style, fields, items),
+        Some(Names::Fields(names)) => put_members(out, style, names, fields, items),
+        _ => {
+            out.begin_array()?;
+            put_fields(out, style, fields, items)?;
+            out.end_array()
+        }
+    }
+}
+
+/// Appends the value of a struct's only field; if a checksum follows, the value before it.
+#[cycle(print)]
+fn put_newtype(out: &mut Writer, style: Style<'_>, fields: &[usize], items: &[Value]) -> Printed {
+    match (fields, items) {
+        ([field, ..], [item, ..]) => put(out, style, *field, item),
+        _ => out.null(),
+    }
+}
+
+/// Appends values of these types.
+#[cycle(print)]
+fn put_fields(out: &mut Writer, style: Style<'_>, fields: &[usize], items: &[Value]) -> Printed {
+    for (field, item) in fields.iter().zip(items) {
+        put(out, style, *field, item)?;
+    }
+    Ok(())
+}
+
+/// Appends values of these types as an object; a value without a name gets an empty one.
+#[cycle(print)]
+fn put_members(
+    out: &mut Writer,
+    style: Style<'_>,
+    names: &[String],
+    fields: &[usize],
+    items: &[Value],
+) -> Printed {
+    out.begin_object()?;
+    for (i, (field, item)) in fields.iter().zip(items).enumerate() {
+        out.key(name_in(names, i))?;
+        put(out, style, *field, item)?;
+    }
+    out.end_object()
 }
 
 /// The name of field `i`.
@@ -407,105 +456,26 @@ fn name_in(names: &[String], i: usize) -> &str {
     }
 }
 
-/// Pair `i`: its key and its value; `None` for what isn't a pair.
-fn pair_in(items: &[Value], i: usize) -> Option<(&Value, &Value)> {
-    match items.get(i) {
-        Some(Value::Group(parts)) => match parts.as_slice() {
-            [key, held] => Some((key, held)),
-            _ => None,
-        },
-        _ => None,
-    }
-}
-
-/// How many parts there are.
-fn count(parts: Parts<'_>) -> usize {
-    match parts {
-        Parts::Items(_, items) | Parts::Pairs(_, _, items) => items.len(),
-        Parts::Fields(fields, items) | Parts::Members(_, fields, items) => {
-            fields.len().min(items.len())
-        }
-        Parts::Only(..) => 1,
-    }
-}
-
-/// Part `i`, after the index of its type; `None` for what isn't a pair.
-fn part<'a>(parts: Parts<'a>, i: usize) -> Option<(usize, &'a Value)> {
-    match parts {
-        Parts::Items(inner, items) => Some((inner, items.get(i)?)),
-        Parts::Fields(fields, items) | Parts::Members(_, fields, items) => {
-            Some((*fields.get(i)?, items.get(i)?))
-        }
-        Parts::Pairs(_, inner, items) => match pair_in(items, i) {
-            Some((_, held)) => Some((inner, held)),
-            None => None,
-        },
-        Parts::Only(_, inner, held) => Some((inner, held)),
-    }
-}
-
-/// Appends the name of part `i` if it has one; an empty one for what isn't a pair.
-fn put_name(out: &mut Writer, style: Style<'_>, parts: Parts<'_>, i: usize) -> Printed {
-    match parts {
-        Parts::Members(names, _, _) => out.key(name_in(names, i)),
-        Parts::Only(name, _, _) => out.key(name),
-        Parts::Pairs(place, _, items) => match pair_in(items, i) {
-            Some((key, _)) => put_key(out, style, place, key),
-            None => out.key(""),
-        },
-        _ => Ok(()),
-    }
-}
-
-/// Begins an array or an object.
-fn begin(out: &mut Writer, parts: Parts<'_>) -> Printed {
-    match parts {
-        Parts::Items(..) | Parts::Fields(..) => out.begin_array(),
-        _ => out.begin_object(),
-    }
-}
-
-/// Ends it.
-fn end(out: &mut Writer, parts: Parts<'_>) -> Printed {
-    match parts {
-        Parts::Items(..) | Parts::Fields(..) => out.end_array(),
-        _ => out.end_object(),
-    }
-}
-
-/// Appends a value of the type at index `place`; parts nested too deeply become `null`.
+/// Appends a variant: its name, or an object of its name and its payload; its index if it has no name.
 #[cycle(print)]
-fn put(out: &mut Writer, style: Style<'_>, place: usize, value: &Value) -> Printed {
-    if style.depth == 0 {
-        return out.null();
+fn put_variant(
+    out: &mut Writer,
+    style: Style<'_>,
+    place: usize,
+    payloads: &[usize],
+    index: u32,
+    held: &Value,
+) -> Printed {
+    let (Some(name), Some(payload)) = (
+        variant_name(style.schema, place, index),
+        payloads.get(index as usize),
+    ) else {
+        return put_u64(out, u64::from(index));
+    };
+    if is_empty(style.schema, *payload) {
+        return put_text(out, name);
     }
-    let depth = style.depth - 1;
-    let style = Style { depth, ..style };
-    match shape_of(style, place, value) {
-        Shape::Same(inner, held) => put(out, style, inner, held),
-        Shape::Of(parts) => put_parts(out, style, parts),
-        shape => put_whole(out, style, shape, value),
-    }
-}
-
-/// Appends an array or an object.
-#[cycle(print)]
-fn put_parts(out: &mut Writer, style: Style<'_>, parts: Parts<'_>) -> Printed {
-    begin(out, parts)?;
-    for i in 0..count(parts) {
-        put_part(out, style, parts, i)?;
-    }
-    end(out, parts)
-}
-
-/// Appends part `i`.
-#[cycle(print)]
-fn put_part(out: &mut Writer, style: Style<'_>, parts: Parts<'_>, i: usize) -> Printed {
-    put_name(out, style, parts, i)?;
-    match part(parts, i) {
-        Some((inner, value)) => put(out, style, inner, value),
-        None => out.null(),
-    }
+    put_under(out, style, name, *payload, held)
 }
 
 /// How values are printed.

@@ -2,10 +2,52 @@ use Rattle.std.proofs.Common.{◌+◌, ◌*◌}
 use Rattle.wire_lib.proofs.parse.+parse.Given as goal
 
 abbrev pub decreases-value : goal.decreases-value
-decreases-value l = 3 * l.depth
+decreases-value l = 6 * l.depth
 
-abbrev pub decreases-read_part : goal.decreases-read_part
-decreases-read_part l = 3 * l.depth + 1
+abbrev pub decreases-of_node : goal.decreases-of_node
+decreases-of_node l = 6 * l.depth + 5
 
-abbrev pub decreases-read_parts : goal.decreases-read_parts
-decreases-read_parts l = 3 * l.depth + 2
+abbrev pub decreases-option : goal.decreases-option
+decreases-option l = 6 * l.depth + 1
+
+abbrev pub decreases-items : goal.decreases-items
+decreases-items l = 6 * l.depth + 1
+
+abbrev pub decreases-elements : goal.decreases-elements
+decreases-elements l = 6 * l.depth + 2
+
+abbrev pub decreases-list : goal.decreases-list
+decreases-list l = 6 * l.depth + 3
+
+abbrev pub decreases-list_up_to : goal.decreases-list_up_to
+decreases-list_up_to l = 6 * l.depth + 4
+
+abbrev pub decreases-array : goal.decreases-array
+decreases-array l = 6 * l.depth + 4
+
+abbrev pub decreases-variant_key : goal.decreases-variant_key
+decreases-variant_key l = 6 * l.depth + 1
+
+abbrev pub decreases-key_of : goal.decreases-key_of
+decreases-key_of l = 6 * l.depth
+
+abbrev pub decreases-pair : goal.decreases-pair
+decreases-pair l = 6 * l.depth + 1
+
+abbrev pub decreases-member : goal.decreases-member
+decreases-member l = 6 * l.depth
+
+abbrev pub decreases-pairs : goal.decreases-pairs
+decreases-pairs l = 6 * l.depth + 1
+
+abbrev pub decreases-field : goal.decreases-field
+decreases-field l = 6 * l.depth + 1
+
+abbrev pub decreases-group : goal.decreases-group
+decreases-group l = 6 * l.depth + 2
+
+abbrev pub decreases-payload : goal.decreases-payload
+decreases-payload l = 6 * l.depth + 1
+
+abbrev pub decreases-variant : goal.decreases-variant
+decreases-variant l = 6 * l.depth + 2
