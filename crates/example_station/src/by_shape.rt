@@ -1,16 +1,11 @@
-//! A message type's law by that of its shape, for types that are dear to prove.
+//! A message type's law by that of its shape, for a type whose parts are nested deep.
 //!
 //! A call of a generic function carries what its type is read by, part by part. Here the type is a parameter, and so is its shape:
 //! a caller carries only what the shape is read by, once.
 ghost use Rattle.std.specs.Prelude.{IfOk};
 
 use postcard::laws::round_trip;
-use postcard::{
-    AsShape, Deserialize, Lawful, MatchesShape, Readable, Result, Serialize, Shaped, Variants4,
-    VariantsGrow,
-};
-use postcard_de::DeserializeVariants;
-use postcard_ser::LawfulVariants;
+use postcard::{AsShape, Deserialize, Lawful, MatchesShape, Readable, Result, Serialize, Shaped};
 use std::alloc::Global;
 
 /// Writes a value of a message type and reads it again, as [`postcard::laws::round_trip`] does: what is read is alike the value.
@@ -37,23 +32,4 @@ pub(crate) fn back_by_six<
     ensures { IfOk result (λ p. M.form.alike v.now p.0) }
 {
     back_by_shape::<((((((T, u8), u8), u8), u8), u8), u8), M>(alloc, v, room)
-}
-
-/// The same of an enum that has more than four variants.
-pub(crate) fn back_by_variants<
-    'a,
-    A: Lawful + Deserialize<&'a [u8]>,
-    B: Lawful + Deserialize<&'a [u8]>,
-    C: Lawful + Deserialize<&'a [u8]>,
-    D: Lawful + Deserialize<&'a [u8]>,
-    R: LawfulVariants + DeserializeVariants<&'a [u8]> + VariantsGrow,
-    M: Shaped<Shape = Variants4<A, B, C, D, R>>
-        + MatchesShape
-        + Readable<Form = AsShape>
-        + Serialize
-        + Drop,
->(alloc: Global, v: &M, room: &'a mut [u8]) -> Result<(M, &'a [u8])>
-    ensures { IfOk result (λ p. M.form.alike v.now p.0) }
-{
-    back_by_shape::<Variants4<A, B, C, D, R>, M>(alloc, v, room)
 }

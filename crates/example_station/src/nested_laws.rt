@@ -9,12 +9,11 @@ ghost use Rattle.postcard.specs.Greatest.{SizeWithin};
 ghost use Rattle.example_station.specs.declared.nested.Drawing.{Drawing as Drawings};
 ghost use Rattle.example_station.specs.declared.nested.Text.{Text as Texts};
 
-use crate::by_shape::{back_by_six, back_by_variants};
-use crate::nested::{Borrower, Deep, Drawing, Holders, Message, Point, Sample, Six, Text};
+use crate::by_shape::back_by_six;
+use crate::nested::{Borrower, Deep, Drawing, Message, Sample, Six, Text};
 use postcard::experimental::max_size::MaxSize;
-use postcard::fixint::{BE, LE};
 use postcard::laws::{round_trip, within_greatest};
-use postcard::{Exact, Last, Readable, Result, Variant, from_bytes, from_bytes_owned};
+use postcard::{Exact, Readable, Result, from_bytes, from_bytes_owned};
 use std::alloc::Global;
 
 /// A drawing is a value of numbers alone: the very same one comes back.
@@ -57,16 +56,11 @@ pub fn deep<'a>(alloc: Global, v: &Deep, room: &'a mut [u8]) -> Result<(Deep, &'
     back_by_six::<Six, Deep>(alloc, v, room)
 }
 
-// What a message holds after its first four variants.
-type AfterSeen = Variant<BE<u64>, Variant<(Option<u8>, LE<u16>), Last<(BE<u32>, LE<u128>, u128)>>>;
-
 /// Whichever variant it is.
 pub fn message<'a>(alloc: Global, v: &Message, room: &'a mut [u8]) -> Result<(Message, &'a [u8])>
     ensures { IfOk result (λ p. ⟦<Message as Readable>⟧.form.alike v.now p.0) }
 {
-    back_by_variants::<Text, Drawing, Holders, (Option<Text>, Point), AfterSeen, Message>(
-        alloc, v, room,
-    )
+    round_trip::<Message>(alloc, v, &[], room)
 }
 
 /// A type that borrows from two sources is read from one.
