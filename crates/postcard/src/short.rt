@@ -1,5 +1,5 @@
 //! Values that are short: encoded in a buffer of the call's own, or framed in place.
-ghost use Rattle.std.specs.Prelude.{◌≡◌, ◌+◌, ◌<◌, ◌≤◌, [], ◌++◌, ◌∷◌, Ok, IfOk, IfErr, IfSome, IsSome, length, take, drop};
+ghost use Rattle.std.specs.Prelude.{◌≡◌, ◌+◌, ◌<◌, ◌≤◌, [], ◌++◌, ◌∷◌, Ok, IfOk, IfErr, IfSome, IsSome, IsNone, length, take, drop};
 ghost use Rattle.cobs.specs.Frames.{longest_frame};
 ghost use Rattle.cobs.specs.Sentinel.{masked};
 ghost use Rattle.postcard_tree.specs.declared.error.Error.TheVariants.{OutOfMemory};
@@ -55,7 +55,7 @@ fn spell_behind<T: Serialize>(v: &T, room: &mut [u8]) -> Option<usize>
 
 /// Writes a value to the start of a buffer, and returns how many bytes it takes. Doesn't allocate.
 ///
-/// `None` if the buffer is too short, or the value refuses itself; which of them isn't stated. The buffer may hold anything
+/// `None` exactly if the buffer is shorter than the value's encoding, or the value refuses itself. The buffer may hold anything
 /// then, and after the value.
 ///
 /// # Example
@@ -68,6 +68,8 @@ pub fn spell_into<T: Serialize>(v: &T, room: &mut [u8]) -> Option<usize>
     ensures spelled { IfSome result (λ n. WrittenWhole (T.form.writes v.now)
         (λ bytes. take n room.new ≡ bytes)) }
     ensures within { IfSome result (λ n. n ≤ length room.new) }
+    ensures none { IsNone result → UnlessRefused (T.form.writes v.now)
+        (λ bytes. length room.old < length bytes) }
     ensures valid { IsSome result → T.form.valid v.now }
 {
     let (_, spelled) = spell_and_return(v, room);
@@ -80,6 +82,8 @@ fn spell_and_return<'a, T: Serialize>(v: &T, room: &'a mut [u8]) -> (&'a mut [u8
     ensures spelled { IfSome result.1 (λ n. WrittenWhole (T.form.writes v.now)
         (λ bytes. take n result.0.now ≡ bytes)) }
     ensures within { IfSome result.1 (λ n. n ≤ length result.0.now) }
+    ensures none { IsNone result.1 → UnlessRefused (T.form.writes v.now)
+        (λ bytes. length room.entry.now < length bytes) }
     ensures valid { IsSome result.1 → T.form.valid v.now }
 {
     let mut spelling = Slice::new(room);
