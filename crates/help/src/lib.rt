@@ -82,12 +82,11 @@ fn say<W: Write>(out: &mut W, about: About, asked: Asked) -> io::Result<()> {
     }
 }
 
-/// Writes help or the version, if the arguments ask for one of them, and returns the program's status: 0, or 3 if the write failed.
-/// Returns nothing if they ask for something else.
-pub fn answer<W: Write>(out: &mut W, about: About, words: &[String]) -> Option<u8> {
+/// Writes help or the version, if the arguments ask for one of them; returns what came of the write. `None` if they ask for something else.
+///
+/// # Errors
+/// The writer's.
+pub fn answer<W: Write>(out: &mut W, about: About, words: &[String]) -> Option<io::Result<()>> {
     let asked = asked_by(words)?;
-    match say(out, about, asked) {
-        Ok(()) => Some(0),
-        Err(_) => Some(3),
-    }
+    Some(say(out, about, asked))
 }

@@ -12,7 +12,7 @@ pub const ABOUT: About = About {
 Reads declarations of Rust or Rattle on standard input, and writes the implementations for those that
 are marked by a line `// message` or a derive; `rt fmt` lays them out. CRATE and MODULE say where the
 declarations stand; with --schemas the types have schemas too. Status: 0 where they are written, 1
-where a declaration can't be, 2 at wrong words.
+where a declaration can't be, 2 at wrong words, 3 if a device failed, 4 out of memory.
 ",
     usage: USAGE,
 };

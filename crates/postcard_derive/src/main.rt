@@ -7,6 +7,7 @@
 #![tactic(auto)]
 
 mod about;
+mod error;
 mod fields;
 mod known;
 mod names;
@@ -18,6 +19,7 @@ mod text;
 mod variants;
 
 use crate::about::{ABOUT, USAGE};
+use crate::error::RunError;
 use crate::names::uses_of;
 use crate::printer::implementations;
 use crate::refusals::refused;
@@ -45,9 +47,9 @@ fn path_of(alloc: Global, names: &[String]) -> Result<String, AllocError> {
 }
 
 /// Writes the implementations, or what is wrong to standard error; the status.
-fn run(rt: &HostRuntime, path: &str, with_schemas: bool) -> io::Result<u8> {
+fn run(rt: &HostRuntime, path: &str, with_schemas: bool) -> Result<u8, RunError> {
     let alloc = rt.alloc();
-    let text = io::read_to_string(alloc, rt.reader())?;
+    let text = io::read_to_string(alloc, rt.reader()).map_err(RunError::of_input)?;
     let file = tokens_of(alloc, "", text.as_str())?;
     let files = slice::from_ref(&file);
     let scope = Origins::of(alloc, &file.tokens)?;
@@ -55,36 +57,48 @@ fn run(rt: &HostRuntime, path: &str, with_schemas: bool) -> io::Result<u8> {
     let uses = uses_of(alloc, &scope, &all)?;
     let refused = refused(alloc, &scope, &uses, &all)?;
     if !faults.is_empty() || !refused.is_empty() {
-        eprint!(rt; "{faults}{refused}")?;
-        return Ok(1);
+        let said = eprint!(rt; "{faults}{refused}");
+        return Ok(if said.is_ok() { 1 } else { 3 });
     }
     let text = implementations(alloc, &uses, path, with_schemas, &all)?;
-    print!(rt; "{text}")?;
+    print!(rt; "{text}").map_err(RunError::Output)?;
     Ok(0)
 }
 
+/// Returns the words after the program's name.
+fn words_of(rt: &HostRuntime) -> Result<Vec<String>, RunError> {
+    let mut words = Vec::new(rt.alloc());
+    for word in env::args(rt).map_err(RunError::Arguments)?.skip(1) {
+        words.push(word)?;
+    }
+    Ok(words)
+}
+
 /// Does what the words say; the status.
-fn run_by(rt: &HostRuntime, words: &[String]) -> io::Result<u8> {
-    let (names, with_schemas) = match words {
+fn run_by(rt: &HostRuntime) -> Result<u8, RunError> {
+    let words = words_of(rt)?;
+    if let Some(said) = answer(&mut rt.stdout(), ABOUT, &words) {
+        return said.map_err(RunError::Output).map(|()| 0);
+    }
+    let (names, with_schemas) = match words.as_slice() {
         [names @ .., last] if last.as_str() == "--schemas" => (names, true),
-        _ => (words, false),
+        names => (names, false),
     };
     let path = path_of(rt.alloc(), names)?;
     if path.is_empty() {
-        eprintln!(rt; "{USAGE}")?;
-        return Ok(2);
+        let said = eprintln!(rt; "{USAGE}");
+        return Ok(if said.is_ok() { 2 } else { 3 });
     }
     run(rt, path.as_str(), with_schemas)
 }
 
-fn main(rt: HostRuntime) -> io::Result<ExitCode> {
-    let mut words: Vec<String> = Vec::new(rt.alloc());
-    for word in env::args(&rt)?.skip(1) {
-        words.push(word)?;
-    }
-    let status = match answer(&mut rt.stdout(), ABOUT, &words) {
-        Some(status) => status,
-        None => run_by(&rt, &words)?,
-    };
-    Ok(ExitCode::from(status))
+fn main(rt: HostRuntime) -> ExitCode {
+    ExitCode::from(match run_by(&rt) {
+        Ok(status) => status,
+        Err(e) => {
+            // if this fails too, the status is the same
+            let _ = eprintln!(rt; "postcard_derive: {e}");
+            e.status()
+        }
+    })
 }

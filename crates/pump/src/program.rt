@@ -13,11 +13,14 @@ fn say_usage(rt: &HostRuntime, about: About) -> io::Result<u8> {
 
 // Writes help or the version, if the arguments ask for it. Returns the status then.
 fn answered(rt: &HostRuntime, about: About, words: &[String]) -> io::Result<Option<u8>> {
-    let status = answer(&mut rt.stdout(), about, words);
-    if let Some(3) = status {
-        eprintln!(rt; "pump: standard output: write failed")?;
+    match answer(&mut rt.stdout(), about, words) {
+        Some(Err(_)) => {
+            eprintln!(rt; "pump: standard output: write failed")?;
+            Ok(Some(3))
+        }
+        Some(Ok(())) => Ok(Some(0)),
+        None => Ok(None),
     }
-    Ok(status)
 }
 
 // Serves, if no arguments follow `device`.

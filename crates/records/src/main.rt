@@ -29,7 +29,7 @@ mod words;
 use crate::about::ABOUT;
 use crate::appending::append;
 use crate::checking::{check, mend};
-use crate::entries::{NULL, OUTPUT, hold_descriptors, say_error, say_failed};
+use crate::entries::{NULL, OUTPUT, hold_descriptors, say_error};
 use crate::following::follow;
 use crate::showing::show;
 use crate::words::{NO_OPTION, TOO_MANY, Wanted, WrongArgument, wanted_by};
@@ -138,8 +138,8 @@ fn run(rt: &HostRuntime) -> io::Result<u8> {
         Err(e) => return Ok(say_error(rt, "its words", &e)),
     };
     match answer(&mut rt.stdout(), ABOUT, &words) {
-        Some(0) => Ok(0),
-        Some(_) => Ok(say_failed(rt, OUTPUT, &"write failed")),
+        Some(Ok(())) => Ok(0),
+        Some(Err(e)) => Ok(say_error(rt, OUTPUT, &e)),
         None => run_on(rt, &words),
     }
 }

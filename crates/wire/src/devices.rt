@@ -1,5 +1,6 @@
 //! Standard input and output.
 use crate::failure::{Failure, READ_FAULT, WRITE_FAULT, wrong};
+use std::alloc::AllocError;
 use std::io::{Read, Write};
 
 /// The most bytes of one read.
@@ -45,23 +46,73 @@ pub fn read_whole(rt: &HostRuntime) -> Result<Vec<u8>, Failure> {
     Ok(whole)
 }
 
-/// A text without blanks and line ends.
-fn without_blanks(rt: &HostRuntime, text: &[u8]) -> Result<Vec<u8>, Failure> {
-    let mut digits = Vec::new(rt.alloc());
-    for byte in text {
-        if !byte.is_ascii_whitespace() {
-            digits.push(*byte)?;
-        }
-    }
-    Ok(digits)
+/// Hexadecimal text that is decoded as it comes; blanks and line ends may be anywhere in it.
+#[derive(Drop)]
+pub struct Digits {
+    /// The digits that aren't decoded: between two pieces at most one.
+    digits: Vec<u8>,
+    /// The bytes of the last piece.
+    bytes: Vec<u8>,
+    /// Whether something else than digits came.
+    is_wrong: bool,
 }
 
-/// Returns the bytes of hexadecimal text; blanks and line ends may be anywhere in it.
-pub fn bytes_of_digits(rt: &HostRuntime, text: &[u8]) -> Result<Vec<u8>, Failure> {
-    let digits = without_blanks(rt, text)?;
-    let mut bytes = Vec::from_elem(rt.alloc(), 0u8, digits.len() / 2)?;
-    if hex::decode_to_slice(&digits, &mut bytes).is_err() {
-        return Err(wrong(rt, &["standard input isn't hexadecimal text\n"]));
+impl Digits {
+    /// No text yet.
+    pub fn new(rt: &HostRuntime) -> Digits {
+        Digits {
+            digits: Vec::new(rt.alloc()),
+            bytes: Vec::new(rt.alloc()),
+            is_wrong: false,
+        }
     }
-    Ok(bytes)
+
+    /// Takes the digits of a piece, up to what is none.
+    fn take(&mut self, piece: &[u8]) -> Result<(), AllocError> {
+        for byte in piece {
+            if byte.is_ascii_hexdigit() {
+                self.digits.push(*byte)?;
+            } else if !byte.is_ascii_whitespace() {
+                self.is_wrong = true;
+                break;
+            }
+        }
+        Ok(())
+    }
+
+    /// Decodes the next piece of the text: `bytes` are those whose last digit is in it, before what is no digit.
+    pub fn push(&mut self, piece: &[u8]) -> Result<(), AllocError> {
+        self.take(piece)?;
+        let odd = if self.digits.len() % 2 == 1 {
+            self.digits.pop()
+        } else {
+            None
+        };
+        self.bytes.resize(self.digits.len() / 2, 0)?;
+        self.is_wrong |= hex::decode_to_slice(&self.digits, &mut self.bytes).is_err();
+        self.digits.clear();
+        if let Some(digit) = odd {
+            self.digits.push(digit)?;
+        }
+        Ok(())
+    }
+
+    /// The bytes of the last piece.
+    pub fn bytes(&self) -> &[u8] {
+        &self.bytes
+    }
+
+    /// Fails if something else than digits came.
+    pub fn check(&self, rt: &HostRuntime) -> Result<(), Failure> {
+        if self.is_wrong {
+            return Err(wrong(rt, &["standard input isn't hexadecimal text\n"]));
+        }
+        Ok(())
+    }
+
+    /// Fails also if a digit is left over.
+    pub fn finish(&mut self, rt: &HostRuntime) -> Result<(), Failure> {
+        self.is_wrong |= !self.digits.is_empty();
+        self.check(rt)
+    }
 }

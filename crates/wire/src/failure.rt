@@ -1,5 +1,6 @@
 //! Why the program stops early.
 use std::alloc::{AllocError, AllocFailed};
+use std::io::{self, ErrorKind};
 
 /// Why the program stops before its work is done.
 #[derive(Drop)]
@@ -35,6 +36,14 @@ impl<T: Drop> From<AllocFailed<T>> for Failure {
     fn from(_: AllocFailed<T>) -> Failure {
         Failure::NoMemory
     }
+}
+
+/// Returns why standard input couldn't be read.
+pub fn of_read(e: io::Error) -> Failure {
+    if e.kind() == ErrorKind::OutOfMemory {
+        return Failure::NoMemory;
+    }
+    READ_FAULT
 }
 
 /// Returns these texts as one.

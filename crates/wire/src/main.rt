@@ -232,13 +232,10 @@ const WATCH: &str = "watch";
 
 /// Prints help or the version, or does what the arguments ask for; returns the status.
 fn status_of(rt: &HostRuntime, call: Call) -> u8 {
-    if let Some(status) = answer(&mut rt.stdout(), ABOUT, &call.words) {
-        return status;
-    }
-    let ran = if call.name.ends_with(WATCH) {
-        of_type(rt, Action::Watch, &call.words)
-    } else {
-        run(rt, &call.words)
+    let ran = match answer(&mut rt.stdout(), ABOUT, &call.words) {
+        Some(said) => said.map_err(|_| WRITE_FAULT).map(|()| true),
+        None if call.name.ends_with(WATCH) => of_type(rt, Action::Watch, &call.words),
+        None => run(rt, &call.words),
     };
     report(rt, call.name.as_str(), ran)
 }

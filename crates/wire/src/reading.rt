@@ -1,7 +1,8 @@
 //! The mode `read`: frames or messages as lines.
-use crate::devices::{ROOM, bytes_of_digits, read_some, read_whole, say};
-use crate::failure::{CLOCK_FAULT, Failure, wrong};
+use crate::devices::{Digits, ROOM, read_some, read_whole, say};
+use crate::failure::{CLOCK_FAULT, Failure, of_read};
 use help::{Progress, wants_colour};
+use std::io::BufRead;
 use std::time::Instant;
 use wire_lib::raw::put_message;
 use wire_lib::receive::{LinesOfFrames, Reading};
@@ -68,6 +69,17 @@ impl Lines {
     }
 }
 
+/// Passes bytes on, and writes their lines.
+fn receive(
+    rt: &HostRuntime,
+    receiver: &mut LinesOfFrames<'_>,
+    bytes: &[u8],
+    lines: &mut Lines,
+) -> Result<(), Failure> {
+    receiver.push(bytes, &mut lines.lines)?;
+    lines.write(rt)
+}
+
 /// Passes bytes on as they come, writes the lines of each read at its end, and counts the bytes as progress.
 fn receive_bytes(
     rt: &HostRuntime,
@@ -81,21 +93,32 @@ fn receive_bytes(
         if count == 0 {
             break;
         }
-        receiver.push(room.get(..count).unwrap_or(&[]), &mut lines.lines)?;
-        lines.write(rt)?;
+        receive(rt, receiver, room.get(..count).unwrap_or(&[]), lines)?;
         progress.step(rt, count as u64);
     }
     Ok(())
 }
 
-/// Passes the bytes of hexadecimal text on.
+/// Does the same with the bytes of hexadecimal text.
 fn receive_digits(
     rt: &HostRuntime,
     receiver: &mut LinesOfFrames<'_>,
     lines: &mut Lines,
+    progress: &mut Progress,
 ) -> Result<(), Failure> {
-    let bytes = bytes_of_digits(rt, &read_whole(rt)?)?;
-    Ok(receiver.push(&bytes, &mut lines.lines)?)
+    let mut room = [0u8; ROOM];
+    let mut digits = Digits::new(rt);
+    for _ in 0..u64::MAX {
+        let count = read_some(rt, &mut room)?;
+        if count == 0 {
+            break;
+        }
+        digits.push(room.get(..count).unwrap_or(&[]))?;
+        receive(rt, receiver, digits.bytes(), lines)?;
+        digits.check(rt)?;
+        progress.step(rt, count as u64);
+    }
+    digits.finish(rt)
 }
 
 /// Writes a line for each frame.
@@ -106,30 +129,34 @@ fn read_frames(
     lines: &mut Lines,
 ) -> Result<bool, Failure> {
     let mut receiver = LinesOfFrames::new(reading, options.from)?;
-    if options.hex {
-        receive_digits(rt, &mut receiver, lines)?;
+    let mut progress = Progress::new(rt);
+    let received = if options.hex {
+        receive_digits(rt, &mut receiver, lines, &mut progress)
     } else {
-        let mut progress = Progress::new(rt);
-        let received = receive_bytes(rt, &mut receiver, lines, &mut progress);
-        progress.end(rt);
-        received?;
-    }
+        receive_bytes(rt, &mut receiver, lines, &mut progress)
+    };
+    progress.end(rt);
+    received?;
     let is_good = receiver.finish(&mut lines.lines)?;
     lines.write(rt)?;
     Ok(is_good)
 }
 
-/// Writes a line for each message; each line of hexadecimal text is one.
+/// Writes a line for each message as it comes; each line of hexadecimal text is one.
 fn read_lines(rt: &HostRuntime, reading: Reading<'_>, lines: &mut Lines) -> Result<bool, Failure> {
-    let whole = read_whole(rt)?;
-    let Ok(text) = str::from_utf8(&whole) else {
-        return Err(wrong(rt, &["standard input isn't hexadecimal text\n"]));
-    };
+    let mut input = rt.reader();
+    let mut digits = Digits::new(rt);
+    let mut line = Vec::new(rt.alloc());
     let mut value = Vec::new(rt.alloc());
     let mut is_good = true;
-    for line in text.lines() {
-        let message = bytes_of_digits(rt, line.as_bytes())?;
-        is_good &= put_message(reading, &message, &mut value, &mut lines.lines)?;
+    for _ in 0..u64::MAX {
+        line.clear();
+        if input.read_until(b'\n', &mut line).map_err(of_read)? == 0 {
+            break;
+        }
+        digits.push(&line)?;
+        digits.finish(rt)?;
+        is_good &= put_message(reading, digits.bytes(), &mut value, &mut lines.lines)?;
         lines.write(rt)?;
     }
     Ok(is_good)
