@@ -96,20 +96,22 @@ class _Stream:
     def __init__(self, of: _Type, calls: ctypes.CDLL, sentinel: int, strict: bool) -> None:
         self._of, self._calls, self._terms = of, calls, _Terms(sentinel=sentinel, strict=strict)
         self._left, self._before, self._is_closed = b"", 0, False
+        self._lock = threading.Lock()
         self.push(b"")  # what the declarations are refused for
 
     def push(self, piece: bytes, ends: bool = False) -> List[Dict[str, Any]]:
-        """The answers that these bytes bring."""
-        self._terms.ends = ends
-        given = self._left + bytes(memoryview(piece))
-        _, text, used, self._terms.inside = self._of.said(self._calls.wire_c_read, self._terms, given)
-        answers = [json.loads(line) for line in text.splitlines()]
-        for answer in answers:
-            for what, places in answer.items():
-                if what != "value":  # counted from the first byte that the call was handed
-                    answer[what] = {name: place + self._before for name, place in places.items()}
-        self._left, self._before = given[used:], self._before + used
-        return answers
+        """The answers that these bytes bring. Threads push one after another: the room and what is left over are one receiver's."""
+        with self._lock:
+            self._terms.ends = ends
+            given = self._left + bytes(memoryview(piece))
+            _, text, used, self._terms.inside = self._of.said(self._calls.wire_c_read, self._terms, given)
+            answers = [json.loads(line) for line in text.splitlines()]
+            for answer in answers:
+                for what, places in answer.items():
+                    if what != "value":  # counted from the first byte that the call was handed
+                        answer[what] = {name: place + self._before for name, place in places.items()}
+            self._left, self._before = given[used:], self._before + used
+            return answers
 
     def listen(self, source: Any, ends: bool) -> Iterator[Dict[str, Any]]:
         for piece in _pieces(source, ends, lambda: self._is_closed):

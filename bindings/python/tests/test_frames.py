@@ -389,6 +389,29 @@ def test_both(rng, folder):
         os.environ["WIRE"] = wire
 
 
+def test_typed_threads(folder):
+    """A typed receiver that several threads hand streams answers each of them whole."""
+    path = os.path.join(folder, "threads.rs")
+    pathlib.Path(path).touch()
+    receiver, wrong = typed.TypedReceiver(path, "String"), []
+
+    def answer(text):
+        stream = typed.write(path, "String", [text] * 40)
+        for _ in range(100):
+            try:
+                if receiver.answers(stream) != [{"value": text}] * 40:
+                    wrong.append("other values")
+            except ValueError as error:  # of a text that another thread has written over
+                wrong.append(error)
+
+    before = sys.getswitchinterval()
+    sys.setswitchinterval(1e-6)
+    threads = [threading.Thread(target=answer, args=(letter * 1000 * (k + 1),)) for k, letter in enumerate("abcd")]
+    [it.start() for it in threads], [it.join() for it in threads]
+    sys.setswitchinterval(before)
+    assert not wrong, wrong[:3]
+
+
 def test_typed(folder, wire):
     path = os.path.join(folder, "lamp.rs")
     with open(path, "w", encoding="utf-8") as file:
@@ -467,6 +490,7 @@ def main():
         wire = os.environ.pop("WIRE", None)
         if by_library is not None:
             test_typed(sys.argv[1], None)
+            test_typed_threads(sys.argv[1])
         if wire:
             os.environ["WIRE"] = wire
             test_typed(sys.argv[1], wire)
