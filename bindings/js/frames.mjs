@@ -104,7 +104,7 @@ export class Receiver {
 
 /** Makes the bytes of each message, for a line that may break. */
 export class Sender {
-  #it; #send;
+  #it; #send; #sends = 0;
   constructor(options = {}) {
     this.#it = new Instance();
     this.#send = this.#it.calls[options.plain ? "frames_c_send_plain" : "frames_c_send"];
@@ -118,14 +118,16 @@ export class Sender {
     it.put(32, bytes);
     this.#send(it.at(16), it.at(0), it.at(32), U64(bytes.length), it.at(32 + bytes.length), U64(space));
     if (it.byte(24)) throw new Error("frames: a send has no space"); // the space is that of the longest frame
+    this.#sends++;
     return it.get(32 + bytes.length, it.number(16));
   }
   /** Says that all bytes of the last send went out. */
   sent() { this.#it.calls.frames_c_sent(this.#it.at(0)); }
   /** Writes a message to a WritableStream's writer, as that of a serial port. If that fails, the next send begins with a delimiter. */
   async write(writer, message) {
-    await writer.write(this.send(message));
-    this.sent();
+    const bytes = this.send(message), sends = this.#sends;
+    await writer.write(bytes);
+    if (sends === this.#sends) this.sent(); // else a later send has begun, which may still fail
   }
 }
 

@@ -69,6 +69,13 @@ async function streams() {
   fails = false;
   for (const m of [[4, 5], [6]]) await sender.write(writer, Uint8Array.from(m));
   assert.deepEqual(out, [0, 5, 3, 0, 4, 2, 4, 5, 0, 3, 1, 6, 0]);
+  // two writes that nobody waited for, the second of which fails: the third begins with a delimiter
+  const line = [];
+  const second = { async write(bytes) { if (bytes.length > 6) { line.push(...bytes.subarray(0, 4)); throw new Error("broken"); } line.push(...bytes); } };
+  const both = await Promise.allSettled([[1, 2], [3, 4, 5, 6]].map((m) => sender.write(second, Uint8Array.from(m))));
+  await sender.write(second, Uint8Array.of(7));
+  assert.deepEqual(both.map((it) => it.status), ["fulfilled", "rejected"]);
+  assert.deepEqual(new frames.Receiver(8).push(Uint8Array.from(line)).map((it) => it.kind), ["message", "damaged", "message"]);
 }
 function refusals() {
   for (const limit of [-1, 1.5, NaN, "8", 2 ** 40, undefined]) assert.throws(() => new frames.Receiver(limit), RangeError);
