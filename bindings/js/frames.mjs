@@ -22,7 +22,7 @@ export async function load(source = new URL("frames.wasm", import.meta.url)) {
 
 const CHUNK = 65536;
 const [MESSAGE, DAMAGED, TOO_LONG] = [1, 2, 3];
-const REFUSED = ["", "no space", "no frame", "no byte but delimiters"];
+const REFUSED = ["", "no space", "no frame"];
 const U64 = BigInt;
 
 // An instance of the module. What a call needs is put behind the module's own memory, at offsets that the caller chooses.
@@ -147,10 +147,12 @@ export function encode(message, options = {}) {
   const bytes = bytesOf(message);
   return whole(bytes, bytes.length + Math.floor(bytes.length / 254) + 2, "frames_c_encode_with_sentinel", sentinelOf(options));
 }
-/** The message of a frame, which may end in its delimiter. Throws a RangeError if it is no frame. */
+/** The message of one frame, with or without the delimiter that ends it. Throws a RangeError for all other bytes. */
 export function decode(frame, options = {}) {
-  const bytes = bytesOf(frame), sentinel = sentinelOf(options);
-  if (bytes.length === 0 || bytes[0] === sentinel) throw new RangeError(`frames: ${REFUSED[3]}`);
+  const bytes = bytesOf(frame), sentinel = sentinelOf(options), end = bytes.indexOf(sentinel);
+  if (bytes.length === 0) throw new RangeError("frames: no frame: there are no bytes");
+  if (end === 0) throw new RangeError("frames: no frame: a delimiter is in front");
+  if (end > 0 && end < bytes.length - 1) throw new RangeError("frames: bytes are after the delimiter that ends the frame");
   return whole(bytes, bytes.length, "frames_c_decode_with_sentinel", sentinel);
 }
 /** The CRC-32 of bytes, as Ethernet, gzip and PNG have it. */

@@ -11,12 +11,13 @@ function encode(sentinel, message, frame) {
   assert.deepEqual(frames.encode(bytesOf(message), { sentinel }), bytesOf(frame));
   assert.deepEqual(frames.decode(bytesOf(frame), { sentinel }), bytesOf(message));
 }
-/** A source whose first frame begins at its front: what decoding a whole frame has to give. */
+/** A source whose first frame begins at its front: what decoding that frame has to give. More than a frame is refused. */
 function decode(source, room, answer, rest) {
-  const bytes = bytesOf(source);
-  if (bytes.length === 0 || bytes[0] === 0 || answer === "!TargetBufTooSmall") return false;
-  if (answer[0] === "!") assert.throws(() => frames.decode(bytes), RangeError);
-  else assert.deepEqual(frames.decode(bytes), bytesOf(rest ?? "-"));
+  const bytes = bytesOf(source), end = bytes.indexOf(0), frame = end < 0 ? bytes : bytes.subarray(0, end + 1);
+  if (bytes.length === 0 || end === 0 || answer === "!TargetBufTooSmall") return false;
+  if (frame.length < bytes.length) assert.throws(() => frames.decode(bytes), RangeError);
+  if (answer[0] === "!") assert.throws(() => frames.decode(frame), RangeError);
+  else assert.deepEqual(frames.decode(frame), bytesOf(rest ?? "-"));
   return true;
 }
 function stream(sentinel, limit, chunks, answers) {

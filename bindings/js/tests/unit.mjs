@@ -23,7 +23,8 @@ function whole() {
   assert.deepEqual(frames.decode(Uint8Array.of(...f, s), { sentinel: s }), m);
   const changed = f.slice();
   changed[some(changed.length)] = some(256);
-  const at = changed.indexOf(s), front = at < 0 ? changed : changed.subarray(0, at), wanted = oracle.messageOf(masked(front, s));
+  const at = changed.indexOf(s), front = at < 0 ? changed : changed.subarray(0, at);
+  const wanted = at < 0 || at === changed.length - 1 ? oracle.messageOf(masked(front, s)) : undefined;
   if (wanted) assert.deepEqual(frames.decode(changed, { sentinel: s }), wanted);
   else assert.throws(() => frames.decode(changed, { sentinel: s }), RangeError);
   const sealed = frames.seal(m);
@@ -86,7 +87,9 @@ function refusals() {
     assert.throws(() => new frames.Receiver(8).push(it), TypeError);
     assert.throws(() => frames.crc32(it), TypeError);
   }
-  for (const it of [[], [0], [5, 1], [0, 3, 104, 105]]) assert.throws(() => frames.decode(Uint8Array.from(it)), RangeError);
+  for (const it of [[], [0], [5, 1], [0, 3, 104, 105], [3, 104, 105, 0, 0], [3, 104, 105, 0, 3, 104, 105]]) {
+    assert.throws(() => frames.decode(Uint8Array.from(it)), RangeError);
+  }
   assert.equal(frames.unseal(Uint8Array.of(1, 2, 3)), undefined);
   assert.equal(frames.crc32(new TextEncoder().encode("123456789")), 0xcbf43926); // as published
   assert.deepEqual(frames.encode(new Uint16Array([0x0102]).buffer), Uint8Array.of(3, 2, 1));
