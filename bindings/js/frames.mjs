@@ -176,7 +176,7 @@ export function unseal(message) {
   it.reserve(32 + source.length);
   it.put(32, source);
   it.calls.frames_c_unseal(it.at(0), it.at(32), U64(source.length));
-  return it.byte(8) ? undefined : source.slice(0, it.number(0));
+  return it.byte(8) ? undefined : it.get(32, it.number(0)); // a copy: a Buffer's own slice would be a view
 }
 
 async function* chunks(source) {

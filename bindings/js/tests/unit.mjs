@@ -91,6 +91,9 @@ function refusals() {
     assert.throws(() => frames.decode(Uint8Array.from(it)), RangeError);
   }
   assert.equal(frames.unseal(Uint8Array.of(1, 2, 3)), undefined);
+  const sealed = Buffer.from(frames.seal(Uint8Array.of(1, 2))), unsealed = frames.unseal(sealed);
+  sealed.fill(9);
+  assert.deepEqual(unsealed, Uint8Array.of(1, 2)); // bytes of its own, as from each call
   assert.equal(frames.crc32(new TextEncoder().encode("123456789")), 0xcbf43926); // as published
   assert.deepEqual(frames.encode(new Uint16Array([0x0102]).buffer), Uint8Array.of(3, 2, 1));
   assert.deepEqual(frames.encode(new DataView(Uint8Array.of(9, 8, 7).buffer, 1)), Uint8Array.of(3, 8, 7));
