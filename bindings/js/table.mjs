@@ -28,7 +28,11 @@ const shown = (name) => name.replaceAll("\n", "\\n").replaceAll("\r", "\\r").rep
 // ---- bytes
 
 class Source {
-  constructor(bytes) { this.bytes = bytes; this.at = 0; }
+  constructor(bytes) {
+    if (!(bytes instanceof Uint8Array)) throw new TypeError("bytes are needed: a Uint8Array");
+    this.bytes = bytes;
+    this.at = 0;
+  }
   byte() {
     if (this.at === this.bytes.length) throw new Unread("damaged");
     return this.bytes[this.at++];
@@ -161,6 +165,7 @@ function parseFloatBits(kind, json) {
 
 /** A text as a value: one of `null`, `truth`, `number` (its digits), `text`, `items`, `members` (pairs). */
 export function parseJson(text, depth = 2 * GREATEST_DEPTH) {
+  if (typeof text !== "string") throw new TypeError("a text is needed: a line of JSON");
   let at = 0;
   const fail = () => { throw new Wrong("the line isn't JSON", `column ${[...text.slice(0, at)].length + 1}`); };
   const blank = () => { while (at < text.length && " \t\n\r".includes(text[at])) at++; };
@@ -293,8 +298,14 @@ export class Table {
 
   // ---- reading
 
+  /** Throws a TypeError for a place that isn't of the table, as that of a name that it hasn't. */
+  #checkPlace(place) {
+    if (!this.nodes[place]) throw new TypeError(`the table has no place ${place}`);
+  }
+
   /** The JSON of the value at the front of these bytes. Throws Unread if there is none, or one that nests deeper than `depth` nodes. */
   read(place, bytes, { depth = 60, empty = 65536, hex = false } = {}) {
+    this.#checkPlace(place);
     const state = { source: new Source(bytes), deepest: 0, empty: BigInt(empty), hex };
     const text = this.#value(place, state, 1);
     if (state.deepest > depth) throw new Unread("too_deep");
@@ -392,6 +403,7 @@ export class Table {
 
   /** The bytes of the value that a line of JSON is, by itself or as `{"value": ..}`. Throws Wrong, with the way to what is wrong. */
   write(place, line, { depth = 60, empty = 65536 } = {}) {
+    this.#checkPlace(place);
     this.#empty = empty;
     const json = parseJson(line, 2 * depth + 2);
     const whole = () => this.#bytesOf(place, json, depth);
@@ -478,7 +490,7 @@ export class Table {
     const isByte = this.nodes[place].kind === "u8";
     if (json.text !== undefined && isByte && depth > 0) {
       const bytes = this.#digits(json.text);
-      out.push(...bytes);
+      for (const byte of bytes) out.push(byte);
       return bytes.length;
     }
     if (!json.items) throw new Wrong(isByte ? "expected an array of bytes or a string of hexadecimal digits" : "expected an array");

@@ -70,6 +70,17 @@ for (const [json, bits] of [["1.000000059604644775390625", "0000803f"], ["1.0000
   assert.equal(hex(single.write(0, json)), bits, json);
 }
 assert.throws(() => single.write(0, "340282356779733661637539395458142568448"), Wrong);
+// what isn't bytes, a line or a place is refused, and no value is made of it; digits of many bytes are a value
+for (const it of [new ArrayBuffer(8), new DataView(new ArrayBuffer(8)), Uint16Array.of(700, 700), [700, 700, 700, 700], "abcd", undefined]) {
+  assert.throws(() => single.read(0, it), TypeError);
+  assert.throws(() => of({ kind: "u8" }).read(0, it), TypeError);
+}
+for (const it of [{ f: 1 }, 5, null, undefined]) assert.throws(() => single.write(0, it), /a text is needed/);
+for (const it of [undefined, 1, -1, "T"]) {
+  assert.throws(() => single.read(it, new Uint8Array(4)), /no place/);
+  assert.throws(() => single.write(it, "1.5"), /no place/);
+}
+assert.equal(of({ kind: "list", node: 1, most: null }, { kind: "u8" }).write(0, `"${"00".repeat(200000)}"`).length, 200003);
 // types of one name are told apart by their lines; without a line none is chosen
 const twice = new Table({ version: 1, types: [["Config", 3, 0], ["Config", 7, 1], ["All", 9, 1]].map(([name, line, node]) => ({ name, line, node })), nodes: [{ kind: "u8" }, { kind: "u16" }] });
 assert.deepEqual(twice.names, ["Config:3", "Config:7", "All"]);
