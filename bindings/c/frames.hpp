@@ -93,12 +93,22 @@ class receiver {
     bool finish() { return frames_finish(&state_); }
 };
 
+// Sends messages over a line. Moving it keeps whether the last send went out, and leaves a new sender. Two senders of one line would be a
+// mistake, so it isn't copied.
 class sender {
     struct frames_sender state_;
     kind kind_;
 
   public:
     explicit sender(kind k = kind::counted, std::uint8_t sentinel = 0) : state_(frames_sender(sentinel)), kind_(k) {}
+    sender(const sender &) = delete;
+    sender &operator=(const sender &) = delete;
+    sender(sender &&other) noexcept : state_(std::exchange(other.state_, frames_sender(other.state_.sentinel))), kind_(other.kind_) {}
+    sender &operator=(sender &&other) noexcept {
+        state_ = std::exchange(other.state_, frames_sender(other.state_.sentinel));
+        kind_ = other.kind_;
+        return *this;
+    }
 
     // Sends over a line: `write(bytes)` returns whether all of them went out, or throws. After a failure the next send begins with a
     // sentinel, so that it is received.

@@ -39,6 +39,19 @@ int main() {
     } catch (int) {
     }
     HOLDS(sender.send(std::string_view(two), write));
+    // one line has one sender: a copy wouldn't know what the other broke off
+    static_assert(!std::is_copy_constructible_v<frames::sender> && !std::is_copy_assignable_v<frames::sender>);
+    static_assert(std::is_nothrow_move_constructible_v<frames::sender> && std::is_nothrow_move_assignable_v<frames::sender>);
+    auto begins_with = [](std::uint8_t byte) { return [byte](frames::bytes b) { return *b.begin() == byte; }; };
+    frames::sender taken(frames::kind::plain, 10);
+    HOLDS(taken.send(one, begins_with(10)));
+    frames::sender taker(std::move(taken));
+    HOLDS(taken.send(one, begins_with(10)) && taker.send(one, begins_with(10 ^ 11)));
+    taken = frames::sender();
+    taken = std::move(taker);
+    frames::sender &same = taken;
+    taken = std::move(same);
+    HOLDS(taken.send(one, begins_with(10 ^ 11)) && taker.send(one, begins_with(10)));
     frames::receiver made(32), other(8);
     made.push(vector{9, 'x'}, [](const frames::event &) { HOLDS(false); });
     HOLDS(made.begun() == 2);
