@@ -110,9 +110,10 @@ class sender {
         return *this;
     }
 
-    // Sends over a line: `write(bytes)` returns whether all of them went out, or throws. After a failure the next send begins with a
-    // sentinel, so that it is received.
+    // Sends over a line: `write(bytes)` returns whether all of them went out, as a bool, or throws. After a failure the next send begins
+    // with a sentinel, so that it is received.
     template <class Write> bool send(bytes content, Write &&write) {
+        static_assert(std::is_same_v<std::invoke_result_t<Write &, bytes>, bool>, "write returns a bool: a count, as -1, would mean success");
         std::vector<std::uint8_t> out(frames_most_encoded_length(content.size()) + 14);
         const auto call = kind_ == kind::plain ? frames_send_plain : frames_send;
         const struct frames_written w = call(&state_, content.data(), content.size(), out.data(), out.size());

@@ -39,6 +39,9 @@ int main() {
     } catch (int) {
     }
     HOLDS(sender.send(std::string_view(two), write));
+#ifdef WRITE_RETURNS_A_COUNT // isn't compiled: -1 would mean success
+    sender.send(one, [](frames::bytes) { return -1; });
+#endif
     // one line has one sender: a copy wouldn't know what the other broke off
     static_assert(!std::is_copy_constructible_v<frames::sender> && !std::is_copy_assignable_v<frames::sender>);
     static_assert(std::is_nothrow_move_constructible_v<frames::sender> && std::is_nothrow_move_assignable_v<frames::sender>);
