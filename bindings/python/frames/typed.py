@@ -110,7 +110,7 @@ class _Stream:
                 for what, places in answer.items():
                     if what != "value":  # counted from the first byte that the call was handed
                         answer[what] = {name: place + self._before for name, place in places.items()}
-            self._left, self._before = given[used:], self._before + used
+            self._left, self._before = (b"", 0) if ends else (given[used:], self._before + used)
             return answers
 
     def listen(self, source: Any, ends: bool) -> Iterator[Dict[str, Any]]:
@@ -256,7 +256,7 @@ class TypedReceiver:
         return self._by.listen(source, ends)
 
     def answers(self, stream: bytes) -> List[Dict[str, Any]]:
-        """The answers to a whole stream."""
+        """The answers to a whole stream. Places are counted from its first byte."""
         return self._by.answers(stream)
 
     def close(self) -> None:

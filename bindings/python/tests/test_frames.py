@@ -425,6 +425,10 @@ def test_typed(folder, wire):
     with typed.TypedReceiver(path, "Reading", wire=wire) as receiver:
         assert list(receiver.listen(io.BytesIO(stream))) == answers
     assert typed.TypedReceiver(path, "Reading", wire=wire).answers(stream) == answers
+    if not wire:  # a process answers one stream
+        with typed.TypedReceiver(path, "Reading") as receiver:
+            for _ in range(2):
+                assert receiver.answers(stream + b"\x07") == answers + [{"cut": {"from": 15, "to": 16}}]
     # what the declarations are refused for is told, whichever call meets it; and a source's own failure comes behind what it gave
     for call in (
         lambda: typed.TypedReceiver(path, "No", wire=wire).answers(b""),
