@@ -236,6 +236,7 @@ class TypedReceiver:
 
     def __init__(self, declarations: str, type_name: str, sentinel: int = 0, strict: bool = False, wire: Optional[str] = None) -> None:
         by_library = _of_library(declarations, type_name, wire)
+        self._is_closed = False
         self._by: Union[_Stream, _Process]
         if by_library is not None:
             self._by = _Stream(by_library[0], by_library[1], _byte(sentinel), strict)
@@ -253,12 +254,21 @@ class TypedReceiver:
 
         What reading the source raises comes out after the answers to what was read.
         """
-        return self._by.listen(source, ends)
+        return self._opened().listen(source, ends)
 
     def answers(self, stream: bytes) -> List[Dict[str, Any]]:
         """The answers to a whole stream. Places are counted from its first byte."""
-        return self._by.answers(stream)
+        return self._opened().answers(stream)
 
     def close(self) -> None:
-        """Ends the process, if there is one, and raises what it told of its words or of a device. What wasn't answered yet isn't."""
+        """Ends the process, if there is one, and raises what it told of its words or of a device. What wasn't answered yet isn't.
+
+        To listen or to ask for answers is a `ValueError` then.
+        """
+        self._is_closed = True
         self._by.close()
+
+    def _opened(self) -> Union[_Stream, _Process]:
+        if self._is_closed:
+            raise ValueError("the receiver is closed")
+        return self._by

@@ -425,6 +425,11 @@ def test_typed(folder, wire):
     with typed.TypedReceiver(path, "Reading", wire=wire) as receiver:
         assert list(receiver.listen(io.BytesIO(stream))) == answers
     assert typed.TypedReceiver(path, "Reading", wire=wire).answers(stream) == answers
+    receiver = typed.TypedReceiver(path, "Reading", wire=wire)
+    heard = receiver.listen(io.BytesIO(stream))
+    assert next(heard) == answers[0]
+    receiver.close(), receiver.close()
+    assert refuses(ValueError, receiver.answers, stream) and refuses(ValueError, receiver.listen, io.BytesIO(stream))
     if not wire:  # a process answers one stream
         with typed.TypedReceiver(path, "Reading") as receiver:
             for _ in range(2):
