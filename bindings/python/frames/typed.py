@@ -22,6 +22,7 @@ from typing import IO, Any, Dict, Iterable, Iterator, List, Optional, Tuple, Uni
 
 from . import _byte, _pieces, _Room
 
+_Path = Union[str, "os.PathLike[str]"]
 _DONE, _NO_ROOM, _WRONG, _REFUSED, _NO_MEMORY = range(5)
 
 
@@ -152,12 +153,13 @@ def _closed(pipe: IO[bytes]) -> None:
         pass
 
 
-def write(declarations: str, type_name: str, values: Iterable[Any], sentinel: int = 0, wire: Optional[str] = None) -> bytes:
+def write(declarations: _Path, type_name: str, values: Iterable[Any], sentinel: int = 0, wire: Optional[str] = None) -> bytes:
     """The bytes that `wire write` makes of these values: a sentinel, and a frame and a sentinel for each.
 
     A value that isn't of the type is a `ValueError`; what is wrong with the declarations or the type is an `OSError`, and so is that there is
     neither the library nor the program (`FileNotFoundError`). Nothing is returned then.
     """
+    declarations = os.fspath(declarations)
     lines = "".join(json.dumps(value) + "\n" for value in values)
     by_library = _of_library(declarations, type_name, wire)
     if by_library is not None:
@@ -234,7 +236,8 @@ class TypedReceiver:
     What is wrong with the declarations, the type or a device is an `OSError`, at the latest from `close`, which leaving a `with` block calls.
     """
 
-    def __init__(self, declarations: str, type_name: str, sentinel: int = 0, strict: bool = False, wire: Optional[str] = None) -> None:
+    def __init__(self, declarations: _Path, type_name: str, sentinel: int = 0, strict: bool = False, wire: Optional[str] = None) -> None:
+        declarations = os.fspath(declarations)
         by_library = _of_library(declarations, type_name, wire)
         self._is_closed = False
         self._by: Union[_Stream, _Process]

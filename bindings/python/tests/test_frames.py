@@ -425,7 +425,8 @@ def test_typed(folder, wire):
     with typed.TypedReceiver(path, "Reading", wire=wire) as receiver:
         assert list(receiver.listen(io.BytesIO(stream))) == answers
     assert typed.TypedReceiver(path, "Reading", wire=wire).answers(stream) == answers
-    receiver = typed.TypedReceiver(path, "Reading", wire=wire)
+    assert typed.write(pathlib.Path(path), "Reading", values, wire=wire) + b"\x01\x02\x03\0" == stream
+    receiver = typed.TypedReceiver(pathlib.Path(path), "Reading", wire=wire)
     heard = receiver.listen(io.BytesIO(stream))
     assert next(heard) == answers[0]
     receiver.close(), receiver.close()
