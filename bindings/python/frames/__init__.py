@@ -244,7 +244,7 @@ class Sender:
             out = memoryview(self.send(message))
             while out:
                 count = line.write(out)
-                if not count:
+                if not count or count < 0:  # as a write of C says that it failed
                     raise OSError("the line takes nothing")
                 out = out[count:]
             line.flush()

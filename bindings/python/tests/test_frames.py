@@ -102,6 +102,28 @@ def test_misuse():
     assert refuses(frames.Invalid, frames.decode, b"\x0a", 10)
 
 
+def test_write():
+    """A line that takes nothing, or says so by -1, is an error, and the next send begins with a sentinel."""
+
+    class Line:
+        def __init__(self, *counts):
+            self.counts, self.out = list(counts), b""
+
+        def write(self, out):
+            count = self.counts.pop(0)
+            self.out += out[: max(count or 0, 0)]
+            return count
+
+        def flush(self):
+            pass
+
+    for count in (0, None, -1):
+        sender, line = frames.Sender(), Line(3, count, 6)
+        assert refuses(OSError, sender.write, line, b"hi") and line.counts == [6], count
+        sender.write(line, b"yo")
+        assert line.out == b"\0\x04\x02" + b"\0\x04\x02yo\0"
+
+
 def test_lengths():
     """No type is made for each length: it would cost more than the message, and stay."""
     sender, receiver = frames.Sender(), frames.Receiver(1 << 12)
@@ -486,6 +508,7 @@ def main():
     rng = random.Random(7)
     test_codec(rng)
     test_misuse()
+    test_write()
     test_lengths()
     test_line(rng)
     test_listen()
