@@ -205,6 +205,8 @@ def unseal(message: bytes) -> bytes:
 
 
 def _byte(sentinel: int) -> int:
+    if isinstance(sentinel, bool):  # one that was meant for `plain`
+        raise TypeError("a sentinel is a byte, not a bool")
     if not 0 <= index(sentinel) < 256:
         raise ValueError("a sentinel is a byte")
     return index(sentinel)

@@ -88,7 +88,8 @@ def test_misuse():
     assert all(refuses(TypeError, frames.Receiver, limit) for limit in (1.5, "8", None, b"8"))
     assert all(refuses((MemoryError, OverflowError), frames.Receiver, 1 << bits) for bits in (62, 63, 64, 80))
     assert all(refuses(ValueError, frames.encode, b"hi", sentinel) for sentinel in (-1, 256))
-    assert all(refuses(TypeError, frames.encode, b"hi", sentinel) for sentinel in (1.0, "a", None))
+    assert all(refuses(TypeError, frames.encode, b"hi", sentinel) for sentinel in (1.0, "a", None, True))
+    assert refuses(TypeError, frames.Sender, True) and refuses(TypeError, frames.Receiver, 8, True)
     sender, receiver = frames.Sender(), frames.Receiver(8)
     for call in (sender.send, receiver.push, frames.encode, frames.encoded_length, frames.decode, frames.seal, frames.unseal, frames.crc32):
         assert all(refuses(TypeError, call, message) for message in (3, True, "hi", None, [1, 2], 1.5)), call
