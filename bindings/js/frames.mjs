@@ -8,6 +8,7 @@ let compiled;
 
 /** Compiles the module: a URL, a Response, its bytes or a WebAssembly.Module; `frames.wasm` beside this file if none is given. */
 export async function load(source = new URL("frames.wasm", import.meta.url)) {
+  if (typeof source === "string" && source.startsWith("file:")) source = new URL(source); // as import.meta.resolve returns it in Node
   if (source instanceof WebAssembly.Module) compiled = source;
   else if (ArrayBuffer.isView(source) || source instanceof ArrayBuffer) compiled = await WebAssembly.compile(source);
   else if (source instanceof URL && source.protocol === "file:") {

@@ -100,6 +100,8 @@ function refusals() {
 }
 
 refusals();
+await frames.load(import.meta.resolve("../frames.wasm")); // a URL as a text
+await frames.load(process.env.FRAMES_WASM ? readFileSync(process.env.FRAMES_WASM) : undefined);
 await streams();
 let rounds = 0;
 for (; isTimed ? Date.now() < until : rounds < Number(told); rounds++) { whole(); stream(); }
