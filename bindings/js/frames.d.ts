@@ -1,6 +1,9 @@
 export type Bytes = Uint8Array | ArrayBufferView | ArrayBuffer;
 export type Event =
-  /** `end` is where its delimiter is among the pushed bytes; `length` how many bytes came before that since the last one. */
+  /**
+   * `end` is where its delimiter is: among the pushed bytes, or in the stream that `receive` or `receiverStream` takes. `length` is how
+   * many bytes came before that since the last one.
+   */
   | { kind: "message"; bytes: Uint8Array; end: number; length: number }
   | { kind: "damaged"; end: number; length: number }
   /** `end` is the byte past the limit. */

@@ -180,6 +180,20 @@ export function unseal(message) {
   return it.byte(8) ? undefined : it.get(32, it.number(0)); // a copy: a Buffer's own slice would be a view
 }
 
+// a receiver of the chunks of one stream, which counts places from its first byte
+function receiverOf(limit, options) {
+  const receiver = new Receiver(limit, options);
+  let before = 0;
+  return {
+    push(chunk) {
+      const events = receiver.push(chunk);
+      for (const event of events) event.end += before;
+      before += bytesOf(chunk).length;
+      return events;
+    },
+    finish: () => receiver.finish(),
+  };
+}
 async function* chunks(source) {
   if (typeof source.getReader !== "function") return yield* source;
   const reader = source.getReader();
@@ -189,14 +203,14 @@ async function* chunks(source) {
 }
 /** What is received of a stream, as it comes: Web Serial's `port.readable`, a Node stream, or whatever gives bytes one after another. */
 export async function* receive(source, limit, options = {}) {
-  const receiver = new Receiver(limit, options);
+  const receiver = receiverOf(limit, options);
   for await (const chunk of chunks(source)) yield* receiver.push(chunk);
   const cut = receiver.finish();
   if (cut) yield cut;
 }
 /** The same as a stage of a pipe: `port.readable.pipeThrough(receiverStream(1024))`. */
 export function receiverStream(limit, options = {}) {
-  const receiver = new Receiver(limit, options);
+  const receiver = receiverOf(limit, options);
   return new TransformStream({
     transform(chunk, to) { for (const event of receiver.push(chunk)) to.enqueue(event); },
     flush(to) { const cut = receiver.finish(); if (cut) to.enqueue(cut); },

@@ -54,8 +54,8 @@ function stream() {
 }
 async function streams() {
   const chunks = [Buffer.from("00040268690005616263", "hex"), Buffer.from("000402796f", "hex")];
-  const wanted = ["message", "damaged", "cut"];
-  const kinds = async (source) => { const found = []; for await (const event of source) found.push(event.kind); return found; };
+  const wanted = ["message 5", "damaged 10", "cut undefined"]; // places in the stream, whatever its chunks are
+  const kinds = async (source) => { const found = []; for await (const event of source) found.push(`${event.kind} ${event.end}`); return found; };
   assert.deepEqual(await kinds(frames.receive(Readable.from(chunks), 8)), wanted);
   assert.deepEqual(await kinds(frames.receive(chunks, 8)), wanted);
   assert.deepEqual(await kinds(frames.receive(new ReadableStream({ start(to) { for (const it of chunks) to.enqueue(it); to.close(); } }), 8)), wanted);
