@@ -31,7 +31,7 @@ from ctypes import POINTER, Structure, addressof, byref, c_bool, c_char_p, c_siz
 from dataclasses import dataclass
 from operator import index
 from threading import Lock
-from typing import Any, BinaryIO, Callable, Iterator, List, Optional, Union
+from typing import Any, Callable, Iterator, List, Optional, Protocol, Union
 
 __all__ = [
     "Cut", "Damaged", "Event", "Invalid", "Receiver", "Sender", "TooLong",
@@ -212,6 +212,14 @@ def _byte(sentinel: int) -> int:
     return index(sentinel)
 
 
+class _Line(Protocol):
+    """What a sender writes to: a file object, a socket's file, a port of pyserial, which is no `BinaryIO`."""
+
+    def write(self, __out: Any) -> Optional[int]: ...
+
+    def flush(self) -> object: ...
+
+
 class Sender:
     """Makes what goes out for each message."""
 
@@ -236,7 +244,7 @@ class Sender:
         """Says that all bytes of the last send went out."""
         library().frames_c_sent(byref(self._state))
 
-    def write(self, line: BinaryIO, message: bytes) -> None:
+    def write(self, line: _Line, message: bytes) -> None:
         """Sends a message over a file object or a serial port, which is flushed; of several threads one after another.
 
         What it raises comes out, and a write that takes nothing is an `OSError`; the next send then begins with a sentinel. A writer of

@@ -19,6 +19,7 @@ import termios
 import threading
 import time
 import tty
+import typing
 import zipfile
 
 import frames
@@ -273,6 +274,8 @@ class Port:
 
 
 def test_port():
+    line = typing.get_type_hints(frames.Sender.write)["line"]  # the types want no more of a line than a port has
+    assert {name for name in dir(line) if not name.startswith("_")} <= set(dir(Port)), dir(line)
     here, there = os.openpty()
     tty.setraw(here), tty.setraw(there)
     device, host, sender = Port(there, 0.01), Port(here, 0.01), frames.Sender()
