@@ -377,6 +377,8 @@ impl<'a> Receiver<'a> {
         room: &mut [u8],
         mut hear: impl FnMut(Event<'_>),
     ) -> Result<bool, S::Error> {
+        let mut one = [0u8; 1]; // a read into no room would look like the end
+        let room = if room.is_empty() { &mut one[..] } else { room };
         loop {
             let n = source.read(room)?.min(room.len());
             if n == 0 {

@@ -134,3 +134,13 @@ fn a_port_of_ones_own() {
     });
     assert_eq!((cut, count), (Ok(false), 1));
 }
+
+#[test]
+fn an_empty_room_is_no_end() -> Result<(), Box<dyn Error>> {
+    let (mut buffer, mut heard) = ([0u8; 16], Vec::new());
+    let is_cut = Receiver::new(&mut buffer, 0).listen(&mut Io(line(0)), &mut [], |event| {
+        heard.push(format!("{event:?}"))
+    })?;
+    assert!(is_cut && heard == ["Message([104, 105])"]);
+    Ok(())
+}
