@@ -10,7 +10,6 @@ import hashlib
 import os
 import platform
 import re
-import shutil
 import zipfile
 
 NAME, VERSION = "nizkelouz_frames", "0.1.0"
@@ -96,6 +95,9 @@ def get_requires_for_build_wheel(config_settings=None):
 get_requires_for_build_editable = get_requires_for_build_sdist = get_requires_for_build_wheel
 
 
+class UnsupportedOperation(Exception):
+    """By this a frontend knows that there is no source distribution."""
+
+
 def build_sdist(sdist_directory, config_settings=None):
-    base = f"{NAME}-{VERSION}"
-    return os.path.basename(shutil.make_archive(os.path.join(sdist_directory, base), "gztar", HERE))
+    raise UnsupportedOperation("no source distribution: the library is elsewhere in the clone, and a wheel made without it has none")

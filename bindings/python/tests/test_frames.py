@@ -333,6 +333,12 @@ def test_wheel(folder):
         os.link(program, os.path.join(named, name)), os.chmod(program, 0o755)
         assert runs(typed_call, site, PATH=named + ":/usr/bin:/bin") == "wire write a.rs T sentinel=00\n", name
     assert "./install --built DIR framed-json" in runs(typed_call, site, PATH="/usr/bin:/bin")
+    try:  # an archive of this folder would have no library, nor would a wheel that is made of it
+        built("build_sdist", os.path.join(folder, "source"))
+    except subprocess.CalledProcessError as error:
+        assert "UnsupportedOperation" in error.stderr and not os.listdir(os.path.join(folder, "source")), error.stderr
+    else:
+        raise AssertionError("not refused")
     editable = built("build_editable", os.path.join(folder, "editable"))
     with zipfile.ZipFile(editable) as archive:
         pth = [archive.read(name).decode() for name in archive.namelist() if name.endswith(".pth")]
