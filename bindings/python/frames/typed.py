@@ -156,10 +156,12 @@ def _closed(pipe: IO[bytes]) -> None:
 def write(declarations: _Path, type_name: str, values: Iterable[Any], sentinel: int = 0, wire: Optional[str] = None) -> bytes:
     """The bytes that `wire write` makes of these values: a sentinel, and a frame and a sentinel for each.
 
-    A value that isn't of the type is a `ValueError`; what is wrong with the declarations or the type is an `OSError`, and so is that there is
-    neither the library nor the program (`FileNotFoundError`). Nothing is returned then.
+    A value that isn't of the type is a `ValueError`. A text or a dictionary, which is no list of values, is a `TypeError`. What is wrong with
+    the declarations or the type is an `OSError`, and so is that there is neither the library nor the program (`FileNotFoundError`).
     """
     declarations = os.fspath(declarations)
+    if isinstance(values, (str, dict)):  # whose letters and keys would be taken for values
+        raise TypeError("a list of values is needed, not a value alone")
     lines = "".join(json.dumps(value) + "\n" for value in values)
     by_library = _of_library(declarations, type_name, wire)
     if by_library is not None:

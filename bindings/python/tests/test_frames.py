@@ -457,6 +457,7 @@ def test_typed(folder, wire):
     with typed.TypedReceiver(path, "Reading", wire=wire) as receiver:
         assert list(receiver.listen(io.BytesIO(stream))) == answers
     assert typed.TypedReceiver(path, "Reading", wire=wire).answers(stream) == answers
+    assert refuses(TypeError, typed.write, path, "Reading", values[0]) and refuses(TypeError, typed.write, path, "String", "hi")
     assert typed.write(pathlib.Path(path), "Reading", values, wire=wire) + b"\x01\x02\x03\0" == stream
     receiver = typed.TypedReceiver(pathlib.Path(path), "Reading", wire=wire)
     heard = receiver.listen(io.BytesIO(stream))
