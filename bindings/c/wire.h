@@ -24,7 +24,10 @@
 #include <stdint.h>
 
 #ifdef __cplusplus
+#define WIRE_AS(type, pointer) static_cast<type>(pointer)
 extern "C" {
+#else
+#define WIRE_AS(type, pointer) ((type)(pointer))
 #endif
 
 /* The status of a result. */
@@ -75,11 +78,11 @@ static inline int wire_is_null(const void *declarations, size_t declarations_len
 /* A pointer that isn't null, in place of one to nothing. */
 static inline const uint8_t *wire_from(const void *bytes) {
     static const uint8_t nothing = 0;
-    return bytes ? (const uint8_t *)bytes : &nothing;
+    return bytes ? WIRE_AS(const uint8_t *, bytes) : &nothing;
 }
 static inline uint8_t *wire_to(void *bytes) {
     static uint8_t nothing; /* never written: its length is 0 */
-    return bytes ? (uint8_t *)bytes : &nothing;
+    return bytes ? WIRE_AS(uint8_t *, bytes) : &nothing;
 }
 
 /* Reads a stream of frames, and puts a line of JSON for each answer in front of the room. Hand it each chunk after the bytes that the

@@ -1,5 +1,6 @@
-// The header in C++: a message goes out and comes back.
+// The headers in C++: a message goes out and comes back; wire.h is compiled.
 #include "frames.h"
+#include "wire.h"
 #include <cstring>
 
 int main() {
