@@ -30,7 +30,7 @@ import time
 from ctypes import POINTER, Structure, addressof, byref, c_bool, c_char_p, c_size_t, c_uint8, c_uint32, c_void_p, cast, string_at
 from dataclasses import dataclass
 from operator import index
-from threading import Lock
+from threading import Lock, RLock
 from typing import Any, Callable, Iterator, List, Optional, Protocol, Union
 
 __all__ = [
@@ -224,7 +224,7 @@ class Sender:
     """Makes what goes out for each message."""
 
     def __init__(self, sentinel: int = 0, plain: bool = False) -> None:
-        self._state, self._lock = library().frames_c_sender(_byte(sentinel)), Lock()
+        self._state, self._lock, self._is_writing = library().frames_c_sender(_byte(sentinel)), RLock(), False
         self._send = library().frames_c_send_plain if plain else library().frames_c_send
 
     def send(self, message: bytes) -> bytes:
@@ -247,18 +247,28 @@ class Sender:
     def write(self, line: _Line, message: bytes) -> None:
         """Sends a message over a file object or a serial port, which is flushed; of several threads one after another.
 
-        What it raises comes out, and a write that takes nothing is an `OSError`; the next send then begins with a sentinel. A writer of
-        asyncio has no count to return: `frames.aio.Line` sends over that.
+        What it raises comes out, and a write that takes nothing is an `OSError`; the next send then begins with a sentinel. A write inside
+        a write, by the line itself or a signal handler, is a `RuntimeError`. A writer of asyncio has no count to return: `frames.aio.Line`
+        sends over that.
         """
         with self._lock:
-            out = memoryview(self.send(message))
-            while out:
-                count = line.write(out)
-                if not count or count < 0:  # as a write of C says that it failed
-                    raise OSError("the line takes nothing")
-                out = out[count:]
-            line.flush()
-            self.sent()
+            if self._is_writing:
+                raise RuntimeError("a write inside a write of the same sender")
+            self._is_writing = True
+            try:
+                self._write(line, message)
+            finally:
+                self._is_writing = False
+
+    def _write(self, line: _Line, message: bytes) -> None:
+        out = memoryview(self.send(message))
+        while out:
+            count = line.write(out)
+            if not count or count < 0:  # as a write of C says that it failed
+                raise OSError("the line takes nothing")
+            out = out[count:]
+        line.flush()
+        self.sent()
 
 
 class Receiver:

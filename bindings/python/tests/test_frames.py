@@ -125,6 +125,17 @@ def test_write():
         sender.write(line, b"yo")
         assert line.out == b"\0\x04\x02" + b"\0\x04\x02yo\0"
 
+    class Loop(io.BytesIO):
+        def write(self, out):
+            sender.write(io.BytesIO(), b"inside")
+            return super().write(out)
+
+    refused = []
+    inside = threading.Thread(target=lambda: refused.append(refuses(RuntimeError, sender.write, Loop(), b"hi")), daemon=True)
+    inside.start(), inside.join(timeout=5)
+    assert refused == [True], "a write inside a write waits for itself"
+    sender.write(io.BytesIO(), b"hi")
+
 
 def test_lengths():
     """No type is made for each length: it would cost more than the message, and stay."""
