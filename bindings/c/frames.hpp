@@ -155,7 +155,7 @@ inline std::vector<std::uint8_t> seal(bytes content) {
     return out;
 }
 
-// The message before its sum; nothing if its last four bytes aren't that.
+// The message before its sum, as a view of these bytes, whose owner has to stay; nothing if the last four bytes aren't that.
 inline std::optional<bytes> unseal(bytes sealed) {
     const struct frames_written w = frames_unseal(sealed.data(), sealed.size());
     if (w.status != FRAMES_OK)
