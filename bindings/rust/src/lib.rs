@@ -139,7 +139,15 @@ pub fn decode(source: &[u8], dest: &mut [u8]) -> Result<(usize, usize), DecodeEr
     })
 }
 
-/// Decodes the bytes before the first sentinel, or all where there is none.
+/// Decodes the bytes before the first sentinel, or all if there is none. If there are no bytes before it, that is a message of none, and no
+/// error.
+///
+/// ```
+/// let mut message = [0u8; 4];
+/// assert_eq!(frames::decode_with_sentinel(b"\x09bc\n", &mut message, 10), Ok(2));
+/// assert_eq!(&message[..2], b"hi");
+/// assert_eq!(frames::decode_with_sentinel(b"\n\x09bc\n", &mut message, 10), Ok(0));
+/// ```
 pub fn decode_with_sentinel(
     source: &[u8],
     dest: &mut [u8],
