@@ -1,12 +1,12 @@
 // What a page shows of a stream: an entry for each message and each damage, with its place, its bytes and its text. No part of this touches
 // the page, so that it is tested in Node too.
 import { Receiver, Sender } from "../frames.mjs";
-import { Unread, Wrong } from "../table.mjs";
+import { parseJson, Unread, Wrong } from "../table.mjs";
 
 export const LIMIT = 65536;
 export const hexOf = (bytes, most = bytes.length) =>
   Array.from(bytes.subarray(0, most), (it) => it.toString(16).padStart(2, "0")).join(" ") + (bytes.length > most ? " .." : "");
-const UTF8 = new TextDecoder("utf-8", { fatal: true });
+const UTF8 = new TextDecoder("utf-8", { fatal: true, ignoreBOM: true });
 /** Bytes as a text in quotes if they are one that can be printed, else as hexadecimal digits. */
 function textOf(bytes) {
   try {
@@ -84,7 +84,7 @@ export class Writing {
   message(text) {
     if (this.form === "value") return this.table.write(this.place, text);
     if (text.trim().startsWith('"')) {
-      try { return new TextEncoder().encode(JSON.parse(text)); } catch { throw new Wrong("the text in quotes is no JSON"); }
+      try { return new TextEncoder().encode(parseJson(text).text); } catch { throw new Wrong("the text in quotes is no JSON"); }
     }
     const digits = text.replace(/\s/g, "");
     if (digits.length % 2 || !/^[0-9a-fA-F]*$/.test(digits)) throw new Wrong("hexadecimal digits or a text in quotes are wanted");

@@ -4,6 +4,8 @@ import assert from "node:assert";
 import { readFileSync } from "node:fs";
 import { Readable } from "node:stream";
 import * as frames from "../frames.mjs";
+import { Lines, logLine, Writing } from "../page/lines.mjs";
+import { Wrong } from "../table.mjs";
 import * as oracle from "./oracle.mjs";
 
 const told = process.argv[2] ?? "400", isTimed = told.endsWith("s"), until = Date.now() + 1000 * parseInt(told, 10);
@@ -78,6 +80,23 @@ async function streams() {
   assert.deepEqual(both.map((it) => it.status), ["fulfilled", "rejected"]);
   assert.deepEqual(new frames.Receiver(8).push(Uint8Array.from(line)).map((it) => it.kind), ["message", "damaged", "message"]);
 }
+/** What the page shows: entries with the bytes at their places, whatever the chunks are; texts from which the same bytes are made. */
+function lines() {
+  for (let k = 0; k < 100; k++) {
+    const s = sentinel(), line = Uint8Array.from({ length: some(120) }, () => (some(6) ? s ^ some(5) : some(256)));
+    const shown = new Lines({ form: some(2) ? "plain" : "counted", sentinel: s }), entries = [];
+    for (let at = 0; at < line.length; ) entries.push(...shown.push(line.subarray(at, at += 1 + some(20))));
+    for (const it of [...entries, ...shown.finish()]) assert.deepEqual(it.bytes, line.slice(it.from, it.to));
+    for (const it of entries) JSON.parse(logLine({ ...it, seconds: 1 }));
+  }
+  const writing = new Writing({ form: "counted" }), shown = new Lines({ form: "counted" }), sender = new frames.Sender();
+  for (const m of ["hi", "\ufeffhi", "\n", "é€", ""].map((it) => new TextEncoder().encode(it))) {
+    const [{ text }] = shown.push(sender.send(m));
+    assert.deepEqual(writing.message(text), m, text);
+  }
+  assert.deepEqual(writing.message('"\\ud83d\\ude00"'), new TextEncoder().encode("😀"));
+  for (const it of ['"\\ud800"', '"a', '"a" 1', "0", "0g"]) assert.throws(() => writing.message(it), Wrong);
+}
 function refusals() {
   for (const limit of [-1, 1.5, NaN, "8", 2 ** 40, undefined]) assert.throws(() => new frames.Receiver(limit), RangeError);
   for (const s of [-1, 256, 1.5, "0"]) assert.throws(() => new frames.Sender({ sentinel: s }), RangeError);
@@ -103,6 +122,7 @@ refusals();
 await frames.load(import.meta.resolve("../frames.wasm")); // a URL as a text
 await frames.load(process.env.FRAMES_WASM ? readFileSync(process.env.FRAMES_WASM) : undefined);
 await streams();
+lines();
 let rounds = 0;
 for (; isTimed ? Date.now() < until : rounds < Number(told); rounds++) { whole(); stream(); }
 console.log(`${rounds} rounds beside the oracle, no difference`);
