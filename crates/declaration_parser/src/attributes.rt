@@ -155,6 +155,23 @@ pub fn held(words: &[Token]) -> &[Token] {
     }
 }
 
+/// Whether an attribute of these words has this name, or one that it becomes under a condition.
+pub fn is_attribute(words: &[Token], name: &str) -> bool {
+    let mut rest = words;
+    for _ in 0..words.len() {
+        let (part, behind) = first_part(rest);
+        if first_word(part) == name {
+            return true;
+        }
+        // The condition and the attributes are read as parts too.
+        rest = match first_word(part) {
+            "cfg_attr" => behind_first(behind_first(rest)),
+            _ => behind,
+        };
+    }
+    false
+}
+
 /// Whether these are the same words.
 pub fn same_words(first: &[Token], second: &[Token]) -> bool {
     let mut rest = second;

@@ -1,7 +1,7 @@
 //! The items of files, found in one pass, and the scopes that they are in.
 use crate::attributes::{
-    attribute, behind, behind_attribute, behind_first, first_word, front, group, name_at,
-    passed_over, up_to,
+    attribute, behind, behind_attribute, behind_first, first_word, front, group, is_attribute,
+    name_at, passed_over, type_up_to, up_to,
 };
 use crate::tokens::{Token, Word};
 use std::alloc::Global;
@@ -44,6 +44,8 @@ pub enum ItemKind {
     Type,
     Alias,
     Constant,
+    /// A variable of the whole program, with words as a constant has them.
+    Static,
     Import,
     Crate,
     /// The rules of a macro, a call, and a call within the words of another item or an attribute of the whole file.
@@ -82,12 +84,12 @@ pub struct Walk<'a> {
 }
 
 impl Item<'_> {
-    /// Whether an attribute of this name is before it.
+    /// Whether an attribute of this name is before it, under a condition or none.
     pub fn has(&self, name: &str) -> bool {
         let mut rest = self.attributes;
         for _ in 0..self.attributes.len() {
             if let Some((words, _)) = attribute(rest)
-                && first_word(words) == name
+                && is_attribute(words, name)
             {
                 return true;
             }
@@ -258,7 +260,11 @@ impl<'a> Walk<'a> {
             Word::Alias if is_named => {
                 self.take(item, ItemKind::Alias, rest, &[";"]);
             }
-            Word::Constant if is_named => self.read_constant(item, rest),
+            Word::Constant if is_named => self.read_constant(item, ItemKind::Constant, rest),
+            Word::Static if first_word(rest) == "mut" => {
+                self.read_constant(item, ItemKind::Static, behind_first(rest));
+            }
+            Word::Static if is_named => self.read_constant(item, ItemKind::Static, rest),
             Word::Import if first_word(rest) != "<" => {
                 self.take(item, ItemKind::Import, rest, &[";"]);
             }
@@ -297,20 +303,20 @@ impl<'a> Walk<'a> {
         }
     }
 
-    /// Reads a constant, at its name. What its value holds may declare types for itself.
-    fn read_constant(&mut self, item: &mut Item<'a>, words: &'a [Token]) {
+    /// Reads a constant or a static, at its name. What its value holds may declare types for itself.
+    fn read_constant(&mut self, item: &mut Item<'a>, kind: ItemKind, words: &'a [Token]) {
         if !matches!(front(behind_first(words)), Word::Colon) {
             return;
         }
-        let end = self.take(item, ItemKind::Constant, words, &[";"]).len();
+        let end = self.take(item, kind, words, &[";"]).len();
         let (_, value) = up_to(item.words, &["="]);
         self.quiet = end.saturating_add(value.len());
         self.enter(Kind::Body, "", end);
     }
 
-    /// Reads a function, or what belongs to a type, up to its body or a semicolon.
+    /// Reads a function, or what belongs to a type, up to its body or a semicolon. Lengths in braces may precede these.
     fn read_body(&mut self, kind: Kind, words: &'a [Token]) {
-        let (_, body) = up_to(words, BODY);
+        let (_, body) = type_up_to(words, BODY);
         self.quiet = behind_first(body).len();
         self.open(kind, "", body);
     }
