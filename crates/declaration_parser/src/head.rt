@@ -1,7 +1,9 @@
 //! What precedes a declaration: attributes, and comments that mark.
 ghost use Rattle.std.specs.Prelude.{◌≡◌, ◌++◌};
 
-use crate::attributes::{attribute, first_part, first_word, front, held, last_word};
+use crate::attributes::{
+    attribute, first_part, first_word, front, held, is_attribute, last_word, same_words,
+};
 use crate::declaration::Marks;
 use crate::tokens::{Token, Word, is_among};
 use crate::words::{HAS_BY_ITSELF, NO_MARK};
@@ -19,8 +21,12 @@ const UNMARKED: Marks = Marks {
 #[derive(Clone, Copy, Drop)]
 pub struct Marking<'a> {
     pub marks: Marks,
-    /// The condition of the derive that marks; empty if there is none.
-    pub condition: &'a [Token],
+    /// The condition of the first derive that marks, if there is one; empty if it has none.
+    condition: Option<&'a [Token]>,
+    /// Whether another derive that marks has another condition.
+    has_others: bool,
+    /// Whether the declaration, or a derive that marks it, has a condition.
+    pub is_conditional: bool,
     /// Whether derives alone mark.
     pub is_derived: bool,
     /// The line of the first thing that is wrong with comments, the word there, and what is said of it. Beside a derive that
@@ -82,22 +88,31 @@ fn derived_by(words: &[Token]) -> Marks {
 }
 
 impl<'a> Marking<'a> {
-    /// Adds what an attribute marks, by its words, and says whether it marks.
-    fn add_attribute(&mut self, words: &'a [Token]) -> bool {
-        let mut derived = derived_by(words);
-        if first_word(words) == "cfg_attr" {
-            let (condition, mut rest) = first_part(held(words));
-            for _ in 0..words.len() {
-                let (part, behind) = first_part(rest);
-                derived = derived.and(derived_by(part));
-                rest = behind;
-            }
-            if derived.are_some() {
-                self.condition = condition;
-            }
+    /// Adds what derives mark under a condition.
+    fn add_derived(&mut self, derived: Marks, condition: &'a [Token]) {
+        if !derived.are_some() {
+            return;
         }
         self.marks = self.marks.and(derived);
-        derived.are_some()
+        self.is_conditional = self.is_conditional || !condition.is_empty();
+        match self.condition {
+            Some(first) if !same_words(first, condition) => self.has_others = true,
+            _ => self.condition = Some(condition),
+        }
+    }
+
+    /// Adds what an attribute marks, by its words.
+    fn add_attribute(&mut self, words: &'a [Token]) {
+        self.is_conditional = self.is_conditional || is_attribute(words, "cfg");
+        if first_word(words) != "cfg_attr" {
+            return self.add_derived(derived_by(words), &[]);
+        }
+        let (condition, mut rest) = first_part(held(words));
+        for _ in 0..words.len() {
+            let (part, behind) = first_part(rest);
+            self.add_derived(derived_by(part), condition);
+            rest = behind;
+        }
     }
 
     /// Adds what a comment `// message` marks.
@@ -138,15 +153,16 @@ impl<'a> Marking<'a> {
     fn of(attributes: &'a [Token]) -> Marking<'a> {
         let mut marking = Marking {
             marks: UNMARKED,
-            condition: &[],
+            condition: None,
+            has_others: false,
+            is_conditional: false,
             is_derived: true,
             wrong: None,
         };
-        let mut has_derive = false;
         let mut rest = attributes;
         for _ in 0..attributes.len() {
             if let Some((words, behind)) = attribute(rest) {
-                has_derive = marking.add_attribute(words) || has_derive;
+                marking.add_attribute(words);
                 rest = behind;
             } else if let [token, behind @ ..] = rest {
                 if matches!(token.word, Word::Mark) {
@@ -155,10 +171,15 @@ impl<'a> Marking<'a> {
                 rest = behind;
             }
         }
-        if has_derive {
+        if marking.condition.is_some() {
             marking.wrong = None;
         }
         marking
+    }
+
+    /// Whether all derives that mark have this condition, so that what is under it holds where they do.
+    pub fn is_under(&self, condition: &[Token]) -> bool {
+        !self.has_others && matches!(self.condition, Some(own) if same_words(own, condition))
     }
 
     /// Whether a declaration is marked, or was meant to be.

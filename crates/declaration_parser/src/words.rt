@@ -36,7 +36,7 @@ pub const RENAMES: &str =
 pub const IN_WORDS: &str =
     "` stands within a declaration, where it marks nothing: take it out, or close what stands before it\n";
 
-/// What is said of a type that is written by hand on one side.
+/// What is said of a type that is written by hand where it isn't derived.
 pub const BY_HAND: &str =
     "` is implemented by hand, so the bytes may be others than those of the fields: declare what is on the wire";
 
@@ -44,9 +44,9 @@ pub const BY_HAND: &str =
 pub const ON_SOME_DEVICES: &str =
     "` has this on some devices alone: take the attribute out where it is there, else what stands behind it";
 
-/// What is said of a condition that isn't that of the derive.
+/// What is said of a condition that isn't that of all derives.
 pub const OTHER_CONDITION: &str =
-    "` changes the bytes under a condition that isn't the derive's: write the field as it is on the wire";
+    "` changes the bytes under a condition that not every derive has: write the field as it is on the wire";
 
 /// What is said of a field that is left out on one side alone.
 pub const ONE_SIDE: &str =

@@ -1,64 +1,100 @@
-//! Types of which one side is derived, and the other written by hand.
+//! Types that are written by hand where they aren't derived: on one side, or under a condition.
 use super::Parser;
-use crate::attributes::{behind_first, first_word, front, type_up_to, up_to};
+use crate::attributes::{behind_first, front, type_up_to};
 use crate::tokens::{Read, Token, Word};
 use crate::words::BY_HAND;
 use std::alloc::{AllocError, Global};
 use std::collections::BTreeMap;
 
-/// The types of files that implement one of serde's traits by hand, so that each file is read once for all types.
+/// The names of one of serde's traits, and of the types of files that implement it by hand.
 #[derive(Drop)]
-pub struct ByHand<'a> {
-    written: BTreeMap<&'a str, ()>,
-    read: BTreeMap<&'a str, ()>,
+struct Implemented<'a> {
+    of: Vec<&'a str>,
+    types: BTreeMap<&'a str, ()>,
 }
 
-/// Adds the type after the `for` of an `impl` of this trait, with all names of the path that leads to it.
-fn add_impl<'a>(
-    names: &mut BTreeMap<&'a str, ()>,
-    words: &'a [Token],
-    of: &str,
-) -> Result<(), AllocError> {
-    let (_, rest) = type_up_to(words, &[of, "for"]);
-    if first_word(rest) != of {
-        return Ok(());
+/// What files implement by hand, so that each file is read once for all types.
+#[derive(Drop)]
+pub struct ByHand<'a> {
+    written: Implemented<'a>,
+    read: Implemented<'a>,
+}
+
+impl<'a> Implemented<'a> {
+    /// No types, of a trait that has this name.
+    fn new(alloc: Global, name: &'a str) -> Result<Implemented<'a>, AllocError> {
+        let mut of = Vec::new(alloc);
+        of.push(name)?;
+        Ok(Implemented {
+            of,
+            types: BTreeMap::new(alloc),
+        })
     }
-    let (_, rest) = type_up_to(rest, &["for"]);
-    let mut is_next = true;
-    for token in behind_first(rest) {
-        let is_name = !matches!(token.word, Word::Colon);
-        if is_name && !is_next {
-            break;
+
+    /// Adds the type after the `for` of an `impl` of this trait, with all names of the path that leads to it.
+    fn add_impl(&mut self, words: &'a [Token]) -> Result<(), AllocError> {
+        let (head, rest) = type_up_to(words, &["for"]);
+        let (_, named) = type_up_to(head, &self.of);
+        if named.is_empty() {
+            return Ok(());
         }
-        if is_name && names.insert(token.text.as_str(), ()).is_err() {
-            return Err(AllocError);
+        let mut is_next = true;
+        for token in behind_first(rest) {
+            let is_name = !matches!(token.word, Word::Colon);
+            if is_name && !is_next {
+                break;
+            }
+            if is_name && self.types.insert(token.text.as_str(), ()).is_err() {
+                return Err(AllocError);
+            }
+            is_next = !is_name;
         }
-        is_next = !is_name;
+        Ok(())
     }
-    Ok(())
 }
 
 impl<'a> ByHand<'a> {
-    /// Those of these files.
+    /// That of these files.
     pub fn of(alloc: Global, files: &'a [Read]) -> Result<ByHand<'a>, AllocError> {
         let mut by_hand = ByHand {
-            written: BTreeMap::new(alloc),
-            read: BTreeMap::new(alloc),
+            written: Implemented::new(alloc, "Serialize")?,
+            read: Implemented::new(alloc, "Deserialize")?,
         };
         for file in files {
-            by_hand.add_all(&file.tokens)?;
+            by_hand.add_names(&file.tokens)?;
+        }
+        for file in files {
+            by_hand.add_impls(&file.tokens)?;
         }
         Ok(by_hand)
     }
 
-    /// Adds those among these tokens.
-    fn add_all(&mut self, tokens: &'a [Token]) -> Result<(), AllocError> {
+    /// Adds the names that these tokens give to serde's traits.
+    fn add_names(&mut self, tokens: &'a [Token]) -> Result<(), AllocError> {
+        let mut rest = tokens;
+        for _ in 0..tokens.len() {
+            if let [own, by, name, ..] = rest
+                && matches!(by.word, Word::As)
+            {
+                match own.word {
+                    Word::Serialize => self.written.of.push(name.text.as_str())?,
+                    Word::Deserialize => self.read.of.push(name.text.as_str())?,
+                    _ => {}
+                }
+            }
+            rest = behind_first(rest);
+        }
+        Ok(())
+    }
+
+    /// Adds the types among these tokens.
+    fn add_impls(&mut self, tokens: &'a [Token]) -> Result<(), AllocError> {
         let mut rest = tokens;
         for _ in 0..tokens.len() {
             if matches!(front(rest), Word::Impl) {
-                let (words, _) = up_to(behind_first(rest), &["{", ";"]);
-                add_impl(&mut self.written, words, "Serialize")?;
-                add_impl(&mut self.read, words, "Deserialize")?;
+                let (words, _) = type_up_to(behind_first(rest), &["{", ";"]);
+                self.written.add_impl(words)?;
+                self.read.add_impl(words)?;
             }
             rest = behind_first(rest);
         }
@@ -67,16 +103,19 @@ impl<'a> ByHand<'a> {
 }
 
 impl<'a> Parser<'a> {
-    /// Refuses a type of which one side alone is derived, and the other is written by hand.
+    /// Refuses a type that is written by hand on a side that isn't derived, or is so under a condition.
     pub(super) fn check_by_hand(&mut self, by_hand: &ByHand<'_>) {
-        let marks = self.marking.marks;
-        let (names, other) = match (self.marking.is_derived, marks.written, marks.read) {
-            (true, true, false) => (&by_hand.read, "Deserialize"),
-            (true, false, true) => (&by_hand.written, "Serialize"),
-            _ => return,
-        };
-        if names.contains_key(self.at.name) {
-            self.at.refuse(other, BY_HAND);
+        let marking = self.marking;
+        if !marking.is_derived {
+            return;
+        }
+        let may_be_written = !marking.marks.written || marking.is_conditional;
+        let may_be_read = !marking.marks.read || marking.is_conditional;
+        if may_be_written && by_hand.written.types.contains_key(self.at.name) {
+            self.at.refuse("Serialize", BY_HAND);
+        }
+        if may_be_read && by_hand.read.types.contains_key(self.at.name) {
+            self.at.refuse("Deserialize", BY_HAND);
         }
     }
 }

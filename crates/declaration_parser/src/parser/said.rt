@@ -1,7 +1,7 @@
 //! What attributes say of the bytes.
 use super::Parser;
 use crate::attributes::{
-    attribute, behind_first, first_part, first_word, held, is_derived, last_word, same_words,
+    attribute, behind_first, first_part, first_word, held, is_derived, last_word,
 };
 use crate::declaration::Layout;
 use crate::reading::first_mark;
@@ -75,7 +75,7 @@ impl<'a> Parser<'a> {
             return self.read_plain(words, all, at, false, said);
         }
         let (condition, mut rest) = first_part(held(words));
-        let is_other = !same_words(condition, self.marking.condition);
+        let is_other = !self.marking.is_under(condition);
         for _ in 0..words.len() {
             let (part, behind) = first_part(rest);
             if !part.is_empty() {
@@ -85,7 +85,7 @@ impl<'a> Parser<'a> {
         }
     }
 
-    /// Reads an attribute that has no condition, or another one than the derive. One of a declaration has to be of the language,
+    /// Reads an attribute, and whether it has another condition than the derives. One of a declaration has to be of the language,
     /// or the helper of a derive among these whose path begins with its name.
     fn read_plain(
         &mut self,
