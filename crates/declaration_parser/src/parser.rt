@@ -360,10 +360,14 @@ impl<'a> Parser<'a> {
         let is_enum = self.is_enum();
         let name = self.type_name();
         let line = self.at.line;
-        self.said(attributes, At::Item);
-        self.check_by_hand(by_hand);
+        // What is wrong hides what follows it, and those who use the type need its parameters.
         let (parameters, lengths) = self.parameters();
+        self.at.line = line;
+        let said = self.said(attributes, At::Item);
+        self.check_by_hand(by_hand);
         let body = self.body(is_enum);
+        self.at.line = line;
+        self.check_transparent(said, &body);
         Declaration {
             attributes,
             words: &[],

@@ -56,6 +56,10 @@ pub const ONE_SIDE: &str =
 pub const ONLY_FIELD: &str =
     "` of the only field of a struct in parentheses leaves out nothing, since serde writes it all the same: take the word out";
 
+/// What is said of a transparent type with more fields than one.
+pub const TRANSPARENT: &str =
+    "` sends one field alone, but there are more: skip the others, or take the word out where all are sent";
+
 /// What is said of a field that is left out, if what is read back must be what was written.
 pub const LEFT_OUT: &str =
     "` leaves the field out, but what is read back has to be what was written: declare a type without the field, and hold both in another that isn't sent";

@@ -1,14 +1,14 @@
 //! What attributes say of the bytes.
 use super::Parser;
 use crate::attributes::{
-    attribute, behind_first, first_part, first_word, held, is_derived, last_word,
+    attribute, behind_first, first_part, first_word, held, is_derived, last_word, up_to,
 };
-use crate::declaration::Layout;
+use crate::declaration::{Body, Field, Layout};
 use crate::reading::first_mark;
 use crate::tokens::{Token, is_among, is_listed};
 use crate::words::{
     ALMOST_WAY, HIDDEN_MARK, LEFT_OUT, NO_BYTES, OF_ITEMS, OF_SERDE, ON_SOME_DEVICES, ONE_SIDE,
-    OTHER_CONDITION, REPR, UNKNOWN, WAY_OF_SERDE,
+    OTHER_CONDITION, REPR, TRANSPARENT, UNKNOWN, WAY_OF_SERDE,
 };
 
 /// The position of an attribute.
@@ -19,9 +19,11 @@ pub(super) enum At {
     Field,
 }
 
-/// What attributes say of a field's bytes.
+/// What attributes say of the bytes of a field, or of a type.
 #[derive(Clone, Copy, Drop)]
 pub(super) struct Said {
+    /// Whether one field alone is sent, if there are more.
+    pub(super) is_transparent: bool,
     pub(super) not_written: bool,
     pub(super) not_read: bool,
     pub(super) layout: Layout,
@@ -40,10 +42,17 @@ fn layout_of(way: &str) -> Option<Layout> {
     }
 }
 
+/// Whether a field is none to a transparent type, as serde sees it: by the name of its type.
+fn is_phantom(field: &Field<'_>) -> bool {
+    let (path, _) = up_to(field.of, &["<"]);
+    last_word(path) == "PhantomData"
+}
+
 impl<'a> Parser<'a> {
     /// Reads attributes, and gathers what they say of the bytes. What is wrong is reported by their lines.
     pub(super) fn said(&mut self, attributes: &'a [Token], at: At) -> Said {
         let mut said = Said {
+            is_transparent: false,
             not_written: false,
             not_read: false,
             layout: Layout::Own,
@@ -148,6 +157,7 @@ impl<'a> Parser<'a> {
                 None => part,
             };
             let name = first_word(part);
+            said.is_transparent = said.is_transparent || name == "transparent";
             if !name.is_empty() && !is_listed(name, NO_BYTES) {
                 self.read_changing(name, part, at, said);
                 if is_other {
@@ -188,6 +198,22 @@ impl<'a> Parser<'a> {
             }
         }
         self.at.refuse(name, UNKNOWN);
+    }
+
+    /// Refuses a transparent type that has more fields than the one that serde sends.
+    pub(super) fn check_transparent(&mut self, said: Said, body: &Body<'_>) {
+        let Body::Struct(fields) = body else {
+            return;
+        };
+        let mut count: usize = 0;
+        for field in &fields.items {
+            if !is_phantom(field) {
+                count = count.saturating_add(1);
+            }
+        }
+        if said.is_transparent && count > 1 {
+            self.at.refuse("transparent", TRANSPARENT);
+        }
     }
 
     /// Whether a field is left out, on all sides that there are.
