@@ -16,3 +16,6 @@ pub struct Token(u32);
 impl<'de> serde::de::Deserialize<'de> for self::Token {
     fn deserialize<D: Deserializer<'de>>(from: D) -> Result<Self, D::Error> { u8::deserialize(from).map(|it| Token(it.into())) }
 }
+
+#[derive(Deserialize)]
+pub struct Packet { pub body: Padded<u32, 2> }
