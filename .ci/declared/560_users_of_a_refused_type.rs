@@ -15,4 +15,4 @@ impl<T> Serialize for Sent<'_, T> {
 }
 
 #[derive(Deserialize)]
-pub struct UsesSent<'a> { pub a: Sent<'a, u8>, pub b: Sent<'a, u16> }
+pub struct UsesSent<'a> { pub a: Sent<'a, u8> }

@@ -7,6 +7,10 @@ pub type Word = u16;
 impl Device<{ DEPTH + 1 }> for Bus {
     type Word = u64;
     const DEPTH: usize = 7;
+    fn send(&mut self) {
+        #[derive(Serialize, Deserialize)]
+        struct Local { word: Word, depth: [u8; DEPTH] }
+    }
 }
 
 impl<const N: usize> Device<{ N - 1 }> for Wide<{ N }>
