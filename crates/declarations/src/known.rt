@@ -75,6 +75,8 @@ const SENT_AS: &[(&str, &str)] = &[
     ("AtomicU32 NonZeroU32", "u32"),
     ("AtomicU64 NonZeroU64", "u64"),
     ("NonZeroU128", "u128"),
+    ("AtomicIsize NonZeroIsize", "isize"),
+    ("AtomicUsize NonZeroUsize", "usize"),
     ("NonZero", "the integer in it"),
     (
         "Bound",

@@ -1,6 +1,8 @@
 //! The names of files: what each module declares, and what a `use` brings into it.
 mod candidates;
+mod folders;
 mod leads;
+mod macros;
 mod path;
 mod reading;
 mod rule;
@@ -11,6 +13,8 @@ pub use candidates::Space;
 use declaration_parser::declaration::Declaration;
 use declaration_parser::items::{Kind, Scope, Walk};
 use declaration_parser::tokens::{Read, Token, is_listed};
+use folders::module_of_file;
+use macros::{Call, Rules};
 pub use rule::{Found, Path};
 use std::alloc::{AllocError, Global};
 use std::collections::BTreeMap;
@@ -32,6 +36,8 @@ pub enum What<'a> {
     Made,
     MadeConstant,
     Bits,
+    /// A `static`, whose value isn't read.
+    Static,
 }
 
 /// A name that a scope declares.
@@ -75,43 +81,16 @@ pub struct Scopes<'a> {
     stands: Vec<Stand>,
     /// All names that are declared, or brought in from what isn't known.
     named: BTreeMap<&'a str, ()>,
-    /// Macros that declare a type by the name that is handed to them first.
-    makers: Vec<&'a str>,
+    /// The module that has each file, if one of these files has it.
+    parents: Vec<Option<usize>>,
+    /// The rules of macros, and calls that may declare something.
+    rules: Vec<Rules<'a>>,
+    calls: Vec<Call<'a>>,
     /// Names that are handed to macros.
     pub handed: Vec<&'a str>,
     /// The words in tables of endpoints and topics.
     pub endpoints: Vec<&'a str>,
     pub failed: bool,
-}
-
-/// The name of a file without its ending, and the folder of it.
-fn parts_of(file: &str) -> (&str, &str) {
-    let (folder, name) = file.rsplit_once('/').unwrap_or(("", file));
-    let (stem, _) = name.split_once('.').unwrap_or((name, ""));
-    (folder, stem)
-}
-
-/// The last name of a folder.
-fn last_of(folder: &str) -> &str {
-    let (_, name) = folder.rsplit_once('/').unwrap_or(("", folder));
-    name
-}
-
-/// Whether a file is the root of a crate.
-fn is_root(stem: &str) -> bool {
-    matches!(stem, "lib" | "main")
-}
-
-/// The module that a file is: by its name, or by its folder's.
-fn module_of_file(file: &str) -> &str {
-    let (folder, stem) = parts_of(file);
-    if is_root(stem) {
-        return last_of(folder.strip_suffix("/src").unwrap_or(folder));
-    }
-    if stem == "mod" {
-        return last_of(folder);
-    }
-    stem
 }
 
 /// Keeps a name.
@@ -141,11 +120,14 @@ impl<'a> Scopes<'a> {
             imports: Vec::new(alloc),
             stands: Vec::new(alloc),
             named: BTreeMap::new(alloc),
-            makers: Vec::new(alloc),
+            parents: Vec::new(alloc),
+            rules: Vec::new(alloc),
+            calls: Vec::new(alloc),
             handed: Vec::new(alloc),
             endpoints: Vec::new(alloc),
             failed: walk.failed,
         };
+        names.find_parents();
         names.read_items(&walk.items);
         for (index, it) in declared.iter().enumerate() {
             names.mark(index, it);

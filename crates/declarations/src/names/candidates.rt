@@ -91,7 +91,10 @@ pub fn is_within(scopes: &[Scope<'_>], step: Step<'_>, scope: usize) -> bool
 fn is_of(item: &Item<'_>, space: Space) -> bool
     ensures { result ≡ is_item_of space item.now.what }
 {
-    let is_constant = matches!(item.what, What::Constant(..) | What::MadeConstant);
+    let is_constant = matches!(
+        item.what,
+        What::Constant(..) | What::MadeConstant | What::Static
+    );
     match space {
         Space::Types => !is_constant,
         Space::Constants => is_constant,

@@ -258,15 +258,22 @@ impl<'a> Scopes<'a> {
 
     /// Where a path leads whose first name is one of these files.
     fn place_lead(&self, module: usize, path: Path<'a>) -> Lead<'a> {
-        let scope = match path.before {
+        if !matches!(path.before, "" | "self" | "crate" | "super") {
+            return self.named_lead(module, path);
+        }
+        match self.base_of(module, path) {
+            Some(scope) => Lead::In(Step::Scope(scope)),
+            None => Lead::Outside,
+        }
+    }
+
+    /// The module to which a path of no names but `crate`, `self` and `super` leads.
+    fn base_of(&self, module: usize, path: Path<'a>) -> Option<usize> {
+        match path.before {
             "" | "self" => Some(module),
             "crate" => self.root_of(module),
             "super" => self.above(module, path.ups),
-            _ => return self.named_lead(module, path),
-        };
-        match scope {
-            Some(scope) => Lead::In(Step::Scope(scope)),
-            None => Lead::Outside,
+            _ => None,
         }
     }
 
@@ -278,15 +285,13 @@ impl<'a> Scopes<'a> {
         if self.is_misnamed(at) {
             return Lead::Wrong(BROUGHT_IN);
         }
-        match self.import_of(module, at) {
+        let declared = match self.import_of(module, at) {
             Some(it) if is_first && !is_called(it.last, at) => return Lead::Wrong(RENAMED),
-            None if is_first => {
-                let found = self.children(module, at);
-                if found.written == 1 {
-                    return Lead::In(Step::Scope(found.last));
-                }
-            }
-            _ => {}
+            Some(it) if is_first => self.child_lead(self.imported_from(it), it.last),
+            _ => self.child_lead(self.module_before(module, path), at),
+        };
+        if let Some(lead) = declared {
+            return lead;
         }
         let own = if is_first {
             Step::Scope(module)
@@ -306,39 +311,71 @@ impl<'a> Scopes<'a> {
         }
     }
 
+    /// The module that has the last one of a path in it, if no more than one other stands before that.
+    fn module_before(&self, module: usize, path: Path<'a>) -> Option<usize> {
+        if path.is_absolute {
+            return None;
+        }
+        let roots = path.roots()?;
+        let base = match path.root {
+            "crate" => self.root_of(module)?,
+            "super" => self.above(module, path.ups)?,
+            _ => module,
+        };
+        match path.count.saturating_sub(roots) {
+            1 => Some(base),
+            2 if roots == 0 => self.first_module(module, path.root),
+            2 => self.child_of(base, path.over),
+            _ => None,
+        }
+    }
+
+    /// The module that the first name of a path is: the one that a `use` brings in, or else a module's own.
+    fn first_module(&self, module: usize, name: &'a str) -> Option<usize> {
+        match self.import_of(module, name) {
+            Some(it) => self.child_of(self.imported_from(it)?, it.last),
+            None => self.child_of(module, name),
+        }
+    }
+
+    /// The module from which a `use` brings another in, by a path of no names but `crate`, `self` and `super`.
+    fn imported_from(&self, it: &Import<'a>) -> Option<usize> {
+        if it.is_crate || it.path.is_absolute {
+            return None;
+        }
+        self.base_of(self.module_of(it.scope), it.path)
+    }
+
+    /// The only module of a name that a module declares, and has under no condition: its words, or its file.
+    fn child_of(&self, module: usize, name: &str) -> Option<usize> {
+        let found = self.children(module, name);
+        match found.written {
+            _ if !found.are_some || found.conditions > 0 => None,
+            0 => self.file_in(module, name),
+            1 => Some(found.last),
+            _ => None,
+        }
+    }
+
+    /// Where the name of a module leads that another one declares; nothing if it declares none.
+    fn child_lead(&self, module: Option<usize>, name: &str) -> Option<Lead<'a>> {
+        let module = module?;
+        let found = self.children(module, name);
+        if !found.are_some || found.conditions > 0 {
+            return None;
+        }
+        match self.child_of(module, name) {
+            Some(place) => Some(Lead::In(Step::Scope(place))),
+            None if found.written == 0 => Some(Lead::Outside),
+            None => Some(Lead::Doubtful),
+        }
+    }
+
     /// Whether a first name leads out of the files.
     pub fn is_foreign(&self, scope: usize, root: &'a str) -> bool {
         let mut path = Path::new();
         path.go(root);
         let lead = self.lead(self.module_of(scope), path, "");
         matches!(lead, Lead::Known | Lead::Outside)
-    }
-
-    /// The module so many round another, if these files have it.
-    fn above(&self, module: usize, ups: usize) -> Option<usize> {
-        let mut at = module;
-        for _ in 0..ups {
-            at = if self.scope(at).kind == Kind::File {
-                self.parent_of(at)?
-            } else {
-                self.scope(at).outer
-            };
-        }
-        Some(at)
-    }
-
-    /// The only module that names a file as the one of a module in it.
-    fn parent_of(&self, root: usize) -> Option<usize> {
-        let own = self.scope(root).name;
-        let mut found = None;
-        for it in &self.scopes {
-            if it.kind == Kind::Outline && it.name == own && it.outer != root {
-                if found.is_some() {
-                    return None;
-                }
-                found = Some(it.outer);
-            }
-        }
-        found
     }
 }

@@ -1,12 +1,13 @@
 //! The names before the last one of a path.
 use super::is_known_crate;
 
-/// The names before the last of a path: the first, the one before the last, how often `super` stands there, and how many
+/// The names before the last of a path: the first, the two before the last, how often `super` stands there, and how many
 /// there are; the names are empty if there is none.
 #[derive(Clone, Copy, Drop)]
 pub struct Path<'a> {
     pub root: &'a str,
     pub before: &'a str,
+    pub(super) over: &'a str,
     pub(super) ups: usize,
     pub count: usize,
     /// Whether `::` precedes all of them.
@@ -19,6 +20,7 @@ impl<'a> Path<'a> {
         Path {
             root: "",
             before: "",
+            over: "",
             ups: 0,
             count: 0,
             is_absolute: false,
@@ -40,6 +42,7 @@ impl<'a> Path<'a> {
         if name == "super" {
             self.ups = self.ups.saturating_add(1);
         }
+        self.over = self.before;
         self.before = name;
         self.count = self.count.saturating_add(1);
     }
@@ -50,6 +53,16 @@ impl<'a> Path<'a> {
             return self.before;
         }
         name
+    }
+
+    /// How many names are before those of modules: `crate`, `self`, or each `super`. Nothing if `super` follows another.
+    pub(super) fn roots(self) -> Option<usize> {
+        match self.root {
+            "super" => Some(self.ups),
+            _ if self.ups > 0 => None,
+            "crate" | "self" => Some(1),
+            _ => Some(0),
+        }
     }
 
     /// The first name, if this one follows.

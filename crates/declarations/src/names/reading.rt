@@ -1,5 +1,5 @@
 //! What the items of files declare, and what macros seem to.
-use super::{Import, Item, Kind, Scopes, What, is_root, parts_of, put};
+use super::{Import, Item, Kind, Scopes, What, put};
 use declaration_parser::attributes::{behind_first, first_word, front, line_at, name_at, up_to};
 use declaration_parser::items::{self, ItemKind};
 use declaration_parser::tokens::{Token, Word, is_among, is_lifetime};
@@ -16,49 +16,12 @@ fn alias_of(words: &[Token]) -> What<'_> {
     What::Alias(behind_first(value))
 }
 
-/// The first name that the rules of a macro are handed, and what follows it; empty if there is none.
-fn first_handed(rules: &[Token]) -> (&str, &[Token]) {
-    let mut rest = rules;
-    for _ in 0..rules.len() {
-        if let [mark, name, behind @ ..] = rest
-            && matches!(mark.word, Word::Dollar)
-        {
-            return (name.text.as_str(), behind);
-        }
-        rest = behind_first(rest);
-    }
-    ("", &[])
-}
-
-/// Whether the rules of a macro declare a type by the first name that they are handed.
-fn is_maker(rules: &[Token]) -> bool {
-    let (handed, behind) = first_handed(rules);
-    let mut rest = behind;
-    for _ in 0..behind.len() {
-        if let [of, mark, name, ..] = rest
-            && matches!(
-                of.word,
-                Word::Struct | Word::Enum | Word::Union | Word::Alias
-            )
-            && matches!(mark.word, Word::Dollar)
-            && name.text.as_str() == handed
-        {
-            return true;
-        }
-        rest = behind_first(rest);
-    }
-    false
-}
-
 impl<'a> Scopes<'a> {
     /// Reads the items of all files. Macros are known wherever they are.
     pub(super) fn read_items(&mut self, items: &[items::Item<'a>]) {
         for item in items {
-            if let [_, _, name, ..] = item.words
-                && item.kind == ItemKind::Rules
-                && is_maker(item.inside)
-            {
-                self.failed = self.makers.push(name.text.as_str()).is_err() || self.failed;
+            if item.kind == ItemKind::Rules {
+                self.keep_rules(item);
             }
         }
         for item in items {
@@ -66,11 +29,11 @@ impl<'a> Scopes<'a> {
         }
     }
 
-    /// Reads an item. Of macros what they may make counts in modules alone.
+    /// Reads an item.
     fn read_item(&mut self, item: &items::Item<'a>) {
         let is_conditional = item.has("cfg");
         let import = Import::of(item.scope, item.is_public, is_conditional);
-        let is_top = matches!(self.scope(item.scope).kind, Kind::File | Kind::Module);
+        let kind = self.scope(item.scope).kind;
         let what = match item.kind {
             ItemKind::Type => What::Unmarked,
             ItemKind::Alias => alias_of(item.words),
@@ -80,17 +43,24 @@ impl<'a> Scopes<'a> {
             }
             ItemKind::Import => return self.read_use(import, item.words),
             ItemKind::Crate => return self.read_crate(import, item.words),
-            ItemKind::Rules if is_top => {
+            ItemKind::Rules if kind != Kind::Impl => {
                 return self.read_made(import, item.inside, false);
             }
-            ItemKind::Call if is_top => return self.read_call(item),
+            ItemKind::Call if kind == Kind::Body => return self.read_call_of(item),
+            ItemKind::Call if kind != Kind::Impl => return self.read_call(item),
             _ => return,
         };
         self.add(item.scope, item.words, what, is_conditional);
     }
 
     /// Adds what the first of these words stands for in a scope, if it is a name.
-    fn add(&mut self, scope: usize, words: &'a [Token], what: What<'a>, is_conditional: bool) {
+    pub(super) fn add(
+        &mut self,
+        scope: usize,
+        words: &'a [Token],
+        what: What<'a>,
+        is_conditional: bool,
+    ) {
         let Some(name) = name_at(words) else {
             return;
         };
@@ -111,19 +81,14 @@ impl<'a> Scopes<'a> {
     /// Reads what the call of a macro may bring in or declare.
     fn read_call(&mut self, item: &items::Item<'a>) {
         let import = Import::of(item.scope, false, false);
-        let name = first_word(item.words);
-        if name == "include" {
-            return self.add_include(import);
-        }
         if let Some(first) = name_at(item.inside) {
             self.failed = self.handed.push(first).is_err() || self.failed;
-            if is_among(name, &self.makers) {
-                self.add(item.scope, item.inside, What::Made, false);
-            }
         }
-        match name {
+        match first_word(item.words) {
+            "include" => self.add_include(import),
             "endpoints" | "topics" => self.read_endpoints(item.inside),
-            _ => self.read_made(import, item.inside, is_among(name, &["bitflags"])),
+            "bitflags" => self.read_made(import, item.inside, true),
+            _ => self.read_call_of(item),
         }
     }
 
@@ -136,7 +101,7 @@ impl<'a> Scopes<'a> {
     }
 
     /// Reads what a macro makes: names after the words of items, in all groups.
-    fn read_made(&mut self, import: Import<'a>, inside: &'a [Token], are_bits: bool) {
+    pub(super) fn read_made(&mut self, import: Import<'a>, inside: &'a [Token], are_bits: bool) {
         let mut import = import;
         let mut rest = inside;
         for _ in 0..inside.len() {
@@ -158,31 +123,5 @@ impl<'a> Scopes<'a> {
             }
             rest = words;
         }
-    }
-
-    /// The file of a crate's root that a scope is in: its own, or the only one of its folder.
-    pub(super) fn root_of(&self, scope: usize) -> Option<usize> {
-        let own = self.scope(scope).file;
-        let (folder, stem) = parts_of(self.name_of_file(own));
-        if is_root(stem) || self.files.len() == 1 {
-            return Some(own);
-        }
-        let mut found = None;
-        for (place, read) in self.files.iter().enumerate() {
-            let (other, stem) = parts_of(read.file.as_str());
-            if is_root(stem) && folder.starts_with(other) {
-                if found.is_some() {
-                    return None;
-                }
-                found = Some(place);
-            }
-        }
-        found
-    }
-
-    /// Whether a file is the root of a crate.
-    pub(super) fn is_root_file(&self, file: usize) -> bool {
-        let (_, stem) = parts_of(self.name_of_file(file));
-        is_root(stem)
     }
 }

@@ -34,6 +34,21 @@ const BY_STAR: &str =
 const MADE: &str =
     "` is made by a macro, which isn't followed: write its declaration out, in a file of its own";
 
+/// What is said of a name that a macro is handed.
+const HANDED: &str =
+    "` may be made by a macro that its module hands it to: write its path, or a `use` of it";
+
+/// What is said of a name that may be made by a macro of another crate.
+const BY_MACRO: &str =
+    "` may be made by a macro that its module calls: write its path, or a `use` of it";
+
+/// What is said of a name that the module before it doesn't have.
+const NOT_THERE: &str =
+    "` isn't declared in the module that its path names: name the file of its declaration too";
+
+/// What is said of a `static`.
+const STATIC: &str = "` is a `static`, whose value isn't read: make it a `const`";
+
 /// What is said of flags of `bitflags!`.
 const BITS: &str =
     "` is made by `bitflags!`, and sent as its bits: write the integer behind its name";
@@ -75,7 +90,7 @@ enum Brought {
     Several,
 }
 
-/// Where each `*` of a module leads, but for those of a type's variants.
+/// Where each `*` of a module leads; one to a type's variants counts for constants alone.
 #[derive(Clone, Copy, Drop)]
 struct Stars {
     is_inside: bool,
@@ -111,6 +126,7 @@ impl<'a> Scopes<'a> {
             What::Generic => Found::Wrong(GENERIC),
             What::Made | What::MadeConstant => Found::Wrong(MADE),
             What::Bits => Found::Wrong(BITS),
+            What::Static => Found::Wrong(STATIC),
             what => Found::In(what, item.scope),
         }
     }
@@ -155,9 +171,27 @@ impl<'a> Scopes<'a> {
         ensures last { IsNowhereIfNone (candidates_in self.now Step.All name.now space) result }
     {
         match self.own(scope, name, space) {
-            Found::Not => self.around(scope, name, space),
+            Found::Not => {
+                let found = self.around(scope, name, space);
+                if self.may_be_made(scope, &found, name) {
+                    return Found::Wrong(HANDED);
+                }
+                found
+            }
             found => found,
         }
+    }
+
+    /// Whether a macro that a scope or its module calls may make a name that was found elsewhere.
+    fn may_be_made(&self, scope: usize, found: &Found<'a>, name: &str) -> bool {
+        let is_elsewhere = match found {
+            Found::In(..) => true,
+            Found::Known(_) => !is_everywhere(name),
+            _ => false,
+        };
+        is_elsewhere
+            && (self.is_handed(Step::Scope(scope), name)
+                || self.is_handed(Step::Scope(self.module_of(scope)), name))
     }
 
     /// What a name stands for that a scope doesn't have: what a body's surroundings have, or what is beyond its module.
@@ -170,7 +204,7 @@ impl<'a> Scopes<'a> {
             if !self.is_inner(at) {
                 break;
             }
-            let stars = self.stars_of(at);
+            let stars = self.stars_of(at, space);
             if stars.is_outside || (self.has_star(at) && self.has(name)) {
                 return Found::Wrong(BY_STAR);
             }
@@ -265,7 +299,7 @@ impl<'a> Scopes<'a> {
         ensures only { IsOnlyOfAStep self.now name.now space result }
         ensures last { IsNowhereIfNone (candidates_in self.now Step.All name.now space) result }
     {
-        let stars = self.stars_of(module);
+        let stars = self.stars_of(module, space);
         let is_type = space == Space::Types;
         if is_type && (is_everywhere(name) || (stars.is_known && is_known(name))) {
             let is_any = stars.is_inside || stars.is_known || stars.is_outside;
@@ -286,6 +320,7 @@ impl<'a> Scopes<'a> {
                 if stars.is_inside && self.may_pass(file, &found, name, space) => Found::Wrong(
                 BY_STAR,
             ),
+            Found::In(..) if !stars.is_inside && self.is_by_macro(module) => Found::Wrong(BY_MACRO),
             found => found,
         }
     }
@@ -314,11 +349,49 @@ impl<'a> Scopes<'a> {
         }
     }
 
-    /// Whether a `*` in a step, or one that passes on its names from elsewhere, may bring in another than was found.
+    /// Whether a `*` in a step or round it, or one that passes on its names from elsewhere, may bring in another than was found.
     fn may_pass(&self, step: Step<'a>, found: &Found<'a>, name: &str, space: Space) -> bool {
         for it in &self.imports {
-            let is_near = it.is_glob && (it.is_public || self.is_in(it.scope, step));
+            let is_near = it.is_glob
+                && (it.is_public || self.is_seen(it.scope, step) || self.is_passed(it, step));
             if is_near && self.may_bring(it, found, name, space) {
+                return true;
+            }
+        }
+        false
+    }
+
+    /// Whether a `*` leads to the module into which another file's words are brought.
+    fn is_passed(&self, included: &Import<'a>, step: Step<'a>) -> bool {
+        if !included.is_included() {
+            return false;
+        }
+        for it in &self.imports {
+            if it.is_glob
+                && (it.is_public || self.is_in(it.scope, step))
+                && let Lead::In(there) = self.lead_of(it)
+                && self.is_in(included.scope, there)
+            {
+                return true;
+            }
+        }
+        false
+    }
+
+    /// Whether a scope is one of a step's, or round one of them.
+    fn is_seen(&self, scope: usize, step: Step<'a>) -> bool {
+        for place in 0..self.scopes.len() {
+            if self.is_in(place, step) && self.is_round(scope, place) {
+                return true;
+            }
+        }
+        self.is_in(scope, step)
+    }
+
+    /// Whether a step has a `use` that may pass a name on.
+    fn passes_on(&self, step: Step<'a>, name: &str) -> bool {
+        for it in &self.imports {
+            if (it.is_glob || it.name == name) && self.is_in(it.scope, step) {
                 return true;
             }
         }
@@ -328,7 +401,8 @@ impl<'a> Scopes<'a> {
     /// Whether a `*` may bring in another than was found. A known crate has no other of a known name.
     fn may_bring(&self, it: &Import<'a>, found: &Found<'a>, name: &str, space: Space) -> bool {
         match self.lead_of(it) {
-            Lead::In(_) | Lead::Type => false,
+            Lead::In(_) => false,
+            Lead::Type => space == Space::Constants,
             Lead::Known if matches!(found, Found::Known(_)) => false,
             Lead::Known if space == Space::Types => is_known(name) || sent_as(name).is_some(),
             Lead::Known => is_primitive(it.path.before),
@@ -337,7 +411,7 @@ impl<'a> Scopes<'a> {
     }
 
     /// Where each `*` of a scope leads.
-    fn stars_of(&self, scope: usize) -> Stars {
+    fn stars_of(&self, scope: usize, space: Space) -> Stars {
         let mut stars = Stars {
             is_inside: false,
             is_known: false,
@@ -348,7 +422,7 @@ impl<'a> Scopes<'a> {
                 match self.lead_of(it) {
                     Lead::In(_) => stars.is_inside = true,
                     Lead::Known => stars.is_known = true,
-                    Lead::Type => {}
+                    Lead::Type if space != Space::Constants => {}
                     _ => stars.is_outside = true,
                 }
             }
@@ -392,6 +466,8 @@ impl<'a> Scopes<'a> {
     {
         match self.step(step, name, space) {
             Found::In(_, there) if self.has_star_beside(step, there) => Found::Two,
+            Found::Not if self.is_handed(step, name) => Found::Wrong(HANDED),
+            Found::Not if !self.passes_on(step, name) => Found::Wrong(NOT_THERE),
             Found::Not if self.may_pass(step, &Found::Not, name, space) => Found::Wrong(BY_STAR),
             Found::Not => self.step(Step::All, name, space),
             found => found,

@@ -4,6 +4,9 @@ use super::{Import, Scopes, put};
 use declaration_parser::attributes::{first_word, front, plain_name};
 use declaration_parser::tokens::{Token, Word};
 
+/// In place of a path, that another file's words are brought in.
+const INCLUDE: &str = "include!";
+
 /// The words after a name, and the name that it has from there on.
 fn renamed<'a>(own: &'a str, words: &'a [Token]) -> (&'a str, &'a [Token]) {
     match words {
@@ -28,6 +31,11 @@ impl<'a> Import<'a> {
             is_public,
             is_conditional,
         }
+    }
+
+    /// Whether it stands for another file's words.
+    pub(super) fn is_included(&self) -> bool {
+        self.path.before == INCLUDE
     }
 
     /// The last name of a path, by another one.
@@ -90,7 +98,7 @@ impl<'a> Scopes<'a> {
     /// Adds another file's words, of which nothing is known.
     pub(super) fn add_include(&mut self, import: Import<'a>) {
         let mut path = Path::new();
-        path.go("include!");
+        path.go(INCLUDE);
         self.put_import(import.named("", path, ""));
     }
 

@@ -1,0 +1,206 @@
+//! Which file a module has, by the folders that both are in.
+use super::{Kind, Scopes};
+
+/// The name of a file without its ending, and the folder of it.
+fn parts_of(file: &str) -> (&str, &str) {
+    let (folder, name) = file.rsplit_once('/').unwrap_or(("", file));
+    let (stem, _) = name.rsplit_once('.').unwrap_or((name, ""));
+    (folder, stem)
+}
+
+/// The last name of a folder.
+fn last_of(folder: &str) -> &str {
+    let (_, name) = folder.rsplit_once('/').unwrap_or(("", folder));
+    name
+}
+
+/// The folder in which one of this name is, if that is its last name.
+fn without_last<'f>(folder: &'f str, name: &str) -> Option<&'f str> {
+    let (before, last) = folder.rsplit_once('/').unwrap_or(("", folder));
+    if last == name { Some(before) } else { None }
+}
+
+/// Whether a folder is in another one, or is it.
+fn is_below(folder: &str, other: &str) -> bool {
+    match folder.strip_prefix(other) {
+        Some(rest) => rest.is_empty() || other.is_empty() || rest.starts_with('/'),
+        None => false,
+    }
+}
+
+/// Whether a file of this name is the root of a crate.
+fn is_root(stem: &str) -> bool {
+    matches!(stem, "lib" | "main")
+}
+
+/// Whether each file of a folder of this name is the root of a crate.
+fn has_roots(folder: &str) -> bool {
+    matches!(last_of(folder), "bin" | "examples" | "tests" | "benches")
+}
+
+/// The module that a file is: by its name, or by its folder's.
+pub(super) fn module_of_file(file: &str) -> &str {
+    let (folder, stem) = parts_of(file);
+    if is_root(stem) {
+        return last_of(folder.strip_suffix("/src").unwrap_or(folder));
+    }
+    if stem == "mod" {
+        return last_of(folder);
+    }
+    stem
+}
+
+impl<'a> Scopes<'a> {
+    /// Whether the files of a module's modules are in this folder.
+    fn is_folder_of(&self, module: usize, folder: &str) -> bool {
+        let mut at = module;
+        let mut left = folder;
+        for _ in 0..self.scopes.len() {
+            let it = self.scope(at);
+            if it.kind == Kind::File {
+                let (own, stem) = parts_of(self.name_of_file(it.file));
+                let has_own = is_root(stem) || stem == "mod" || has_roots(own);
+                return left == own && has_own || without_last(left, stem) == Some(own);
+            }
+            if it.kind == Kind::Module {
+                match without_last(left, it.name) {
+                    Some(before) => left = before,
+                    None => return false,
+                }
+            }
+            at = it.outer;
+        }
+        false
+    }
+
+    /// Whether a file is that of a module's module, whose name it has.
+    fn is_file_in(&self, module: usize, file: usize) -> bool {
+        let (folder, stem) = parts_of(self.name_of_file(file));
+        let within = match stem {
+            "mod" => without_last(folder, last_of(folder)).unwrap_or(""),
+            _ => folder,
+        };
+        !is_root(stem) && self.is_folder_of(module, within)
+    }
+
+    /// The only file of these that a module has for a module of this name.
+    pub(super) fn file_in(&self, module: usize, name: &str) -> Option<usize> {
+        let mut found = None;
+        for file in 0..self.files.len() {
+            if self.scope(file).name == name && self.is_file_in(module, file) {
+                if found.is_some() {
+                    return None;
+                }
+                found = Some(file);
+            }
+        }
+        found
+    }
+
+    /// The only module that has a file for one in it.
+    fn parent_among(&self, file: usize) -> Option<usize> {
+        let own = self.scope(file).name;
+        let mut found = None;
+        for it in &self.scopes {
+            if it.kind == Kind::Outline && it.name == own && self.is_file_in(it.outer, file) {
+                if found.is_some() {
+                    return None;
+                }
+                found = Some(it.outer);
+            }
+        }
+        found
+    }
+
+    /// Notes the module that has each file.
+    pub(super) fn find_parents(&mut self) {
+        for file in 0..self.files.len() {
+            let parent = self.parent_among(file);
+            self.failed = self.parents.push(parent).is_err() || self.failed;
+        }
+    }
+
+    /// The module that has a file, if one of these files has it.
+    fn parent_of(&self, file: usize) -> Option<usize> {
+        match self.parents.get(file) {
+            Some(parent) => *parent,
+            None => None,
+        }
+    }
+
+    /// The module round another one, if these files have it.
+    pub(super) fn around_module(&self, module: usize) -> Option<usize> {
+        let it = self.scope(module);
+        if it.kind == Kind::File {
+            return self.parent_of(it.file);
+        }
+        Some(self.module_of(it.outer))
+    }
+
+    /// The module so many round another, if these files have it.
+    pub(super) fn above(&self, module: usize, ups: usize) -> Option<usize> {
+        let mut at = module;
+        for _ in 0..ups {
+            at = self.around_module(at)?;
+        }
+        Some(at)
+    }
+
+    /// Whether a scope is a module, or round it.
+    pub(super) fn is_round(&self, scope: usize, module: usize) -> bool {
+        let mut at = module;
+        for _ in 0..self.scopes.len() {
+            if at == scope {
+                return true;
+            }
+            match self.around_module(at) {
+                Some(outer) => at = outer,
+                None => return false,
+            }
+        }
+        false
+    }
+
+    /// Whether a file is the root of a crate by its name.
+    pub(super) fn is_root_file(&self, file: usize) -> bool {
+        let (_, stem) = parts_of(self.name_of_file(file));
+        is_root(stem)
+    }
+
+    /// Whether a file has no module round it: it is the root of a crate, or alone.
+    fn is_top_file(&self, file: usize) -> bool {
+        let (folder, _) = parts_of(self.name_of_file(file));
+        self.is_root_file(file) || has_roots(folder) || self.files.len() == 1
+    }
+
+    /// The root of a crate that a scope is in: the one whose modules lead to it, or else the only one above its folder.
+    pub(super) fn root_of(&self, scope: usize) -> Option<usize> {
+        let mut own = self.scope(scope).file;
+        for _ in 0..self.files.len() {
+            if self.is_top_file(own) {
+                return Some(own);
+            }
+            match self.parent_of(own) {
+                Some(module) => own = self.scope(module).file,
+                None => break,
+            }
+        }
+        self.root_above(own)
+    }
+
+    /// The only root of a crate that is in the folder of a file or above it.
+    fn root_above(&self, file: usize) -> Option<usize> {
+        let (folder, _) = parts_of(self.name_of_file(file));
+        let mut found = None;
+        for (place, read) in self.files.iter().enumerate() {
+            let (other, stem) = parts_of(read.file.as_str());
+            if is_root(stem) && is_below(folder, other) {
+                if found.is_some() {
+                    return None;
+                }
+                found = Some(place);
+            }
+        }
+        found
+    }
+}

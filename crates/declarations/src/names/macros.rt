@@ -1,0 +1,194 @@
+//! What macros make, as far as their rules and calls say.
+use super::candidates::Step;
+use super::{Import, Scopes, What};
+use declaration_parser::attributes::{behind_first, first_word, name_at, plain_name};
+use declaration_parser::items::{Item, Kind};
+use declaration_parser::tokens::{Token, Word, is_among};
+
+/// The rules of a macro.
+#[derive(Clone, Copy, Drop)]
+pub(super) struct Rules<'a> {
+    name: &'a str,
+    inside: &'a [Token],
+    scope: usize,
+}
+
+/// A call that may declare something.
+#[derive(Clone, Copy, Drop)]
+pub(super) struct Call<'a> {
+    inside: &'a [Token],
+    scope: usize,
+    /// Whether these files don't have the rules.
+    is_foreign: bool,
+}
+
+/// What the rules of a call's macro say, if these files have them.
+#[derive(Clone, Copy, Drop)]
+struct Making {
+    has_rules: bool,
+    /// Whether they may declare something, and whether that is a type by the first name that they are handed.
+    may_declare: bool,
+    is_maker: bool,
+}
+
+/// The first name that the rules of a macro are handed, and what follows it; empty if there is none.
+fn first_handed(rules: &[Token]) -> (&str, &[Token]) {
+    let mut rest = rules;
+    for _ in 0..rules.len() {
+        let behind = behind_first(rest);
+        if let [mark, ..] = rest
+            && matches!(mark.word, Word::Dollar)
+            && let Some(name) = name_at(behind)
+        {
+            return (name, behind_first(behind));
+        }
+        rest = behind;
+    }
+    ("", &[])
+}
+
+/// Whether the rules of a macro declare a type by the first name that they are handed.
+fn is_maker(rules: &[Token]) -> bool {
+    let (handed, behind) = first_handed(rules);
+    let mut rest = behind;
+    for _ in 0..behind.len() {
+        if let [of, mark, name, ..] = rest
+            && matches!(
+                of.word,
+                Word::Struct | Word::Enum | Word::Union | Word::Alias
+            )
+            && matches!(mark.word, Word::Dollar)
+            && plain_name(name.text.as_str()) == handed
+        {
+            return true;
+        }
+        rest = behind_first(rest);
+    }
+    false
+}
+
+/// Whether the rules of a macro have words of declarations, or call another one.
+fn may_declare(rules: &[Token]) -> bool {
+    for token in rules {
+        if matches!(
+            token.word,
+            Word::Struct
+                | Word::Enum
+                | Word::Union
+                | Word::Alias
+                | Word::Constant
+                | Word::Import
+                | Word::Module
+                | Word::Bang
+        ) {
+            return true;
+        }
+    }
+    false
+}
+
+/// Whether a macro of another crate is known to declare nothing.
+fn is_check(name: &str) -> bool {
+    name.starts_with("assert_") || name.starts_with("const_assert")
+}
+
+/// Whether a name is among words.
+fn has_word(words: &[Token], name: &str) -> bool {
+    for token in words {
+        if plain_name(token.text.as_str()) == name {
+            return true;
+        }
+    }
+    false
+}
+
+impl<'a> Scopes<'a> {
+    /// Keeps the rules of a macro. They are known wherever they are.
+    pub(super) fn keep_rules(&mut self, item: &Item<'a>) {
+        if let [_, _, name, ..] = item.words {
+            let rules = Rules {
+                name: name.text.as_str(),
+                inside: item.inside,
+                scope: item.scope,
+            };
+            self.failed = self.rules.push(rules).is_err() || self.failed;
+        }
+    }
+
+    /// What the rules of a macro say.
+    fn making_of(&self, name: &str) -> Making {
+        let mut making = Making {
+            has_rules: false,
+            may_declare: false,
+            is_maker: false,
+        };
+        for it in &self.rules {
+            if it.name == name {
+                making.has_rules = true;
+                making.may_declare |= may_declare(it.inside);
+                making.is_maker |= is_maker(it.inside);
+            }
+        }
+        making
+    }
+
+    /// Reads what the rules of a macro make by themselves where it is called, unless they are there.
+    fn read_rules(&mut self, import: Import<'a>, name: &str) {
+        for place in 0..self.rules.len() {
+            let Some(it) = self.rules.get(place) else {
+                break;
+            };
+            let Rules {
+                name: own,
+                inside,
+                scope,
+            } = *it;
+            if own == name && scope != import.scope {
+                self.read_made(import, inside, false);
+            }
+        }
+    }
+
+    /// Reads the call of a macro of which nothing is known but its rules. In a body only its rules say what it makes.
+    pub(super) fn read_call_of(&mut self, item: &Item<'a>) {
+        let name = first_word(item.words);
+        let making = self.making_of(name);
+        let import = Import::of(item.scope, false, false);
+        self.read_rules(import, name);
+        if making.is_maker {
+            self.add(item.scope, item.inside, What::Made, false);
+        }
+        if matches!(self.scope(item.scope).kind, Kind::Body) && !making.has_rules {
+            return;
+        }
+        self.read_made(import, item.inside, false);
+        if making.may_declare || !(making.has_rules || is_check(name)) {
+            let call = Call {
+                inside: item.inside,
+                scope: item.scope,
+                is_foreign: !making.has_rules,
+            };
+            self.failed = self.calls.push(call).is_err() || self.failed;
+        }
+    }
+
+    /// Whether a scope calls a macro of another crate, which may declare any name there.
+    pub(super) fn is_by_macro(&self, scope: usize) -> bool {
+        for call in &self.calls {
+            if call.is_foreign && call.scope == scope {
+                return true;
+            }
+        }
+        false
+    }
+
+    /// Whether a name is handed to a macro in a step, which may declare it there.
+    pub(super) fn is_handed(&self, step: Step<'a>, name: &str) -> bool {
+        for call in &self.calls {
+            if self.is_in(call.scope, step) && has_word(call.inside, name) {
+                return true;
+            }
+        }
+        false
+    }
+}
