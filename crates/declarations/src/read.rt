@@ -208,7 +208,7 @@ pub fn read_type(alloc: Global, sources: &[Source], words: &str) -> Result<(Sche
 }
 
 /// Returns each declared type without parameters, with its table or why it can't be read; and what is wrong with
-/// marks and texts of the files, a line each.
+/// marks, texts and types with parameters of the files, a line each.
 ///
 /// # Errors
 /// - `Wrong`: nothing is declared.
@@ -218,7 +218,12 @@ pub fn check_sources(
     sources: &[Source],
 ) -> Result<(Vec<CheckedType>, String), Error> {
     let files = tokens_in(alloc, sources)?;
-    let declared = Declared::new(alloc, &files)?;
+    let mut declared = Declared::new(alloc, &files)?;
+    for it in &declared.all {
+        if has_type_parameters(it) {
+            declared.faults.push_str(it.wrong.as_str())?;
+        }
+    }
     let mut types = Vec::new(alloc);
     for (index, it) in declared.all.iter().enumerate() {
         if !has_type_parameters(it) {

@@ -37,6 +37,7 @@ impl<'a> Scopes<'a> {
         let what = match item.kind {
             ItemKind::Type => What::Unmarked,
             ItemKind::Alias => alias_of(item.words),
+            ItemKind::Static => What::Static,
             ItemKind::Constant => {
                 let (of, value) = up_to(behind_first(behind_first(item.words)), &["="]);
                 What::Constant(of, behind_first(value))
