@@ -380,12 +380,22 @@ impl<'a> Scopes<'a> {
 
     /// Whether a scope is one of a step's, or round one of them.
     fn is_seen(&self, scope: usize, step: Step<'a>) -> bool {
+        match step {
+            Step::Scope(own) => self.is_round(scope, own),
+            // the scope of a file is at its place
+            Step::File(file) => self.is_in(scope, step) || self.is_round(scope, file),
+            _ => self.is_round_some(scope, step),
+        }
+    }
+
+    /// Whether a scope is one of a step's, or round one of them, whichever it is.
+    fn is_round_some(&self, scope: usize, step: Step<'a>) -> bool {
         for place in 0..self.scopes.len() {
             if self.is_in(place, step) && self.is_round(scope, place) {
                 return true;
             }
         }
-        self.is_in(scope, step)
+        false
     }
 
     /// Whether a step has a `use` that may pass a name on.
