@@ -207,6 +207,17 @@ pub fn read_type(alloc: Global, sources: &[Source], words: &str) -> Result<(Sche
     Ok((schema, place))
 }
 
+/// What is wrong with files beside their types without parameters: with marks, texts and types with parameters.
+fn faults_beside(alloc: Global, declared: &Declared<'_>) -> Result<String, AllocError> {
+    let mut faults = String::from_str(alloc, declared.faults.as_str())?;
+    for it in &declared.all {
+        if has_type_parameters(it) {
+            faults.push_str(it.wrong.as_str())?;
+        }
+    }
+    Ok(faults)
+}
+
 /// Returns each declared type without parameters, with its table or why it can't be read; and what is wrong with
 /// marks, texts and types with parameters of the files, a line each.
 ///
@@ -218,12 +229,8 @@ pub fn check_sources(
     sources: &[Source],
 ) -> Result<(Vec<CheckedType>, String), Error> {
     let files = tokens_in(alloc, sources)?;
-    let mut declared = Declared::new(alloc, &files)?;
-    for it in &declared.all {
-        if has_type_parameters(it) {
-            declared.faults.push_str(it.wrong.as_str())?;
-        }
-    }
+    let declared = Declared::new(alloc, &files)?;
+    let faults = faults_beside(alloc, &declared)?;
     let mut types = Vec::new(alloc);
     for (index, it) in declared.all.iter().enumerate() {
         if !has_type_parameters(it) {
@@ -249,5 +256,5 @@ pub fn check_sources(
     if declared.all.is_empty() {
         return Err(Error::Wrong(declared.faults));
     }
-    Ok((types, declared.faults))
+    Ok((types, faults))
 }
