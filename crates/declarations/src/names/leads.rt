@@ -299,16 +299,57 @@ impl<'a> Scopes<'a> {
             Step::All
         };
         if self.has_module(at) {
-            if is_first || !self.is_brought(at) {
+            if is_first {
                 Lead::In(Step::Module(at))
-            } else {
+            } else if self.is_brought(at) {
                 Lead::Doubtful
+            } else {
+                self.last_lead(path)
             }
         } else if self.has_type(own, at) {
             Lead::Type
         } else {
             Lead::Outside
         }
+    }
+
+    /// Where a path leads by its last two modules: to the only one of that name in one of the other name, if the files say what is round
+    /// modules of that name, and else to all of that name.
+    fn last_lead(&self, path: Path<'a>) -> Lead<'a> {
+        let all = Lead::In(Step::Module(path.before));
+        if matches!(path.over, "" | "crate" | "self" | "super") {
+            return all;
+        }
+        let mut found = None;
+        let mut is_elsewhere = false;
+        for place in 0..self.scopes.len() {
+            if self.is_in(place, Step::Module(path.before))
+                && let Some(outer) = self.around_module(place)
+            {
+                if !is_called(self.scope(outer).name, path.over) {
+                    is_elsewhere = true;
+                } else if found.is_some() {
+                    return Lead::Doubtful;
+                } else {
+                    found = Some(place);
+                }
+            }
+        }
+        match found {
+            Some(place) => Lead::In(Step::Scope(place)),
+            None if is_elsewhere && !self.is_passed_on(path.before) => Lead::Doubtful,
+            None => all,
+        }
+    }
+
+    /// Whether a `use` may make a module of this name one of another module.
+    fn is_passed_on(&self, name: &str) -> bool {
+        for it in &self.imports {
+            if it.name == name || (it.is_glob && it.is_public) {
+                return true;
+            }
+        }
+        false
     }
 
     /// The module that has the last one of a path in it, if no more than one other stands before that.
