@@ -170,6 +170,7 @@ export function parseJson(text, depth = 2 * GREATEST_DEPTH) {
   const fail = () => { throw new Wrong("the line isn't JSON", `column ${[...text.slice(0, at)].length + 1}`); };
   const blank = () => { while (at < text.length && " \t\n\r".includes(text[at])) at++; };
   const token = /-?(?:0|[1-9]\d*)(?:\.\d+)?(?:[eE][-+]?\d+)?|"(?:[^"\\\u0000-\u001f]|\\(?:["\\/bfnrt]|u[0-9a-fA-F]{4}))*"|true|false|null/y;
+  const word = /[^ \t\n\r,:[\]{}]*/y; // a number, true, false and null go up to one of these
   const sequence = (close, part) => {
     const parts = [];
     at++;
@@ -207,9 +208,9 @@ export function parseJson(text, depth = 2 * GREATEST_DEPTH) {
       }) };
     }
     if (text[at] === '"') return { text: string() };
-    token.lastIndex = at;
+    token.lastIndex = word.lastIndex = at;
     const found = token.exec(text);
-    if (!found) fail();
+    if (!found || found[0] !== word.exec(text)[0]) fail();
     at += found[0].length;
     if (found[0] === "null") return { null: true };
     return found[0] === "true" || found[0] === "false" ? { truth: found[0] === "true" } : { number: found[0] };
