@@ -230,11 +230,12 @@ impl<'a> Scopes<'a> {
         }
     }
 
-    /// Whether a `*` of a module leads to one that has a module of this name in it.
+    /// Whether a `*` of a module, under no condition, leads to one that has a module of this name in it.
     fn is_by_star(&self, module: usize, name: &str) -> bool {
         for it in &self.imports {
             if it.is_glob
                 && it.scope == module
+                && !it.is_conditional
                 && self.is_rooted(module, it.path.root)
                 && let Lead::In(step) = self.place_lead(module, it.path)
                 && self.is_child_in(step, name)

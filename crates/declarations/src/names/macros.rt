@@ -2,7 +2,7 @@
 use super::candidates::Step;
 use super::{Import, Scopes, What};
 use declaration_parser::attributes::{behind_first, first_word, name_at, plain_name};
-use declaration_parser::items::{Item, Kind};
+use declaration_parser::items::Item;
 use declaration_parser::tokens::{Token, Word, is_among};
 
 /// The rules of a macro.
@@ -149,7 +149,7 @@ impl<'a> Scopes<'a> {
         }
     }
 
-    /// Reads the call of a macro of which nothing is known but its rules. In a body only its rules say what it makes.
+    /// Reads the call of a macro of which nothing is known but its rules.
     pub(super) fn read_call_of(&mut self, item: &Item<'a>) {
         let name = first_word(item.words);
         let making = self.making_of(name);
@@ -157,9 +157,6 @@ impl<'a> Scopes<'a> {
         self.read_rules(import, name);
         if making.is_maker {
             self.add(item.scope, item.inside, What::Made, false);
-        }
-        if matches!(self.scope(item.scope).kind, Kind::Body) && !making.has_rules {
-            return;
         }
         self.read_made(import, item.inside, false);
         if making.may_declare || !(making.has_rules || is_check(name)) {
