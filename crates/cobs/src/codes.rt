@@ -15,9 +15,12 @@
 ghost use Rattle.std.specs.Prelude.{◌≡◌, ◌≢◌, ℕ, ◌+◌, ◌<◌, ◌≤◌, List, length, take, drop, slice_index, true};
 ghost use Rattle.std.specs.Int.{bit_at};
 ghost use Rattle.cobs.specs.Codes.{InBlock, Coded, Marks, Stepped};
+ghost use Rattle.cobs.specs.InPlace.{written_over};
 ghost use Rattle.cobs.specs.Sentinel.{masked};
 
-use crate::moves::{copy_clear, copy_clear_64, copy_few, row_over, zeros_of_ends, zeros_of_some};
+use crate::moves::{
+    copy_clear, copy_clear_64, copy_few, copy_marked_ends, row_over, zeros_of_ends, zeros_of_some,
+};
 
 // The lowest bit that is set, and the others.
 #[inline(always)]
@@ -101,7 +104,7 @@ fn put_codes_of_marks(
     ensures { Coded (masked sentinel dest.old) code_at from
         (masked sentinel (take n (drop from dest.old))) (masked sentinel dest.new) result }
 {
-    if are_all_marked(marks, n) {
+    if marks != 0 && are_all_marked(marks, n) {
         put_codes_of_zeros(dest, code_at, from, n, sentinel)
     } else {
         put_codes_marked(dest, code_at, from, n, marks, sentinel)
@@ -135,6 +138,33 @@ fn marks_of(bytes: &[u8], sentinel: u8) -> u64
     }
 }
 
+// Copies 1 to 64 bytes over a buffer, from a position on, each XORed with the sentinel, and returns the marks of those that are
+// zero.
+#[inline(always)]
+fn copy_marked(bytes: &[u8], buffer: &mut [u8], place: usize, sentinel: u8) -> u64
+    requires some { 0 < length bytes.now }
+    requires few { length bytes.now ≤ 64 }
+    requires room { place + length bytes.now ≤ length buffer.old }
+    ensures marks { Marks result 0 (masked 0 bytes.now) }
+    ensures copied { buffer.new ≡ written_over place (masked sentinel bytes.now) buffer.old }
+{
+    if 16 <= bytes.len() {
+        if 32 <= bytes.len() {
+            return copy_marked_ends::<32>(bytes, buffer, place, sentinel);
+        }
+        return copy_marked_ends::<16>(bytes, buffer, place, sentinel);
+    }
+    if 8 <= bytes.len() {
+        return copy_marked_ends::<8>(bytes, buffer, place, sentinel);
+    }
+    if 4 <= bytes.len() {
+        return copy_marked_ends::<4>(bytes, buffer, place, sentinel);
+    }
+    let marks = marks_of(bytes, 0);
+    copy_few(bytes, buffer, place, sentinel);
+    marks
+}
+
 // Writes a code at each zero of n bytes that are in the buffer, for the sentinel zero, and returns the position of the
 // last code. Of fewer than 64 each zero gets its code: filling them takes a call.
 #[inline(always)]
@@ -147,7 +177,7 @@ pub(crate) fn put_codes_standing(dest: &mut [u8], code_at: usize, from: usize, n
     ensures { Coded dest.old code_at from (take n (drop from dest.old)) dest.new result }
 {
     let marks = marks_of(&dest[from..from + n], 0);
-    if n == 64 && are_all_marked(marks, n) {
+    if marks != 0 && n == 64 && are_all_marked(marks, n) {
         return put_codes_of_zeros(dest, code_at, from, n, 0);
     }
     put_codes_marked(dest, code_at, from, n, marks, 0)
@@ -170,11 +200,14 @@ fn put_some<const WAY: usize, const CALL: usize>(
     ensures { Stepped (masked sentinel dest.old) code_at from bytes.now
         (masked sentinel dest.new) result }
 {
-    if WAY == 0 && bytes.len() == 64 && copy_clear_64(bytes, dest, from, sentinel) {
-        return code_at;
+    if WAY == 0 && bytes.len() == 64 {
+        if copy_clear_64(bytes, dest, from, sentinel) {
+            return code_at;
+        }
+        let marks = zeros_of_ends::<32>(bytes, 0);
+        return put_codes_of_marks(dest, code_at, from, bytes.len(), marks, sentinel);
     }
-    let marks = marks_of(bytes, 0);
-    copy_few(bytes, dest, from, sentinel);
+    let marks = copy_marked(bytes, dest, from, sentinel);
     put_codes_of_marks(dest, code_at, from, bytes.len(), marks, sentinel)
 }
 

@@ -11,7 +11,7 @@ use crate::moves::{is_clear, is_clear_255, zeros_of_some};
 
 // How many of a few bytes come before the first sentinel.
 #[inline(always)]
-fn before_near(bytes: &[u8], sentinel: u8) -> usize
+pub(crate) fn before_near(bytes: &[u8], sentinel: u8) -> usize
     ensures within { result ≤ length bytes.now }
     ensures none { (k : ℕ) → k < result → slice_index bytes.now k ≢ sentinel }
     ensures end { result < length bytes.now → slice_index bytes.now result ≡ sentinel }

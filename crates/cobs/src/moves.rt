@@ -1,7 +1,7 @@
 //! Copying and moving bytes by vectors, each XORed with the sentinel.
 //!
 //! Of as many bytes as one to two vectors have, one vector takes the first and one the last.
-ghost use Rattle.std.specs.Prelude.{◌≡◌, ℕ, ◌+◌, ◌<◌, ◌≤◌, length, take, drop, replicate, slice_index, true, false, ◌^◌};
+ghost use Rattle.std.specs.Prelude.{◌≡◌, ◌≢◌, ℕ, ◌+◌, ◌<◌, ◌≤◌, length, take, drop, replicate, slice_index, true, false, ◌^◌};
 ghost use Rattle.cobs.specs.Codes.{Marks};
 ghost use Rattle.cobs.specs.InPlace.{written_over};
 ghost use Rattle.cobs.specs.Sentinel.{masked};
@@ -324,6 +324,76 @@ pub(crate) fn zeros_of_some(bytes: &[u8], sentinel: u8) -> u64
     } else {
         zeros_of_ends::<4>(bytes, sentinel)
     }
+}
+
+// Copies bytes over a buffer, from a position on, each XORed with the sentinel, if none of them is it: else nothing is written.
+// Returns the bits of those that are. As many as one to two vectors have.
+#[inline(always)]
+fn copy_clear_ends<const W: usize>(
+    bytes: &[u8],
+    buffer: &mut [u8],
+    place: usize,
+    sentinel: u8,
+) -> u64
+    requires wide { W ≤ 32 }
+    requires some { W ≤ length bytes.now }
+    requires few { length bytes.now ≤ W + W }
+    requires room { place + length bytes.now ≤ length buffer.old }
+    ensures marks { Marks result 0 (masked sentinel bytes.now) }
+    ensures copied { result ≡ 0
+        → buffer.new ≡ written_over place (masked sentinel bytes.now) buffer.old }
+    ensures same { result ≢ 0 → buffer.new ≡ buffer.old }
+{
+    let marks = zeros_of_ends::<W>(bytes, sentinel);
+    if marks == 0 {
+        copy_ends::<W>(bytes, buffer, place, sentinel);
+    }
+    marks
+}
+
+// The same of 4 to 64 bytes.
+#[inline(always)]
+pub(crate) fn copy_clear_some(bytes: &[u8], buffer: &mut [u8], place: usize, sentinel: u8) -> u64
+    requires some { 4 ≤ length bytes.now }
+    requires few { length bytes.now ≤ 64 }
+    requires room { place + length bytes.now ≤ length buffer.old }
+    ensures marks { Marks result 0 (masked sentinel bytes.now) }
+    ensures copied { result ≡ 0
+        → buffer.new ≡ written_over place (masked sentinel bytes.now) buffer.old }
+    ensures same { result ≢ 0 → buffer.new ≡ buffer.old }
+{
+    if 16 <= bytes.len() {
+        if 32 <= bytes.len() {
+            copy_clear_ends::<32>(bytes, buffer, place, sentinel)
+        } else {
+            copy_clear_ends::<16>(bytes, buffer, place, sentinel)
+        }
+    } else if 8 <= bytes.len() {
+        copy_clear_ends::<8>(bytes, buffer, place, sentinel)
+    } else {
+        copy_clear_ends::<4>(bytes, buffer, place, sentinel)
+    }
+}
+
+// Copies bytes over a buffer, from a position on, each XORed with the sentinel, and returns the bits of those that are zero. As
+// many as one to two vectors have.
+#[inline(always)]
+pub(crate) fn copy_marked_ends<const W: usize>(
+    bytes: &[u8],
+    buffer: &mut [u8],
+    place: usize,
+    sentinel: u8,
+) -> u64
+    requires wide { W ≤ 32 }
+    requires some { W ≤ length bytes.now }
+    requires few { length bytes.now ≤ W + W }
+    requires room { place + length bytes.now ≤ length buffer.old }
+    ensures marks { Marks result 0 (masked 0 bytes.now) }
+    ensures copied { buffer.new ≡ written_over place (masked sentinel bytes.now) buffer.old }
+{
+    let marks = zeros_of_ends::<W>(bytes, 0);
+    copy_ends::<W>(bytes, buffer, place, sentinel);
+    marks
 }
 
 // Moves n bytes towards the front, from one position to another: as many as one to two vectors have.

@@ -94,7 +94,7 @@ fn reach(source: &[u8], room: usize, sentinel: u8) -> usize
 //
 // A long row of codes 01 is left to a decoder to which it is pushed, which fills it at once.
 #[inline(always)]
-fn decode_part<const COPY: usize>(
+fn decode_part<const CALL: usize, const COPY: usize>(
     source: &[u8],
     looked_at: usize,
     dest: &mut [u8],
@@ -111,13 +111,43 @@ fn decode_part<const COPY: usize>(
         return None;
     }
     if is_short(bytes, sentinel) {
-        return Some(decode_near(bytes, dest, sentinel));
+        return Some(decode_near::<CALL, false>(bytes, dest, sentinel));
     }
     if begins_with_row(bytes, sentinel) {
         return None;
     }
     let (Progress { state, len }, end) = take_source::<COPY>(bytes, dest, sentinel);
     Some((answer_behind(state, len), end))
+}
+
+// Whether a source is short, fits and begins with a frame.
+#[inline(always)]
+fn is_few(source: &[u8], room: usize, sentinel: u8) -> bool
+    ensures some { IsTrue result → 0 < length source.now }
+    ensures few { IsTrue result → length source.now ≤ 65 }
+    ensures room { IsTrue result → length source.now ≤ room + 1 }
+    ensures begins { IsTrue result → slice_index source.now 0 ≢ sentinel }
+{
+    let len = source.len();
+    0 < len && len <= 64 && len - 1 <= room && source[0] != sentinel
+}
+
+// As `decode_part`, of as many bytes as are looked at without a search. A short source is decoded after one test of its length.
+#[inline(always)]
+fn decode_front<const CALL: usize, const COPY: usize>(
+    source: &[u8],
+    dest: &mut [u8],
+    sentinel: u8,
+) -> Option<(Result<usize, DecodeError>, usize)>
+    ensures done { IfSome result (λ t. DecodesFront dest.old
+        (stretch (masked sentinel source.now)) dest.new t.0 t.1) }
+    ensures same { IsNone result → dest.new ≡ dest.old }
+{
+    if is_few(source, dest.len(), sentinel) {
+        return Some(decode_near::<CALL, true>(source, dest, sentinel));
+    }
+    let looked_at = front(source, dest.len(), sentinel);
+    decode_part::<CALL, COPY>(source, looked_at, dest, sentinel)
 }
 
 // As `decode`, by a decoder to which what follows leading zeros is pushed, and then a zero: it sees which byte
@@ -158,7 +188,7 @@ fn decode_slowly(source: &[u8], dest: &mut [u8]) -> Result<DecodeReport, DecodeE
     if begins_with_row(rest, 0) {
         return decode_pushed(source, rest, dest);
     }
-    match decode_part::<2>(rest, reach(rest, dest.len(), 0), dest, 0) {
+    match decode_part::<3, 2>(rest, reach(rest, dest.len(), 0), dest, 0) {
         Some((answer, end)) => {
             let parsed = source.len().min(source.len() - rest.len() + end + 1);
             with_parsed(answer, parsed)
@@ -192,7 +222,7 @@ pub fn decode(source: &[u8], dest: &mut [u8]) -> Result<DecodeReport, DecodeErro
         → length dest.old < length m) }
     ensures dest { dest.new ≡ overwritten (part (frame_in source.now)) dest.old }
 {
-    match decode_part::<0>(source, front(source, dest.len(), 0), dest, 0) {
+    match decode_front::<0, 0>(source, dest, 0) {
         Some((answer, end)) => with_parsed(answer, source.len().min(end + 1)),
         None => apart(decode_slowly(source, dest)),
     }
@@ -206,9 +236,26 @@ fn decode_stretch(source: &[u8], dest: &mut [u8], sentinel: u8) -> Result<usize,
     ensures dest { dest.new ≡ overwritten (part (stretch (masked sentinel source.now))) dest.old }
 {
     let frame = before(source, sentinel);
-    match decode_part::<3>(source, frame.len(), dest, sentinel) {
+    match decode_part::<4, 3>(source, frame.len(), dest, sentinel) {
         Some((answer, _)) => answer,
         None => decode_counted(frame, dest, sentinel),
+    }
+}
+
+// As `decode_with_sentinel`, by the copy of that number: that for zero alone XORs nothing.
+#[inline(always)]
+fn decode_before<const CALL: usize, const COPY: usize>(
+    source: &[u8],
+    dest: &mut [u8],
+    sentinel: u8,
+) -> Result<usize, DecodeError>
+    ensures answer { result
+        ≡ decoded_into (length dest.old) (stretch (masked sentinel source.now)) }
+    ensures dest { dest.new ≡ overwritten (part (stretch (masked sentinel source.now))) dest.old }
+{
+    match decode_front::<CALL, COPY>(source, dest, sentinel) {
+        Some((answer, _)) => answer,
+        None => apart(decode_stretch(source, dest, sentinel)),
     }
 }
 
@@ -234,10 +281,10 @@ pub fn decode_with_sentinel(
         → length dest.old < length m) }
     ensures dest { dest.new ≡ overwritten (part (stretch (masked sentinel source.now))) dest.old }
 {
-    match decode_part::<1>(source, front(source, dest.len(), sentinel), dest, sentinel) {
-        Some((answer, _)) => answer,
-        None => apart(decode_stretch(source, dest, sentinel)),
+    if sentinel == 0 {
+        return decode_before::<1, 0>(source, dest, sentinel);
     }
+    decode_before::<2, 1>(source, dest, sentinel)
 }
 
 // Decodes bytes that contain no sentinel, each XORed with it. Short frames are decoded at once, without a second

@@ -75,12 +75,25 @@ pub fn encode_with_sentinel(source: &[u8], dest: &mut [u8], sentinel: u8) -> usi
 /// ```rust
 /// check(&rt, encoded_length(&[10, 11, 0, 12]) == 5);
 /// ```
-#[inline(never)]
+#[inline(always)]
+#[tactic(auto, using(crate::proofs::LengthsLemmas::frame_at_least, crate::proofs::LengthsLemmas::frame_at_most, crate::proofs::LengthsLemmas::frame_reaches))]
 pub fn encoded_length(source: &[u8]) -> usize
     ensures frame { result ≡ length (shortest_frame source.now) }
     ensures at_least { length source.now + 1 ≤ result }
     ensures at_most { result ≤ most_length (length source.now) }
     ensures without_zero { NoZero source.now → result ≡ most_length (length source.now) }
+{
+    // One code suffices for these.
+    if source.len() <= 254 {
+        return source.len() + 1;
+    }
+    length_of_blocks(source)
+}
+
+// The same, of a source of any length.
+#[inline(never)]
+fn length_of_blocks(source: &[u8]) -> usize
+    ensures { result ≡ length (shortest_frame source.now) }
 {
     let mut full_runs: usize = 0;
     let mut rest = source;
@@ -169,7 +182,8 @@ pub fn try_encode_including_sentinels(
 /// `AllocError` when out of memory.
 ///
 /// # Allocates
-/// The frame's length, once.
+/// `max_encoding_length(source.len())` bytes, once: the frame's length for up to 254 bytes, and at most a byte more for
+/// each 254. So the source is read once.
 ///
 /// # Example
 /// With `MESSAGE` as `[10, 11, 0, 12]`:
@@ -189,7 +203,7 @@ pub fn encode_vec(alloc: Global, source: &[u8]) -> Result<Vec<u8>, AllocError>
 /// `AllocError` when out of memory.
 ///
 /// # Allocates
-/// The length of the frame and two bytes, once.
+/// `max_encoding_length(source.len())` and two bytes, once.
 ///
 /// # Example
 /// With `MESSAGE` as `[10, 11, 0, 12]`:
@@ -200,8 +214,9 @@ pub fn encode_vec(alloc: Global, source: &[u8]) -> Result<Vec<u8>, AllocError>
 pub fn encode_vec_including_sentinels(alloc: Global, source: &[u8]) -> Result<Vec<u8>, AllocError>
     ensures { IfOk result (λ frame. frame.items ≡ between_zeros (shortest_frame source.now)) }
 {
-    let mut frame = vec![in alloc; 0; encoded_length(source) + 2]?;
-    encode_including_sentinels(source, frame.as_mut_slice());
+    let mut frame = vec![in alloc; 0; max_encoding_length(source.len()) + 2]?;
+    let length = encode_including_sentinels(source, frame.as_mut_slice());
+    frame.truncate(length);
     Ok(frame)
 }
 
@@ -211,7 +226,8 @@ pub fn encode_vec_including_sentinels(alloc: Global, source: &[u8]) -> Result<Ve
 /// `AllocError` when out of memory.
 ///
 /// # Allocates
-/// The frame's length, once.
+/// `max_encoding_length(source.len())` bytes, once: the frame's length for up to 254 bytes, and at most a byte more for
+/// each 254. So the source is read once.
 ///
 /// # Example
 /// With `MESSAGE` as `[10, 11, 0, 12]`:
@@ -226,7 +242,8 @@ pub fn encode_vec_with_sentinel(
 ) -> Result<Vec<u8>, AllocError>
     ensures { IfOk result (λ frame. frame.items ≡ frame_for sentinel source.now) }
 {
-    let mut frame = vec![in alloc; 0; encoded_length(source)]?;
-    encode_with_sentinel(source, frame.as_mut_slice(), sentinel);
+    let mut frame = vec![in alloc; 0; max_encoding_length(source.len())]?;
+    let length = encode_with_sentinel(source, frame.as_mut_slice(), sentinel);
+    frame.truncate(length);
     Ok(frame)
 }

@@ -10,6 +10,3 @@ put_codes_marked-requires-clause-marks c = c.requires.marks
 
 pub returns-then-are_all_marked : goal.returns-then-are_all_marked
 returns-then-are_all_marked c = c.put_codes_of_zeros.ensures
-
-pub returns-else-are_all_marked : goal.returns-else-are_all_marked
-returns-else-are_all_marked c = c.put_codes_marked.ensures

@@ -14,7 +14,7 @@ use Rattle.cobs.proofs.ShortLemmas.{window_answer, window_over}
 use Rattle.cobs.proofs.SourcesLemmas.{masked_positive, stretch_front, stretch_clear, clear_at}
 use Rattle.cobs.proofs.WithinLemmas.{written_part}
 use Rattle.cobs.proofs.dec.frames.decode_near.Goals as goal
-use Rattle.cobs.proofs.dec.frames.decode_near.Goals.{After-copy_until-n}
+use Rattle.cobs.proofs.dec.frames.decode_near.Goals.{After-copy_frame_until-n}
 
 -- the code, and what is behind it
 first_of : (s n : ℕ) (source : List ℕ) → 0 < length source → masked s (take (n + 1) source) ≡ bit_xor s (get_or source 0 0) ∷ masked s (take n (drop 1 source))
@@ -25,7 +25,7 @@ none_with : (s n : ℕ) (source : List ℕ) → get_or source 0 0 ≢ s → ((k 
 none_with s n source first behind zero l e = first e
 none_with s n source first behind (suc k) l e = behind k (omega arith) (ap (λ j. get_or source j 0) (omega arith) ∙ e)
 
-module _ (c : After-copy_until-n) where
+module _ (g : _) (c : After-copy_frame_until-n g) where
   abbrev key : ℕ
   key = c.args.sentinel
 
@@ -36,10 +36,10 @@ module _ (c : After-copy_until-n) where
   old = c.args.dest.now
 
   abbrev mid : List ℕ
-  mid = c.copy_until-n.new.buffer
+  mid = c.copy_frame_until-n.new.buffer
 
   abbrev n : ℕ
-  n = c.copy_until-n.result
+  n = c.copy_frame_until-n.result
 
   abbrev code : ℕ
   code = bit_xor key (get_or source 0 0)
@@ -51,7 +51,7 @@ module _ (c : After-copy_until-n) where
   all = take_all (length source - 1) (drop 1 source) (omega (arith, length-drop 1 source))
 
   within : n + 1 ≤ length source
-  within = omega (arith, c.copy_until-n.ensures.within, ap length all, length-drop 1 source, c.requires.some)
+  within = omega (arith, c.copy_frame_until-n.ensures.within, ap length all, length-drop 1 source, c.requires.some)
 
   room : n ≤ length old
   room = omega (arith, within, c.requires.room)
@@ -60,10 +60,10 @@ module _ (c : After-copy_until-n) where
   byte_at k = ap (λ b. get_or b k 0) all ∙ get_or-drop 1 source k 0
 
   none : (k : ℕ) → k < n + 1 → get_or source k 0 ≢ key
-  none = none_with key n source c.requires.begins (λ k l e. c.copy_until-n.ensures.none k l (byte_at k ∙ e))
+  none = none_with key n source c.requires.begins (λ k l e. c.copy_frame_until-n.ensures.none k l (byte_at k ∙ e))
 
   ends : n + 1 < length source → get_or source (n + 1) 0 ≡ key
-  ends l = ap (λ j. get_or source j 0) (omega arith) ∙ sym (byte_at n) ∙ c.copy_until-n.ensures.end (omega (arith, l, ap length all, length-drop 1 source))
+  ends l = ap (λ j. get_or source j 0) (omega arith) ∙ sym (byte_at n) ∙ c.copy_frame_until-n.ensures.end (omega (arith, l, ap length all, length-drop 1 source))
 
   first : stretch (masked key source) ≡ code ∷ bytes
   first = sym (stretch_front key source (n + 1) within none ends) ∙ first_of key n source c.requires.some
@@ -75,7 +75,7 @@ module _ (c : After-copy_until-n) where
   clear = subst NoZero first (stretch_clear (masked key source))
 
   put : mid ≡ written_over 0 bytes old
-  put = c.copy_until-n.ensures.buffer ∙ ap (λ b. written_over 0 b old) (masked_take key n (take (length source - 1) (drop 1 source)) ∙ ap (λ b. masked key (take n b)) all)
+  put = c.copy_frame_until-n.ensures.buffer ∙ ap (λ b. written_over 0 b old) (masked_take key n (take (length source - 1) (drop 1 source)) ∙ ap (λ b. masked key (take n b)) all)
 
   there : take n mid ≡ bytes
   there = ap (take n) put ∙ written_part 0 n bytes old (sym long) (omega arith)
@@ -116,33 +116,33 @@ module _ (c : After-copy_until-n) where
   end_is = omega (arith, ap length first, long)
 
 pub put_zeros-state-requires-clause-nonzero : goal.put_zeros-state-requires-clause-nonzero
-put_zeros-state-requires-clause-nonzero c =
-    let e = (goal.at.put_zeros-state-requires-clause-nonzero c).After-copy_until-n in
-    λ k q. rw (there e) (clear_at (bytes e) k (clear e).1 (omega (arith, q, ap length (there e))))
+put_zeros-state-requires-clause-nonzero g c =
+    let e = (goal.at.put_zeros-state-requires-clause-nonzero g c).After-copy_frame_until-n in
+    λ k q. rw (there g e) (clear_at (bytes g e) k (clear g e).1 (omega (arith, q, ap length (there g e))))
 
 pub put_zeros-state-requires-clause-short : goal.put_zeros-state-requires-clause-short
-put_zeros-state-requires-clause-short c =
-    let e = (goal.at.put_zeros-state-requires-clause-short c).After-copy_until-n in
-    omega (arith, ap length (there e), long e, within e, e.requires.few)
+put_zeros-state-requires-clause-short g c =
+    let e = (goal.at.put_zeros-state-requires-clause-short g c).After-copy_frame_until-n in
+    omega (arith, ap length (there g e), long g e, within g e, e.requires.few)
 
-pub copy_until-n-requires : goal.copy_until-n-requires
-copy_until-n-requires c =
+pub copy_frame_until-n-requires-clause-room : goal.copy_frame_until-n-requires-clause-room
+copy_frame_until-n-requires-clause-room g c =
     omega (arith, length-take (length c.args.source.now - 1) (drop 1 c.args.source.now), length-drop 1 c.args.source.now, c.requires.room)
 
 pub overflow_sub-code : goal.overflow_sub-code
-overflow_sub-code c = masked_positive c.args.sentinel (get_or c.args.source.now 0 0) c.requires.begins
+overflow_sub-code g c = masked_positive c.args.sentinel (get_or c.args.source.now 0 0) c.requires.begins
 
 pub returns-clause-within : goal.returns-clause-within
-returns-clause-within c = within (goal.at.returns-clause-within c).After-copy_until-n
+returns-clause-within g c = within g (goal.at.returns-clause-within g c).After-copy_frame_until-n
 
 pub returns-clause-answer : goal.returns-clause-answer
-returns-clause-answer c =
+returns-clause-answer g c =
     c.answer_behind.ensures
-    ∙ answer (goal.at.returns-clause-answer c).After-copy_until-n c.put_zeros-state.new.out c.put_zeros-state.result c.put_zeros-state.auto.out c.put_zeros-state.ensures.out c.put_zeros-state.ensures.state
+    ∙ answer g (goal.at.returns-clause-answer g c).After-copy_frame_until-n c.put_zeros-state.new.out c.put_zeros-state.result c.put_zeros-state.auto.out c.put_zeros-state.ensures.out c.put_zeros-state.ensures.state
 
 pub returns-clause-dest : goal.returns-clause-dest
-returns-clause-dest c =
-    over (goal.at.returns-clause-dest c).After-copy_until-n c.put_zeros-state.new.out c.put_zeros-state.result c.put_zeros-state.auto.out c.put_zeros-state.ensures.out c.put_zeros-state.ensures.state
+returns-clause-dest g c =
+    over g (goal.at.returns-clause-dest g c).After-copy_frame_until-n c.put_zeros-state.new.out c.put_zeros-state.result c.put_zeros-state.auto.out c.put_zeros-state.ensures.out c.put_zeros-state.ensures.state
 
 pub returns-clause-end : goal.returns-clause-end
-returns-clause-end c = end_is (goal.at.returns-clause-end c).After-copy_until-n
+returns-clause-end g c = end_is g (goal.at.returns-clause-end g c).After-copy_frame_until-n

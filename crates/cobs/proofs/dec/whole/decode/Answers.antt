@@ -13,12 +13,12 @@ module _ (c : After-with_parsed) where
   told =
       let d = c.in-Some.ensures.done in
       let source = c.args.source.now in
-      c.with_parsed.ensures ∙ told_fitting source source c.args.dest.now c.decode_part.new.dest c.in-Some.answer c.in-Some.end c.min.result (unpadded_begun source d.some) d (omega (arith, c.min.ensures))
+      c.with_parsed.ensures ∙ told_fitting source source c.args.dest.now c.decode_front.new.dest c.in-Some.answer c.in-Some.end c.min.result (unpadded_begun source d.some) d (omega (arith, c.min.ensures))
 
-  over : c.decode_part.new.dest ≡ overwritten (part (frame_in c.args.source.now)) c.args.dest.now
+  over : c.decode_front.new.dest ≡ overwritten (part (frame_in c.args.source.now)) c.args.dest.now
   over =
       let d = c.in-Some.ensures.done in
-      over_fitting c.args.source.now c.args.source.now c.args.dest.now c.decode_part.new.dest c.in-Some.answer c.in-Some.end (unpadded_begun c.args.source.now d.some) d
+      over_fitting c.args.source.now c.args.source.now c.args.dest.now c.decode_front.new.dest c.in-Some.answer c.in-Some.end (unpadded_begun c.args.source.now d.some) d
 
 -- and else
 module _ (c : After-apart) where
@@ -37,7 +37,7 @@ returns-in-Some-clause-dest c = over (goal.at.returns-in-Some-clause-dest c).Aft
 pub returns-in-Some-clause-frame : goal.returns-in-Some-clause-frame
 returns-in-Some-clause-frame c =
     let e = (goal.at.returns-in-Some-clause-frame c).After-with_parsed in
-    from_frame c.args.source.now c.args.dest.now c.with_parsed.result c.decode_part.new.dest (stretch_found c.args.source.now (λ k. (c.type_inv.source k).fits)) (told e) (over e)
+    from_frame c.args.source.now c.args.dest.now c.with_parsed.result c.decode_front.new.dest (stretch_found c.args.source.now (λ k. (c.type_inv.source k).fits)) (told e) (over e)
 
 pub returns-in-Some-clause-no_frame : goal.returns-in-Some-clause-no_frame
 returns-in-Some-clause-no_frame c = from_no_frame c.args.source.now c.args.dest.now c.with_parsed.result (told (goal.at.returns-in-Some-clause-no_frame c).After-with_parsed)

@@ -3,9 +3,9 @@ use Rattle.std.proofs.Common.{◌≡◌, ◌<◌, ◌∙◌, get_or, length, tak
 use Rattle.std.proofs.lemmas.Bool.{eqb-true}
 use Rattle.std.proofs.lemmas.List.{take_rest, get_or-take}
 use Rattle.cobs.specs.Sentinel.{masked}
-use Rattle.cobs.proofs.LengthsLemmas.{counted_none, counted_zero, counted_full, counted_few, counted_all, frame_at_least, frame_at_most, frame_reaches}
+use Rattle.cobs.proofs.LengthsLemmas.{counted_none, counted_zero, counted_full, counted_few, counted_all, frame_at_most}
 use Rattle.cobs.proofs.MaskingLemmas.{masked_zero}
-use Rattle.cobs.proofs.enc.whole.encoded_length.Goals as goal
+use Rattle.cobs.proofs.enc.whole.length_of_blocks.Goals as goal
 
 pub loop-rest-init : goal.loop-rest-init
 loop-rest-init c = counted_none c.args.source.now
@@ -38,17 +38,8 @@ pub loop-rest-preserved : goal.loop-rest-preserved
 loop-rest-preserved c =
     rw c.split_at.ensures.back (counted_full _ _ _ _ (omega arith) c.split_at.ensures.front (λ k l. c.in-None.ensures k (omega arith) l) c.loop-rest.invariant)
 
-pub returns-clause-frame : goal.returns-clause-frame
-returns-clause-frame c = counted_all c.args.source.now _ _ (omega arith) c.loop-rest.invariant
-
-pub returns-clause-at_least : goal.returns-clause-at_least
-returns-clause-at_least c = omega (arith, counted_all c.args.source.now _ _ (omega arith) c.loop-rest.invariant, frame_at_least c.args.source.now)
-
-pub returns-clause-at_most : goal.returns-clause-at_most
-returns-clause-at_most c = omega (arith, counted_all c.args.source.now _ _ (omega arith) c.loop-rest.invariant, frame_at_most c.args.source.now)
-
-pub returns-clause-without_zero : goal.returns-clause-without_zero
-returns-clause-without_zero c = λ h. counted_all c.args.source.now _ _ (omega arith) c.loop-rest.invariant ∙ frame_reaches c.args.source.now h
+pub returns : goal.returns
+returns c = counted_all c.args.source.now _ _ (omega arith) c.loop-rest.invariant
 
 pub split_at-requires : goal.split_at-requires
 split_at-requires c = omega (arith, c.loop-rest-test.true)
