@@ -102,7 +102,7 @@ fn array_of_another_sentinel(rt: HostRuntime) {
         gives(decoder.decode_whole(&[8, 8, 8, 15]), 3),
         are_equal(decoder.dest(), &[2, 0, 5, 0]),
         goes_on(decoder.feed(10)),
-        goes_on(decoder.push(&FRAME[..3])),
+        decoder.push_clear(&[9, 0, 1]),
     ]);
     decoder.reset();
     check_all(
@@ -187,8 +187,10 @@ fn vectors(rt: HostRuntime) {
             are_equal(decoder.dest(), &[0, 0, 0]),
             decoder.sentinel() == 0,
             goes_on(decoder.feed(3)),
+            decoder.push_clear(&[9, 9]),
+            !decoder.push_clear(&[9, 9]),
             gives(decoder.decode_whole(&[2, 7]), 1),
-            are_equal(decoder.dest(), &[7, 0, 0]),
+            are_equal(decoder.dest(), &[7, 9, 0]),
             goes_on(decoder.feed(0)),
             takes_all(&mut decoder),
         ]),

@@ -27,6 +27,7 @@ pub struct CobsDecoderHeapless<const N: usize> {
 
 impl<const N: usize> CobsDecoderHeapless<N> {
     ghost use Rattle.cobs.specs.Arrays.{ArrayHas, array_progress, array_buffer, array_sentinel, LendsArrayBuffer};
+    ghost use Rattle.cobs.specs.Clear.{TakesClear};
     ghost use Rattle.cobs.specs.Taking.{FeedsByte, TakesPiece, DecodesWhole};
 
     /// An idle decoder of frames that end with a zero, over a buffer of zeros.
@@ -106,6 +107,22 @@ impl<const N: usize> CobsDecoderHeapless<N> {
     {
         self.progress
             .push(self.array.as_mut_slice(), data, self.sentinel)
+    }
+
+    /// Does what `push` does with bytes that contain no sentinel, if there is room for each of them after the message so
+    /// far. They aren't searched. Returns whether they were taken: if not, nothing is changed.
+    ///
+    /// # Requires
+    /// No byte is the sentinel.
+    pub fn push_clear(&mut self, data: &[u8]) -> bool
+        requires { NoZero (masked (array_sentinel self.old) «data».now) }
+        ensures takes { TakesClear (array_progress self.old) (array_buffer self.old)
+            (masked (array_sentinel self.old) «data».now) result
+            (array_progress self.new) (array_buffer self.new) }
+        ensures sentinel { array_sentinel self.new ≡ array_sentinel self.old }
+    {
+        self.progress
+            .push_clear(self.array.as_mut_slice(), data, self.sentinel)
     }
 
     /// Decodes a complete frame, without its sentinel, and returns the message's length n: the message is

@@ -28,6 +28,7 @@ pub struct CobsDecoderOwned {
 
 impl CobsDecoderOwned {
     ghost use Rattle.cobs.specs.Owners.{OwnedHas, owned_progress, owned_buffer, owned_sentinel, LendsOwnedBuffer};
+    ghost use Rattle.cobs.specs.Clear.{TakesClear};
     ghost use Rattle.cobs.specs.Taking.{FeedsByte, TakesPiece, DecodesWhole};
 
     /// An idle decoder of frames that end with a zero, over a buffer of `size` zeros.
@@ -97,6 +98,22 @@ impl CobsDecoderOwned {
     {
         self.progress
             .push(self.buffer.as_mut_slice(), data, self.sentinel)
+    }
+
+    /// Does what `push` does with bytes that contain no sentinel, if there is room for each of them after the message so
+    /// far. They aren't searched. Returns whether they were taken: if not, nothing is changed.
+    ///
+    /// # Requires
+    /// No byte is the sentinel.
+    pub fn push_clear(&mut self, data: &[u8]) -> bool
+        requires { NoZero (masked (owned_sentinel self.old) «data».now) }
+        ensures takes { TakesClear (owned_progress self.old) (owned_buffer self.old)
+            (masked (owned_sentinel self.old) «data».now) result
+            (owned_progress self.new) (owned_buffer self.new) }
+        ensures sentinel { owned_sentinel self.new ≡ owned_sentinel self.old }
+    {
+        self.progress
+            .push_clear(self.buffer.as_mut_slice(), data, self.sentinel)
     }
 
     /// Decodes a complete frame, without its sentinel, and returns the message's length n: the message is
