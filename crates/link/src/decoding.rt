@@ -3,6 +3,7 @@ ghost use Rattle.std.specs.Prelude.{◌≡◌, [], length, bit_xor};
 ghost use Rattle.cobs.specs.Frames.{NoZero};
 ghost use Rattle.cobs.specs.Sentinel.{masked};
 ghost use Rattle.cobs.specs.Streaming.{HasStreamed};
+ghost use Rattle.cobs.specs.Clear.{TakesClear};
 ghost use Rattle.cobs.specs.Taking.{FeedsByte, TakesPiece, DecodesWhole};
 ghost use Rattle.link.specs.Decoding.{Inside};
 
@@ -25,6 +26,18 @@ pub trait Decoding {
     /// Takes bytes of frames, up to the end of one, which it reports.
     fn push(&mut self, bytes: &[u8]) -> Result<Option<DecodeReport>, DecodeError>
         ensures takes { TakesPiece (inside self.old).progress (inside self.old).buffer
+            (masked (inside self.old).sentinel bytes.now) result
+            (inside self.new).progress (inside self.new).buffer }
+        ensures sentinel { (inside self.new).sentinel ≡ (inside self.old).sentinel };
+
+    /// Does what `push` does with bytes that contain no sentinel, if there is room for each of them, and returns whether it
+    /// did. If not, nothing is changed.
+    ///
+    /// # Requires
+    /// No byte is the sentinel.
+    fn push_clear(&mut self, bytes: &[u8]) -> bool
+        requires clear { NoZero (masked (inside self.old).sentinel bytes.now) }
+        ensures takes { TakesClear (inside self.old).progress (inside self.old).buffer
             (masked (inside self.old).sentinel bytes.now) result
             (inside self.new).progress (inside self.new).buffer }
         ensures sentinel { (inside self.new).sentinel ≡ (inside self.old).sentinel };
@@ -68,6 +81,10 @@ impl<const N: usize> Decoding for CobsDecoderHeapless<N> {
         self.push(bytes)
     }
 
+    fn push_clear(&mut self, bytes: &[u8]) -> bool {
+        self.push_clear(bytes)
+    }
+
     fn decode_whole(&mut self, frame: &[u8]) -> Result<usize, DecodeError> {
         self.decode_whole(frame)
     }
@@ -96,6 +113,10 @@ impl Decoding for CobsDecoderOwned {
 
     fn push(&mut self, bytes: &[u8]) -> Result<Option<DecodeReport>, DecodeError> {
         self.push(bytes)
+    }
+
+    fn push_clear(&mut self, bytes: &[u8]) -> bool {
+        self.push_clear(bytes)
     }
 
     fn decode_whole(&mut self, frame: &[u8]) -> Result<usize, DecodeError> {

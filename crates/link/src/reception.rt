@@ -154,8 +154,11 @@ impl<D: Decoding> Reception<D> {
         self.close()
     }
 
-    // Takes a run without sentinels. If it exceeds the limit: how many of its bytes were used, with the one past the limit.
-    fn take_run(&mut self, run: &[u8]) -> Option<usize>
+    // Takes a run without sentinels. If it exceeds the limit: how many of its bytes were used, with the one past the limit. It is
+    // compiled once for each number: one that is called once goes into its caller.
+    #[inline(always)]
+    fn take_run<const COPY: usize>(&mut self, run: &[u8]) -> Option<usize>
+        requires { NoZero (masked (D.inside self.old.decoder).sentinel run.now) }
         ensures runs { (limit s : ℕ) (b : Begun) → NoZero (masked s run.now)
             → IsAt D.inside limit s self.old b
             → MatchOption result (RunsOn limit s b run.now (IsAt D.inside limit s self.new))
@@ -175,7 +178,7 @@ impl<D: Decoding> Reception<D> {
             return Some(left + 1);
         }
         self.count += run.len();
-        let _ = self.decoder.push(run);
+        let _ = self.decoder.push_clear(run);
         None
     }
 
@@ -204,14 +207,16 @@ impl<D: Decoding> Reception<D> {
     fn take_one(&mut self, byte: &[u8]) -> Taken<usize>
         requires one { length byte.now ≡ 1 }
         requires other { slice_index byte.now 0 ≢ (D.inside self.old.decoder).sentinel }
-        ensures brings { (limit s : ℕ) (b : Begun) → IsAt D.inside limit s self.old b
-            → Brings limit s b byte.now (front_of (buffer_in D.inside self.new)) result
-            (IsAt D.inside limit s self.new) }
+        ensures at { (limit s : ℕ) (b : Begun) → IsAt D.inside limit s self.old b
+            → IsAt D.inside limit s self.new (course_of limit s b byte.now).begun }
+        ensures taken { (limit s : ℕ) (b : Begun) → IsAt D.inside limit s self.old b
+            → IsTaken limit (course_of limit s b byte.now)
+            (front_of (buffer_in D.inside self.new)) result }
         ensures within { IsWithin (length (buffer_in D.inside self.new)) result.found }
         ensures used { result.used ≡ 1 }
         ensures same { SameTerms D.inside self.old self.new }
     {
-        match self.take_run(byte) {
+        match self.take_run::<0>(byte) {
             Some(used) => {
                 let stretch = self.limit();
                 Taken {
@@ -243,9 +248,6 @@ impl<D: Decoding> Reception<D> {
         ensures same { SameTerms D.inside self.old self.new }
     {
         let sentinel = self.decoder.sentinel();
-        if bytes.len() == 1 && bytes[0] != sentinel {
-            return self.take_one(bytes);
-        }
         let between = self.is_between();
         if between {
             let idle = idle_bytes(bytes, sentinel);
@@ -266,7 +268,7 @@ impl<D: Decoding> Reception<D> {
                 found: self.take_whole(run),
             };
         }
-        match self.take_run(run) {
+        match self.take_run::<1>(run) {
             Some(used) => {
                 return Taken {
                     used,
@@ -292,7 +294,8 @@ impl<D: Decoding> Reception<D> {
     }
 
     // Takes bytes of a chunk, up to the first that gives a result.
-    pub(crate) fn take(&mut self, piece: &[u8]) -> Taken<usize>
+    #[inline(always)]
+    fn take_many(&mut self, piece: &[u8]) -> Taken<usize>
         ensures at { (limit s : ℕ) (b : Begun) → IsAt D.inside limit s self.old b
             → IsAt D.inside limit s self.new (course_of limit s b piece.now).begun }
         ensures taken { (limit s : ℕ) (b : Begun) → IsAt D.inside limit s self.old b
@@ -328,6 +331,25 @@ impl<D: Decoding> Reception<D> {
             stretch: 0,
             found: Found::Nothing,
         }
+    }
+
+    // The same. A chunk of one byte makes no call, unless it is the sentinel.
+    #[inline(always)]
+    pub(crate) fn take(&mut self, piece: &[u8]) -> Taken<usize>
+        ensures at { (limit s : ℕ) (b : Begun) → IsAt D.inside limit s self.old b
+            → IsAt D.inside limit s self.new (course_of limit s b piece.now).begun }
+        ensures taken { (limit s : ℕ) (b : Begun) → IsAt D.inside limit s self.old b
+            → IsTaken limit (course_of limit s b piece.now)
+            (front_of (buffer_in D.inside self.new)) result }
+        ensures within { IsWithin (length (buffer_in D.inside self.new)) result.found }
+        ensures bound { result.used ≤ length piece.now }
+        ensures forward { 0 < length piece.now → 0 < result.used }
+        ensures same { SameTerms D.inside self.old self.new }
+    {
+        if piece.len() == 1 && piece[0] != self.decoder.sentinel() {
+            return self.take_one(piece);
+        }
+        self.take_many(piece)
     }
 
     // The same with the message of a frame, which is at the front of the buffer.

@@ -10,6 +10,9 @@ use Rattle.link.proofs.reception.Reception.take_next.Goals as goal
 pub take_whole-requires : goal.take_whole-requires
 take_whole-requires g c = (is_cut _ _ _ _ _ _ c.sentinel-sentinel.ensures c.before_sentinel-size.ensures.before c.split_at.ensures.front c.split_at.ensures.back).nonzero
 
+pub take_run-requires : goal.take_run-requires
+take_run-requires g c = (is_cut _ _ _ _ _ _ c.sentinel-sentinel.ensures c.before_sentinel-size.ensures.before c.split_at.ensures.front c.split_at.ensures.back).nonzero
+
 pub returns-then-size-limit-clause-brings : goal.returns-then-size-limit-clause-brings
 returns-then-size-limit-clause-brings g c limit s b i =
     let bytes = c.args.bytes.now in

@@ -1,4 +1,7 @@
 use Rattle.std.proofs.Common.{◌≡◌, ◌+◌, ◌-◌, ◌<◌, ◌≤◌, length, refl, ap, ◌∙◌, arith}
+use Rattle.cobs.specs.Frames.{part}
+use Rattle.cobs.specs.Sentinel.{masked}
+use Rattle.link.specs.Lemmas.MaskLaws.{masked_length}
 use Rattle.link.proofs.ReceivingLemmas.{kept_is, has_nothing, runs_over, has_run, nonzero_bytes}
 use Rattle.link.specs.Lemmas.RunLaws.{runs_on, runs_past}
 use Rattle.link.proofs.reception.Reception.take_run.Goals as goal
@@ -23,13 +26,17 @@ returns-then-run-left-clause-runs g c limit s b z i =
 pub returns-clause-runs : goal.returns-clause-runs
 returns-clause-runs g c limit s b z i =
     let k = kept_is limit s _ c.args.self.now.count c.args.self.now.past b c.if-self.false i.state in
+    let inside = g.D.Decoding.inside c.args.self.now.decoder in
+    let run = c.args.run.now in
     let own = c.limit.ensures ∙ k.2.room in
-    let near : length k.0 + length c.args.run.now ≤ limit = omega (arith, c.if-run-left.false, c.saturating_sub-left.ensures, k.2.counted, k.2.within, own) in
-    let count : c.args.self.now.count + length c.args.run.now ≤ limit = omega (arith, near, k.2.counted) in
-    runs_on limit s b k.0 c.args.run.now _ k.1 z near record {
+    let near : length k.0 + length run ≤ limit = omega (arith, c.if-run-left.false, c.saturating_sub-left.ensures, k.2.counted, k.2.within, own) in
+    let count : c.args.self.now.count + length run ≤ limit = omega (arith, near, k.2.counted) in
+    let room : length (masked inside.sentinel run) ≤ length inside.buffer - length (part k.0) = omega (arith, near, k.2.room, c.shorter.ensures k.0, masked_length inside.sentinel run) in
+    let t = c.push_clear.ensures.takes in
+    runs_on limit s b k.0 run _ k.1 z near record {
       sentinel_is = i.sentinel_is;
       state = (
         c.if-self.false,
-        has_run limit s _ _ _ k.0 c.args.run.now _ k.2 c.shorter.ensures z (nonzero_bytes s c.args.run.now k.2.byte z (λ n. (c.type_inv.run n).fits)) count c.push.ensures.takes c.push.ensures.sentinel,
+        has_run limit s _ _ _ k.0 run _ k.2 c.shorter.ensures z (nonzero_bytes s run k.2.byte z (λ n. (c.type_inv.run n).fits)) count (t.takes ((t.fits k.0 k.2.taken).1 room)) c.push_clear.ensures.sentinel,
       );
     }
