@@ -3,12 +3,10 @@ use Rattle.std.proofs.Common.{◌≡◌, ℕ, zero, suc, pred, ◌+◌, ◌<◌,
 use Rattle.std.proofs.lemmas.List.{length-take-le, take_at, take_all, take-append-le}
 use Rattle.std.proofs.Common.{append_assoc, ◌-◌, length-drop}
 use borrow.Rule.Slice.PartMut.{put_mid, post_of}
-use Rattle.postcard.proofs.MasksLemmas.{masked_length, masked_append, masked_take, xor_zero, zero_xor}
+use Rattle.postcard.proofs.MasksLemmas.{masked_length, masked_append, masked_take}
 use Rattle.std.specs.Prelude.{bit_xor}
-use Rattle.std.proofs.lemmas.Bool.{cases_lt, ne_eqb, eq-eqb, eqb-true, le-ltb}
+use Rattle.std.proofs.lemmas.Bool.{ne_eqb, le-ltb}
 use Rattle.std.specs.List.{AllByRecursion}
-use Rattle.std.specs.Option.{unwrap_or}
-use Rattle.memchr.specs.Find.{IsFirstByte, is_byte}
 use Rattle.cobs.specs.Frames.{Frame, spelled, block, part, part_from, missing}
 use Rattle.cobs.specs.InPlace.{stretch, in_place, overwritten}
 use Rattle.cobs.specs.FrameLaws.{HasOneMessage, EndsWithItsBlock, IsFrameAtBlockEnd}
@@ -134,31 +132,9 @@ stretch_stays : (s : List ℕ) → (stretch (stretch s) ≡ stretch s) × (take 
 stretch_stays [] = (refl, refl)
 stretch_stays (b ∷ s) = let i = stretch_stays s in stretch_cons b s i.0 i.1
 
--- where a search finds the first zero
+-- a byte before the first zero
 pub stretch_byte : (b : ℕ) (x : List ℕ) → (b ≡ 0 → ⊥) → stretch (b ∷ x) ≡ b ∷ stretch x
 stretch_byte b x n = rw (ne_eqb b 0 n) refl
-
-stretch_of_none : (s : ℕ) (bytes : List ℕ) → ((k : ℕ) → k < length bytes → get_or bytes k 0 ≡ s → ⊥) → length bytes ≡ length (stretch (masked s bytes))
-stretch_of_none s [] h = refl
-stretch_of_none s (b ∷ bytes) h =
-    ap suc (stretch_of_none s bytes (λ k l e. h (suc k) (omega (arith, l)) e)) ∙ sym (ap length (stretch_byte (bit_xor s b) (masked s bytes) (λ e. h 0 (omega arith) (xor_zero s b e))))
-
-stretch_of_first : (s : ℕ) (bytes : List ℕ) (k : ℕ) → k < length bytes → get_or bytes k 0 ≡ s → ((j : ℕ) → j < k → get_or bytes j 0 ≡ s → ⊥) → k ≡ length (stretch (masked s bytes))
-stretch_of_first s [] k l e h = absurd (omega (arith, l))
-stretch_of_first s (b ∷ bytes) zero l e h = rw (eq-eqb (bit_xor s b) 0 (zero_xor s b e)) refl
-stretch_of_first s (b ∷ bytes) (suc k) l e h =
-    ap suc (stretch_of_first s bytes k (omega (arith, l)) e (λ j m f. h (suc j) (omega (arith, m)) f)) ∙ sym (ap length (stretch_byte (bit_xor s b) (masked s bytes) (λ e. h 0 (omega arith) (xor_zero s b e))))
-
--- where a search ends, at the end of the bytes or at the first sentinel
-pub stops_there : (s : ℕ) (bytes : List ℕ) (k : ℕ) → k ≤ length bytes → (k < length bytes → get_or bytes k 0 ≡ s) → ((j : ℕ) → j < k → get_or bytes j 0 ≡ s → ⊥) → k ≡ length (stretch (masked s bytes))
-stops_there s bytes k l e h = elim (cases_lt k (length bytes)) [
-  | inl m ↦ stretch_of_first s bytes k m (e m) h
-  | inr m ↦ let q : k ≡ length bytes = omega (arith, l, m) in q ∙ stretch_of_none s bytes (λ j n f. h j (omega (arith, q, n)) f)
-]
-
-pub found_sentinel : (s : ℕ) (bytes : List ℕ) (r : Option ℕ) → IsFirstByte (is_byte s) bytes r → unwrap_or r (length bytes) ≡ length (stretch (masked s bytes))
-found_sentinel s bytes None h = stretch_of_none s bytes (λ k l e. h k (omega arith) l (eq-eqb (get_or bytes k 0) s e))
-found_sentinel s bytes (Some k) h = stretch_of_first s bytes k h.0.high (eqb-true (get_or bytes k 0) s h.1) (λ j l e. h.0.before j (omega arith) l (eq-eqb (get_or bytes j 0) s e))
 
 -- what is held, and the input before its first sentinel
 take_before : (s : List ℕ) (n : ℕ) → n ≡ length (stretch s) → take n s ≡ stretch s
