@@ -6,6 +6,8 @@ use crate::faults::Faults;
 use crate::marks::{is_almost_mark, is_almost_way, is_mark, way_of};
 use crate::words::{ALMOST, ALMOST_WAY};
 use std::alloc::{AllocError, Global};
+use unicode_ident::is_xid_continue;
+use unicode_normalization::to_nfc;
 
 /// What is said of a mark in what is skipped.
 const INSIDE_COMMENT: &str =
@@ -174,7 +176,7 @@ pub fn tokens_of<'a>(alloc: Global, file: &'a str, text: &'a str) -> Result<Read
 
 /// Whether a character can be in a word or a number.
 pub fn is_of_word(character: char) -> bool {
-    character.is_alphanumeric() || character == '_'
+    is_xid_continue(character)
 }
 
 /// Whether a word is a lifetime.
@@ -388,10 +390,24 @@ impl<'a> Tokens<'a> {
             self.read_quoted();
         } else if word == "r" && hashes == 1 {
             let rest = behind(after, 1).trim_start_matches(is_of_word);
-            self.read_token(length_before(self.rest, rest));
+            self.read_name(length_before(self.rest, rest));
         } else {
-            self.read_token(length);
+            self.read_name(length);
         }
+    }
+
+    /// Takes so many bytes as a name. To Rust its letters are one name however their dots and accents are written.
+    fn read_name(&mut self, length: usize) {
+        let text = self.rest.get(..length).unwrap_or("");
+        if text.is_ascii() {
+            return self.read_token(length);
+        }
+        let Ok(name) = to_nfc(self.alloc, text) else {
+            return self.faults.note(true);
+        };
+        self.skip(length);
+        self.is_behind_code = true;
+        self.put(name.as_str(), self.line);
     }
 
     /// Reads a text, before whose `"` so many bytes stand.

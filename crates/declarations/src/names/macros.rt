@@ -3,7 +3,7 @@ use super::candidates::Step;
 use super::{Import, Scopes, What};
 use declaration_parser::attributes::{behind_first, first_word, name_at, plain_name};
 use declaration_parser::items::Item;
-use declaration_parser::tokens::{Token, Word, is_among};
+use declaration_parser::tokens::{Token, Word};
 
 /// The rules of a macro.
 #[derive(Clone, Copy, Drop)]
