@@ -179,9 +179,9 @@ pub fn is_of_word(character: char) -> bool {
     is_xid_continue(character)
 }
 
-/// Whether a word is a lifetime.
+/// Whether a word is a lifetime, and no character.
 pub fn is_lifetime(word: &str) -> bool {
-    word.starts_with('\'')
+    word.starts_with('\'') && !word.ends_with('\'')
 }
 
 /// Whether a token is a comment that marks a declaration.

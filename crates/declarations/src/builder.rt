@@ -1,5 +1,5 @@
 //! From declared types to the nodes of a table.
-ghost use Rattle.std.specs.Prelude.{◌≡◌, length, IfOk};
+ghost use Rattle.std.specs.Prelude.{◌≡◌, ◌≤◌, length, IfOk};
 
 mod containers;
 mod fields;
@@ -8,7 +8,7 @@ mod types;
 
 use crate::names::Scopes;
 use crate::read::Declared;
-use crate::{Error, Names, Schema};
+use crate::{Error, Named, Names, Schema};
 use declaration_parser::cursor::Cursor;
 use declaration_parser::declaration::Declaration;
 use declaration_parser::tokens::{Token, is_lifetime};
@@ -19,6 +19,9 @@ use std::collections::BTreeMap;
 /// How deep the words of one type may nest, as `Vec<Option<u8>>` nests three deep.
 const DEEPEST: u32 = 64;
 
+/// The place of a type that can't be read, which no table has.
+const NOWHERE: usize = usize::MAX;
+
 /// What is said of a name that is marked twice in one module.
 const TWICE: &str = "the file declares this name twice: leave out what isn't on the wire";
 
@@ -27,6 +30,8 @@ const TWICE: &str = "the file declares this name twice: leave out what isn't on 
 enum Given<'a> {
     Type(usize),
     Length(u64),
+    /// A value that no length can be.
+    Value,
     /// A name that stands for no type that is known, for this reason.
     Wrong(&'a str, &'a str),
 }
@@ -57,6 +62,8 @@ pub struct Builder<'a, 'b> {
     owed: Vec<(usize, usize)>,
     /// Those with parameters.
     instances: Vec<Made<'a>>,
+    /// Those that are refused by their own words, which is said once.
+    refused: BTreeMap<usize, ()>,
     /// What parameters stand for: those of the type that is made follow so many.
     bound: Vec<Bound<'a>>,
     scope: usize,
@@ -70,13 +77,14 @@ pub struct Builder<'a, 'b> {
     left: u32,
     /// The constant that can't be one of its numbers, and why; empty if there is none.
     doubt: (&'a str, &'a str),
-    /// The table: the nodes, and what their values are called by.
+    /// The table: the types that it is to begin with, the nodes, and what their values are called by.
+    types: Vec<Named>,
     nodes: Vec<Node>,
     called: Vec<Names>,
 }
 
 /// Whether a declaration has other parameters than lifetimes.
-pub fn has_type_parameters(it: &Declaration<'_>) -> bool {
+fn has_type_parameters(it: &Declaration<'_>) -> bool {
     for parameter in &it.parameters {
         if !is_lifetime(parameter) {
             return true;
@@ -95,6 +103,7 @@ impl<'a, 'b> Builder<'a, 'b> {
             places: BTreeMap::new(alloc),
             owed: Vec::new(alloc),
             instances: Vec::new(alloc),
+            refused: BTreeMap::new(alloc),
             bound: Vec::new(alloc),
             scope: 0,
             here: declared.asked,
@@ -102,6 +111,7 @@ impl<'a, 'b> Builder<'a, 'b> {
             words: Cursor::new(alloc, &[]),
             left: 0,
             doubt: ("", ""),
+            types: Vec::new(alloc),
             nodes: Vec::new(alloc),
             called: Vec::new(alloc),
         }
@@ -115,7 +125,7 @@ impl<'a, 'b> Builder<'a, 'b> {
     /// Notes what is wrong at the last word, unless something is already. The place is none of the table's.
     fn wrong(&mut self, pieces: &[&str]) -> usize {
         self.words.wrong(pieces);
-        0
+        NOWHERE
     }
 
     /// Notes why a word is wrong: what is said after it.
@@ -138,6 +148,11 @@ impl<'a, 'b> Builder<'a, 'b> {
         place
     }
 
+    /// Appends a node that is still to be made. Until then it is one that can't be read.
+    fn add_unmade(&mut self) -> usize {
+        self.add(Node::Option(NOWHERE), Names::Nothing)
+    }
+
     /// Puts a node at a place that the table has.
     fn put(&mut self, place: usize, node: Node, names: Names) {
         if let Some(old) = self.nodes.get_mut(place) {
@@ -156,12 +171,43 @@ impl<'a, 'b> Builder<'a, 'b> {
         }
     }
 
+    /// Begins the table with all declared types without parameters, in their order, and says what is wrong beside them: with the
+    /// files, and with the types that have parameters.
+    pub fn owe_all(&mut self) {
+        let declared = self.declared;
+        self.words.faults.put(declared.faults.as_str());
+        for (index, it) in declared.all.iter().enumerate() {
+            if has_type_parameters(it) {
+                self.is_refused(index, it);
+                continue;
+            }
+            self.owe_type(index);
+            match String::from_str(self.alloc, it.name) {
+                Ok(name) => self.words.push(&mut self.types, Named { name, line: it.line }),
+                Err(_) => self.words.faults.note(true),
+            }
+        }
+    }
+
+    /// Whether a declaration is refused by its own words, of which it says once what is wrong.
+    fn is_refused(&mut self, index: usize, it: &Declaration<'a>) -> bool {
+        if it.wrong.is_empty() {
+            return false;
+        }
+        match self.refused.insert(index, ()) {
+            Ok(None) => self.words.faults.put(it.wrong.as_str()),
+            Ok(Some(())) => {}
+            Err(_) => self.words.faults.note(true),
+        }
+        true
+    }
+
     /// The place of a declared type without parameters, which is made later.
-    pub fn owe_type(&mut self, index: usize) -> usize {
+    fn owe_type(&mut self, index: usize) -> usize {
         if let Some(place) = self.places.get(&index) {
             return *place;
         }
-        let place = self.add(Node::Bool, Names::Nothing);
+        let place = self.add_unmade();
         let failed = self.places.insert(index, place).is_err();
         self.words.faults.note(failed);
         self.words.push(&mut self.owed, (index, place));
@@ -171,8 +217,7 @@ impl<'a, 'b> Builder<'a, 'b> {
     /// Makes a declared type without parameters at its place, unless it can't be read.
     fn make(&mut self, index: usize, it: &Declaration<'a>, place: usize) {
         self.words.is_wrong = false;
-        if !it.wrong.is_empty() {
-            self.words.faults.put(it.wrong.as_str());
+        if self.is_refused(index, it) {
             return;
         }
         self.begin(index, it);
@@ -203,24 +248,26 @@ impl<'a, 'b> Builder<'a, 'b> {
         }
     }
 
-    /// The table with all types that are still to be made, or what is wrong, a line each. Each node has names.
-    pub fn finished(self) -> Result<Schema, Error>
-        ensures { IfOk result (λ s. length s.names.items ≡ length s.nodes.items) }
+    /// The table with all types that are still to be made, and what is wrong, a line each. Each node has names.
+    pub fn finished(self) -> Result<(Schema, String), Error>
+        ensures named { IfOk result (λ r. length r.0.names.items ≡ length r.0.nodes.items) }
+        ensures declared { IfOk result (λ r. length r.0.types.items ≤ length r.0.nodes.items) }
     {
         let mut builder = self;
         builder.make_owed();
-        let faults = builder.words.faults.finished()?;
-        if !faults.is_empty() {
-            return Err(Error::Wrong(faults));
-        }
+        let wrong = builder.words.faults.finished()?;
         // Each has a node and names, unless memory ran out.
         if builder.called.len() != builder.nodes.len() {
             return Err(Error::OutOfMemory);
         }
-        Ok(Schema {
-            types: Vec::new(builder.alloc),
+        if builder.types.len() > builder.nodes.len() {
+            return Err(Error::OutOfMemory);
+        }
+        let schema = Schema {
+            types: builder.types,
             nodes: builder.nodes,
             names: builder.called,
-        })
+        };
+        Ok((schema, wrong))
     }
 }

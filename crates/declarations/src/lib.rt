@@ -13,7 +13,5 @@ mod numbers;
 mod paths;
 mod read;
 
-pub use read::{
-    CheckedType, Error, Outcome, Source, check_sources, read_schema, read_sources, read_type,
-};
+pub use read::{Checked, Error, Source, check_sources, read_schema, read_sources, read_type};
 pub use schema_table::{Named, Names, Schema};

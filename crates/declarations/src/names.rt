@@ -14,6 +14,7 @@ use declaration_parser::declaration::Declaration;
 use declaration_parser::items::{Kind, Scope, Walk};
 use declaration_parser::tokens::{Read, Token, is_listed};
 use folders::module_of_file;
+use leads::Lead;
 use macros::{Call, Rules};
 pub use rule::{Found, Path};
 use std::alloc::{AllocError, Global};
@@ -61,6 +62,9 @@ struct Import<'a> {
     is_crate: bool,
     is_public: bool,
     is_conditional: bool,
+    /// Whether its first name is one of these files, and where it leads; one with `*` to what it brings in.
+    is_inside: bool,
+    lead: Lead<'a>,
 }
 
 /// Where a declaration is, and how many declarations are where it was found.
@@ -129,6 +133,8 @@ impl<'a> Scopes<'a> {
         };
         names.find_parents();
         names.read_items(&walk.items);
+        names.find_insides();
+        names.find_leads();
         for (index, it) in declared.iter().enumerate() {
             names.mark(index, it);
         }

@@ -1,13 +1,14 @@
 //! From files of declarations to a table.
 ghost use Rattle.std.specs.Prelude.{◌≡◌, ◌≤◌, ◌<◌, length, IfOk};
 
-use crate::builder::{Builder, has_type_parameters};
+use crate::Schema;
+use crate::builder::Builder;
 use crate::names::Scopes;
-use crate::{Named, Schema};
 use declaration_parser::declaration::Declaration;
 use declaration_parser::parser::Purpose;
 use declaration_parser::reading::declarations;
 use declaration_parser::tokens::{Read, tokens_of};
+use schema_table::Node;
 use std::alloc::{AllocError, Global};
 use std::collections::BTreeMap;
 use std::slice;
@@ -39,24 +40,15 @@ impl From<AllocError> for Error {
     }
 }
 
-/// A declared type, and whether it can be read.
+/// What files declare, and whether it can be read.
 #[derive(Drop)]
-pub struct CheckedType {
-    /// Its name.
-    pub name: String,
-    /// The line of its declaration, counted from 1.
-    pub line: usize,
-    /// Its table, or why it can't be read.
-    pub outcome: Outcome,
-}
-
-/// Whether a type can be read.
-#[derive(Drop)]
-pub enum Outcome {
-    /// Its table, and its place there.
-    Readable(Schema, usize),
-    /// Why not: lines like ``line 3: `Level` isn't declared``, each with its line feed.
-    Wrong(String),
+pub struct Checked {
+    /// One table of all types. It begins with those that are declared without parameters.
+    pub schema: Schema,
+    /// Of each node whether it can be read.
+    pub readable: Vec<bool>,
+    /// What is wrong: lines like ``line 3: `Level` isn't declared``, each with its line feed; empty if nothing is.
+    pub wrong: String,
 }
 
 /// What files declare.
@@ -69,7 +61,7 @@ pub struct Declared<'a> {
     /// Of each whether another of its name precedes it in its module.
     pub twice: Vec<bool>,
     /// What is wrong with the files, a line each.
-    faults: String,
+    pub faults: String,
 }
 
 impl<'a> Declared<'a> {
@@ -106,23 +98,13 @@ fn tokens_in(alloc: Global, sources: &[Source]) -> Result<Vec<Read>, AllocError>
     Ok(files)
 }
 
-/// Notes what is wrong with declarations themselves.
-fn refuse_wrong(declared: &Declared<'_>, faults: &mut String) -> Result<(), AllocError> {
-    faults.push_str(declared.faults.as_str())?;
-    for it in &declared.all {
-        faults.push_str(it.wrong.as_str())?;
-    }
-    Ok(())
-}
-
 /// Returns one table of the marked declarations of a text: those after a line `// message`, or with `Serialize` or
 /// `Deserialize` among their derives.
 ///
 /// A type may hold itself, and others that are declared before or after it.
 ///
 /// # Errors
-/// - `Wrong`: a line for each thing that can't be read, with its line in `text`: all that is wrong with the
-///   declarations themselves, or else with the types of fields.
+/// - `Wrong`: a line for each thing that can't be read, with its line in `text`.
 /// - `OutOfMemory`.
 pub fn read_schema(alloc: Global, text: &str) -> Result<Schema, Error>
     ensures named { IfOk result (λ s. length s.names.items ≡ length s.nodes.items) }
@@ -144,42 +126,30 @@ pub fn read_sources(alloc: Global, sources: &[Source]) -> Result<Schema, Error>
     read_all(alloc, &files)
 }
 
-/// The table of all declared types without parameters, in their order.
+/// The table of all declared types without parameters, in their order, if nothing is wrong.
 fn read_all(alloc: Global, files: &[Read]) -> Result<Schema, Error>
     ensures named { IfOk result (λ s. length s.names.items ≡ length s.nodes.items) }
     ensures declared { IfOk result (λ s. length s.types.items ≤ length s.nodes.items) }
 {
-    let mut faults = String::new(alloc);
+    let (schema, wrong) = table_of(alloc, files)?;
+    if !wrong.is_empty() {
+        return Err(Error::Wrong(wrong));
+    }
+    Ok(schema)
+}
+
+/// The same table, and what is wrong.
+fn table_of(alloc: Global, files: &[Read]) -> Result<(Schema, String), Error>
+    ensures named { IfOk result (λ r. length r.0.names.items ≡ length r.0.nodes.items) }
+    ensures declared { IfOk result (λ r. length r.0.types.items ≤ length r.0.nodes.items) }
+{
     if files.is_empty() {
-        faults.push_str(NO_FILE)?;
-        return Err(Error::Wrong(faults));
+        return Err(Error::Wrong(String::from_str(alloc, NO_FILE)?));
     }
     let declared = Declared::new(alloc, files)?;
-    refuse_wrong(&declared, &mut faults)?;
-    if !faults.is_empty() {
-        return Err(Error::Wrong(faults));
-    }
     let mut builder = Builder::new(alloc, &declared);
-    let mut types = Vec::new(alloc);
-    for (index, it) in declared.all.iter().enumerate() {
-        if !has_type_parameters(it) {
-            builder.owe_type(index);
-            let name = String::from_str(alloc, it.name)?;
-            let line = it.line;
-            if types.push(Named { name, line }).is_err() {
-                return Err(Error::OutOfMemory);
-            }
-        }
-    }
-    let made = builder.finished()?;
-    if types.len() > made.nodes.len() {
-        return Err(Error::OutOfMemory);
-    }
-    Ok(Schema {
-        types,
-        nodes: made.nodes,
-        names: made.names,
-    })
+    builder.owe_all();
+    builder.finished()
 }
 
 /// Returns the table of a type, given by its words, and its place there.
@@ -200,61 +170,89 @@ pub fn read_type(alloc: Global, sources: &[Source], words: &str) -> Result<(Sche
     let declared = Declared::new(alloc, &files)?;
     let mut builder = Builder::new(alloc, &declared);
     let place = builder.make_asked(&read.tokens);
-    let schema = builder.finished()?;
+    let (schema, wrong) = builder.finished()?;
+    if !wrong.is_empty() {
+        return Err(Error::Wrong(wrong));
+    }
     if place >= schema.nodes.len() {
         return Err(Error::OutOfMemory);
     }
     Ok((schema, place))
 }
 
-/// What is wrong with files beside their types without parameters: with marks, texts and types with parameters.
-fn faults_beside(alloc: Global, declared: &Declared<'_>) -> Result<String, AllocError> {
-    let mut faults = String::from_str(alloc, declared.faults.as_str())?;
-    for it in &declared.all {
-        if has_type_parameters(it) {
-            faults.push_str(it.wrong.as_str())?;
-        }
+/// The places of the types in a node.
+fn parts_of(node: &Node) -> &[usize] {
+    match node {
+        Node::Struct(parts) | Node::Enum(parts) => parts,
+        Node::Option(inner)
+        | Node::List(inner)
+        | Node::ListUpTo(_, inner)
+        | Node::Array(_, inner) => slice::from_ref(inner),
+        _ => &[],
     }
-    Ok(faults)
 }
 
-/// Returns each declared type without parameters, with its table or why it can't be read; and what is wrong with
-/// marks, texts and types with parameters of the files, a line each.
-///
-/// # Errors
-/// - `Wrong`: nothing is declared.
-/// - `OutOfMemory`.
-pub fn check_sources(
-    alloc: Global,
-    sources: &[Source],
-) -> Result<(Vec<CheckedType>, String), Error> {
-    let files = tokens_in(alloc, sources)?;
-    let declared = Declared::new(alloc, &files)?;
-    let faults = faults_beside(alloc, &declared)?;
-    let mut types = Vec::new(alloc);
-    for (index, it) in declared.all.iter().enumerate() {
-        if !has_type_parameters(it) {
-            let mut builder = Builder::new(alloc, &declared);
-            let place = builder.owe_type(index);
-            let outcome = match builder.finished() {
-                Ok(schema) => Outcome::Readable(schema, place),
-                Err(Error::Wrong(lines)) => Outcome::Wrong(lines),
-                Err(Error::OutOfMemory) => return Err(Error::OutOfMemory),
-            };
-            let name = String::from_str(alloc, it.name)?;
-            let line = it.line;
-            let one = CheckedType {
-                name,
-                line,
-                outcome,
-            };
-            if types.push(one).is_err() {
-                return Err(Error::OutOfMemory);
-            }
+/// Whether all these places are of nodes that can be read.
+fn are_readable(readable: &[bool], places: &[usize]) -> bool {
+    for place in places {
+        if !readable.get(*place).copied().unwrap_or(false) {
+            return false;
         }
     }
-    if declared.all.is_empty() {
-        return Err(Error::Wrong(declared.faults));
+    true
+}
+
+/// Notes that nodes can't be read whose types can't be, from the last node to the first and back; and whether there were some.
+fn find_unreadable(nodes: &[Node], readable: &mut [bool]) -> bool {
+    let mut found = false;
+    let count = nodes.len();
+    for step in 0..count.saturating_mul(2) {
+        let place = count.saturating_sub(step.saturating_add(1)).max(step.saturating_sub(count));
+        let is_right = match nodes.get(place) {
+            Some(node) => are_readable(readable, parts_of(node)),
+            None => true,
+        };
+        if let Some(it) = readable.get_mut(place)
+            && *it
+            && !is_right
+        {
+            *it = false;
+            found = true;
+        }
     }
-    Ok((types, faults))
+    found
+}
+
+/// Of each node whether it can be read: whether the table has the places of all types in it.
+fn readable_of(alloc: Global, nodes: &[Node]) -> Result<Vec<bool>, AllocError> {
+    let mut readable = Vec::new(alloc);
+    for _ in 0..nodes.len() {
+        readable.push(true)?;
+    }
+    for _ in 0..nodes.len() {
+        if !find_unreadable(nodes, &mut readable) {
+            break;
+        }
+    }
+    Ok(readable)
+}
+
+/// Returns the table of all declared types without parameters, which of them can be read, and what is wrong with the others and
+/// with the files, a line each.
+///
+/// # Errors
+/// - `Wrong`: no file is given.
+/// - `OutOfMemory`.
+pub fn check_sources(alloc: Global, sources: &[Source]) -> Result<Checked, Error>
+    ensures named { IfOk result (λ c. length c.schema.names.items ≡ length c.schema.nodes.items) }
+    ensures declared { IfOk result (λ c. length c.schema.types.items ≤ length c.schema.nodes.items) }
+{
+    let files = tokens_in(alloc, sources)?;
+    let (schema, wrong) = table_of(alloc, &files)?;
+    let readable = readable_of(alloc, &schema.nodes)?;
+    Ok(Checked {
+        schema,
+        readable,
+        wrong,
+    })
 }

@@ -20,10 +20,10 @@ use crate::about::ABOUT;
 use crate::devices::say;
 use crate::failure::{Failure, WRITE_FAULT, wrong};
 use crate::reading::read;
-use crate::types::{say_type, schema_of, type_of, types_of};
+use crate::types::{checked_of, say_type, schema_of, type_of};
 use crate::watching::watch;
 use crate::writing::write;
-use declarations::Schema;
+use declarations::{Checked, Schema};
 use help::answer;
 use std::alloc::{AllocError, Global};
 use std::env;
@@ -32,7 +32,7 @@ use std::process::ExitCode;
 use wire_lib::receive::Reading;
 use wire_lib::send::Sending;
 use wire_lib::shown::has_variant;
-use wire_lib::sizes::bound_lists;
+use wire_lib::sizes::{bound_lists, greatest_sizes};
 use wire_lib::summed::add_summed;
 use wire_lib::table_json::table_json;
 use wire_lib::words::{Action, Options, options_of};
@@ -48,9 +48,16 @@ const USAGE: &str =
 
 /// Lists the types of files, and reports why some can't be read.
 fn list_types(rt: &HostRuntime, files: &str) -> Ran {
-    let (types, mut wrong) = types_of(rt, files)?;
-    for it in &types {
-        say_type(rt, it, &mut wrong)?;
+    let Checked {
+        schema,
+        readable,
+        wrong,
+    } = checked_of(rt, files)?;
+    let sizes = greatest_sizes(rt.alloc(), &schema.nodes)?;
+    for (place, it) in schema.types.iter().enumerate() {
+        let is_readable = readable.get(place).copied().unwrap_or(false);
+        let size = sizes.get(place).copied().unwrap_or(None);
+        say_type(rt, it.name.as_str(), is_readable, size)?;
     }
     if wrong.is_empty() {
         return Ok(true);

@@ -1,6 +1,7 @@
 //! The files of declarations that FILES names: one, several separated by commas, and all in folders.
 use crate::failure::{Failure, no_file};
 use declarations::Source;
+use std::collections::BTreeMap;
 use std::fs;
 use std::io::{self, ErrorKind};
 use std::path::AsPath;
@@ -12,6 +13,14 @@ const ENDING: &str = ".rs";
 fn is_folder(rt: &HostRuntime, path: &str) -> bool {
     match fs::metadata(rt, path) {
         Ok(metadata) => metadata.is_dir(),
+        Err(_) => false,
+    }
+}
+
+/// Whether a path names what has no end of its own, as a pipe or a device; a file that can't be looked at is read, and says why.
+fn is_endless(rt: &HostRuntime, path: &str) -> bool {
+    match fs::metadata(rt, path) {
+        Ok(metadata) => !metadata.is_file(),
         Err(_) => false,
     }
 }
@@ -41,7 +50,7 @@ fn add_entries(
         }
         if matches!(entry.file_type(), Ok(kind) if kind.is_dir()) {
             folders.push(path)?;
-        } else if path.ends_with(ENDING) {
+        } else if path.ends_with(ENDING) && !is_endless(rt, path.as_str()) {
             files.push(path)?;
         }
     }
@@ -87,7 +96,7 @@ fn read(rt: &HostRuntime, file: String) -> Result<Source, Failure> {
     }
 }
 
-/// Returns the files that FILES names, in the order of their names. A path with a comma is first tried as one path.
+/// Returns the files that FILES names, in the order of their names, each once. A path with a comma is first tried as one path.
 pub fn sources_of(rt: &HostRuntime, word: &str) -> Result<Vec<Source>, Failure> {
     let mut files = Vec::new(rt.alloc());
     if fs::metadata(rt, word).is_ok() {
@@ -99,8 +108,14 @@ pub fn sources_of(rt: &HostRuntime, word: &str) -> Result<Vec<Source>, Failure> 
     }
     files.sort()?;
     let mut sources = Vec::new(rt.alloc());
+    let mut met = BTreeMap::new(rt.alloc());
     for file in files {
-        sources.push(read(rt, file)?)?;
+        let path = String::from_str(rt.alloc(), file.as_str().trim_start_matches("./"))?;
+        match met.insert(path, ()) {
+            Ok(None) => sources.push(read(rt, file)?)?,
+            Ok(Some(())) => {}
+            Err(_) => return Err(Failure::NoMemory),
+        }
     }
     Ok(sources)
 }

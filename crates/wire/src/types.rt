@@ -1,10 +1,7 @@
 //! The types that files declare.
 use crate::failure::{Failure, WRITE_FAULT};
 use crate::sources::sources_of;
-use declarations::{
-    CheckedType, Error, Outcome, Schema, Source, check_sources, read_sources, read_type,
-};
-use wire_lib::sizes::greatest_sizes;
+use declarations::{Checked, Error, Schema, Source, check_sources, read_sources, read_type};
 
 /// The failure for an error in declarations.
 fn failure_of(error: Error) -> Failure {
@@ -56,32 +53,26 @@ pub fn type_of(rt: &HostRuntime, files: &str, words: &str) -> Result<(Schema, us
     }
 }
 
-/// Returns the declared types of these files, and what is wrong with the files themselves.
-pub fn types_of(rt: &HostRuntime, files: &str) -> Result<(Vec<CheckedType>, String), Failure> {
+/// Returns what these files declare.
+pub fn checked_of(rt: &HostRuntime, files: &str) -> Result<Checked, Failure> {
     let sources = sources_of(rt, files)?;
     match check_sources(rt.alloc(), &sources) {
-        Ok(types) => Ok(types),
+        Ok(checked) => Ok(checked),
         Err(error) => Err(failure_of(error)),
     }
 }
 
-/// Prints the maximum size of a declared type, or that it can't be read; appends the reason to `wrong`, each once.
-pub fn say_type(rt: &HostRuntime, it: &CheckedType, wrong: &mut String) -> Result<(), Failure> {
-    let name = it.name.as_str();
-    let said = match &it.outcome {
-        Outcome::Readable(schema, place) => {
-            let sizes = greatest_sizes(rt.alloc(), &schema.nodes)?;
-            match sizes.get(*place).copied().unwrap_or(None) {
-                Some(size) => println!(rt; "{name}: {size} bytes at most"),
-                None => println!(rt; "{name}: no greatest size"),
-            }
-        }
-        Outcome::Wrong(lines) => {
-            if !wrong.contains(lines.as_str()) {
-                wrong.push_str(lines.as_str())?;
-            }
-            println!(rt; "{name}: can't be read")
-        }
+/// Prints the maximum size of a declared type, or that it can't be read.
+pub fn say_type(
+    rt: &HostRuntime,
+    name: &str,
+    is_readable: bool,
+    size: Option<u64>,
+) -> Result<(), Failure> {
+    let said = match size {
+        _ if !is_readable => println!(rt; "{name}: can't be read"),
+        Some(size) => println!(rt; "{name}: {size} bytes at most"),
+        None => println!(rt; "{name}: no greatest size"),
     };
     if said.is_err() {
         return Err(WRITE_FAULT);

@@ -2,7 +2,7 @@
 ghost use Rattle.std.specs.Prelude.{◌≡◌, ◌∷◌, [], IfOk, IfSome};
 ghost use Rattle.declarations.specs.KnownNodes.{IsNodeOf};
 
-use super::Builder;
+use super::{Builder, NOWHERE};
 use crate::Names;
 use crate::known::{KnownForm, varint_type};
 use declaration_parser::attributes::up_to;
@@ -90,7 +90,7 @@ impl<'a> Builder<'a, '_> {
             self.wrong(&[NO_LENGTH]);
         }
         if self.words.is_wrong {
-            return 0;
+            return NOWHERE;
         }
         self.made_of(form, word, first, second, most, before)
     }

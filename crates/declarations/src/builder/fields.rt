@@ -1,5 +1,5 @@
 //! The nodes of declared types, by their fields and variants.
-use super::{Builder, DEEPEST};
+use super::{Builder, DEEPEST, NOWHERE};
 use crate::Names;
 use crate::known::varint_type;
 use declaration_parser::declaration::{Body, Declaration, Field, Fields, Form, Layout, VariantOf};
@@ -15,7 +15,7 @@ const NO_BUFFER: &str =
 const NO_ARRAY: &str = "`with` is of an array here: write the type that is on the wire";
 
 const OTHER_CRATE: &str =
-    "`with` names a module or a type of these files here: write the type that is on the wire";
+    "`with` names something of these files or of another crate here: write the type that is on the wire";
 
 /// What a path begins with that names a layout: each has to lead out of the files.
 fn roots_of(layout: Layout) -> &'static [&'static str] {
@@ -101,7 +101,10 @@ impl<'a> Builder<'a, '_> {
         }
         self.words.field = Some((field.place, field.name));
         let place = self.whole(field.of, depth);
-        if self.words.is_wrong || field.layout == Layout::Own {
+        if self.words.is_wrong {
+            return NOWHERE;
+        }
+        if field.layout == Layout::Own {
             return place;
         }
         if let [token, ..] = field.of {
@@ -112,8 +115,9 @@ impl<'a> Builder<'a, '_> {
 
     /// The place of a type whose bytes an attribute lays out otherwise.
     fn laid_out(&mut self, place: usize, layout: Layout) -> usize {
-        for root in roots_of(layout) {
-            if !self.names.is_foreign(self.here, root) {
+        let roots = roots_of(layout);
+        for root in roots {
+            if !self.names.is_foreign(self.here, root, roots) {
                 return self.wrong(&[OTHER_CRATE]);
             }
         }

@@ -136,10 +136,12 @@ impl<'a> Builder<'a, '_> {
         }
         let at = path_at(self.words.rest);
         self.words.rest = at.rest;
-        if at.path.is_empty()
-            && let Some(Given::Length(value)) = self.given(at.last)
-        {
-            return Some(Number { value, most });
+        if at.path.is_empty() {
+            match self.given(at.last) {
+                Some(Given::Length(value)) => return Some(Number { value, most }),
+                Some(Given::Value) => return None,
+                _ => {}
+            }
         }
         let of = at.path.before;
         if !at.path.is_empty() && is_primitive(of) && !self.names.has_module(of) {

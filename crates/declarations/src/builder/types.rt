@@ -1,14 +1,14 @@
 //! The places of types, by their words.
-use super::{Bound, Builder, Given, Made, has_type_parameters};
+use super::{Bound, Builder, Given, Made, NOWHERE, has_type_parameters};
 use crate::Names;
 use crate::known::{form_of, is_known, plain_node, sent_as};
 use crate::names::{Found, Space, What};
 use crate::near::put_nearest;
 use crate::paths::{PathAt, path_at};
-use declaration_parser::attributes::first_word;
+use declaration_parser::attributes::{first_word, group, up_to};
 use declaration_parser::declaration::Declaration;
 use declaration_parser::faults::Faults;
-use declaration_parser::tokens::{Token, is_among, is_lifetime};
+use declaration_parser::tokens::{Token, Word, is_among, is_lifetime};
 use schema_table::{IntegerType, Node};
 
 /// How many nodes a table has at most, which parameters could make many.
@@ -39,17 +39,35 @@ const TOO_DEEP: &str =
 
 const TOO_MANY: &str = "the types have more than 100000 parts: read them from fewer files";
 
+/// What types begin with whose values aren't sent, and what is said of them.
+const UNSENT: &[&str] = &["!", "*", "dyn", "extern", "fn", "for", "impl", "unsafe"];
+
+const CANNOT_BE_SENT: &str =
+    "` begins a type that postcard can't send: leave the field out, or write the type that is on the wire";
+
 const QUALIFIED: &str = "`<..>::` isn't followed here: write the type that it stands for";
 
 const ITSELF: &str =
     "`Self` isn't followed in a type with parameters: write its name and what they stand for";
+
+/// Whether the value of a parameter can be no length: it is true or false, a character, or below zero.
+fn is_no_length(words: &[Token]) -> bool {
+    match words {
+        [word] => {
+            let word = word.text.as_str();
+            word.starts_with('\'') || is_among(word, &["false", "true"])
+        }
+        [minus, _] => matches!(minus.word, Word::Dash),
+        _ => false,
+    }
+}
 
 impl<'a> Builder<'a, '_> {
     /// The place of the type at the start of the words, which are taken. It may nest in so many words.
     #[cycle(types)]
     pub(super) fn place(&mut self, depth: u32) -> usize {
         if self.words.is_wrong {
-            return 0;
+            return NOWHERE;
         }
         if depth == 0 {
             return self.wrong(&[TOO_DEEP]);
@@ -84,6 +102,9 @@ impl<'a> Builder<'a, '_> {
     fn named(&mut self, depth: u32) -> usize {
         let at = path_at(self.words.rest);
         let word = self.words.step();
+        if is_among(word, UNSENT) {
+            return self.refuse(word, CANNOT_BE_SENT);
+        }
         if at.last.is_empty() {
             return self.refuse(word, UNDECLARED);
         }
@@ -148,7 +169,7 @@ impl<'a> Builder<'a, '_> {
             Ok(paths) => self.wrong(&["`", word, TWO, paths.as_str()]),
             Err(_) => {
                 self.words.faults.note(true);
-                0
+                NOWHERE
             }
         }
     }
@@ -176,11 +197,11 @@ impl<'a> Builder<'a, '_> {
             None if is_among(word, &self.names.endpoints) => self.refuse(word, ENDPOINT),
             None if is_among(word, &self.names.handed) => self.refuse(word, HANDED),
             None => {
-                self.refuse(word, UNDECLARED);
+                let place = self.refuse(word, UNDECLARED);
                 if self.is_asked() {
                     put_nearest(&mut self.words.faults, &self.declared.all, word);
                 }
-                0
+                place
             }
         }
     }
@@ -238,7 +259,7 @@ impl<'a> Builder<'a, '_> {
                 }
             } else if is_given {
                 let given = if is_among(name, &it.lengths) {
-                    Given::Length(self.length(&[">", ","]))
+                    self.given_length()
                 } else {
                     self.argument(depth)
                 };
@@ -255,23 +276,55 @@ impl<'a> Builder<'a, '_> {
         bound
     }
 
+    /// What stands for a parameter that is a length, or another value, which no length can be.
+    fn given_length(&mut self) -> Given<'a> {
+        let ends = &[">", ","];
+        let (words, rest) = up_to(self.words.rest, ends);
+        let is_other = match group(words) {
+            Some((inside, _)) => is_no_length(inside),
+            None => is_no_length(words),
+        };
+        if is_other {
+            self.words.rest = rest;
+            return Given::Value;
+        }
+        Given::Length(self.length(ends))
+    }
+
     /// What stands for a parameter that is a type. A name that stands for none is wrong only if the parameter is sent.
     #[cycle(types)]
     fn argument(&mut self, depth: u32) -> Given<'a> {
         let at = path_at(self.words.rest);
-        let is_alone = at.path.is_empty() && is_among(first_word(at.rest), &[",", ">"]);
-        if is_alone && self.given(at.last).is_none() && at.last != "Self" {
-            let why = match self.found(&at) {
-                Found::Wrong(why) => why,
-                Found::Two => TWO,
-                _ => "",
-            };
-            if !why.is_empty() {
+        let is_alone = !at.last.is_empty() && is_among(first_word(at.rest), &[",", ">"]);
+        let given = if is_alone { self.unsent(&at) } else { None };
+        match given {
+            Some(given) => {
                 self.words.rest = at.rest;
-                return Given::Wrong(at.last, why);
+                given
             }
+            None => Given::Type(self.place(depth)),
         }
-        Given::Type(self.place(depth))
+    }
+
+    /// A name that stands for no type that is known, and why.
+    fn unsent(&self, at: &PathAt<'a>) -> Option<Given<'a>> {
+        let is_path = !at.path.is_empty();
+        if !is_path && at.last == "Self" {
+            return None;
+        }
+        if !is_path && let Some(given) = self.given(at.last) {
+            return match given {
+                Given::Wrong(..) => Some(given),
+                _ => None,
+            };
+        }
+        let why = match self.found(at) {
+            Found::Wrong(why) => why,
+            Found::Two => TWO,
+            Found::Outside | Found::Not if is_path => UNDECLARED,
+            _ => return None,
+        };
+        Some(Given::Wrong(at.last, why))
     }
 
     /// The place of a declared type, with what is in angle brackets after it.
@@ -279,7 +332,7 @@ impl<'a> Builder<'a, '_> {
     fn instance(&mut self, index: usize, depth: u32) -> usize {
         let declared = self.declared;
         let Some(it) = declared.all.get(index) else {
-            return 0;
+            return NOWHERE;
         };
         if !has_type_parameters(it) {
             self.lifetimes();
@@ -287,17 +340,16 @@ impl<'a> Builder<'a, '_> {
         }
         let of = self.arguments(it, depth);
         if self.words.is_wrong {
-            return 0;
+            return NOWHERE;
         }
         for made in &self.instances {
             if made.index == index && made.of.as_slice() == of.as_slice() {
                 return made.place;
             }
         }
-        if !it.wrong.is_empty() {
-            self.words.faults.put(it.wrong.as_str());
+        if self.is_refused(index, it) {
             self.words.is_wrong = true;
-            return 0;
+            return NOWHERE;
         }
         self.made(index, it, of, depth)
     }
@@ -311,7 +363,7 @@ impl<'a> Builder<'a, '_> {
         of: Vec<Bound<'a>>,
         depth: u32,
     ) -> usize {
-        let place = self.add(Node::Bool, Names::Nothing);
+        let place = self.add_unmade();
         let (scope, here, own) = (self.scope, self.here, self.index);
         let (name, variant, field) = (self.words.name, self.words.variant, self.words.field);
         self.scope = self.bound.len();

@@ -6,6 +6,7 @@ use super::candidates::{Only, Space, Step, is_called, is_within, only_of};
 use super::path::Path;
 use super::rule::{BROUGHT_IN, BY_MODULE, RENAMED};
 use super::{Import, Item, Kind, Scopes, is_known_crate};
+use declaration_parser::tokens::is_among;
 
 /// Where a path leads.
 #[derive(Clone, Copy, Drop)]
@@ -91,9 +92,11 @@ impl<'a> Scopes<'a> {
 
     /// Whether a module of a step has one of this name in it, under each condition.
     fn is_child_in(&self, step: Step<'a>, name: &str) -> bool {
-        for place in 0..self.scopes.len() {
-            let found = self.children(place, name);
-            if found.are_some && found.conditions == 0 && self.is_in(place, step) {
+        for it in &self.scopes {
+            let is_it = it.name == name
+                && matches!(it.kind, Kind::Module | Kind::Outline | Kind::Misnamed);
+            if is_it && self.is_in(it.outer, step) && self.children(it.outer, name).conditions == 0
+            {
                 return true;
             }
         }
@@ -153,7 +156,7 @@ impl<'a> Scopes<'a> {
     }
 
     /// Whether the first name of a `use` is a module's own, or a crate's of these files.
-    fn is_inside(&self, it: &Import<'a>) -> bool {
+    fn begins_inside(&self, it: &Import<'a>) -> bool {
         let root = it.path.first(it.last);
         let is_own = !it.path.is_absolute && self.is_rooted(self.module_of(it.scope), root);
         is_own || self.has_crate(root)
@@ -163,20 +166,60 @@ impl<'a> Scopes<'a> {
     fn is_brought(&self, name: &str) -> bool {
         for it in &self.imports {
             let is_it = (it.is_glob && it.is_public) || it.name == name;
-            if is_it && (!self.is_inside(it) || (!it.is_glob && it.last != name)) {
+            if is_it && (!it.is_inside || (!it.is_glob && it.last != name)) {
                 return true;
             }
         }
         false
     }
 
-    /// Where a `use` leads; one with `*` to what it brings in.
-    pub(super) fn lead_of(&self, it: &Import<'a>) -> Lead<'a> {
-        self.lead(self.module_of(it.scope), it.path, it.last)
+    /// Notes of each `use` whether its first name is one of these files.
+    pub(super) fn find_insides(&mut self) {
+        for place in 0..self.imports.len() {
+            let is_inside = match self.imports.get(place) {
+                Some(it) => self.begins_inside(it),
+                None => false,
+            };
+            if let Some(it) = self.imports.get_mut(place) {
+                it.is_inside = is_inside;
+            }
+        }
+    }
+
+    /// Notes where each `use` leads.
+    pub(super) fn find_leads(&mut self) {
+        for place in 0..self.imports.len() {
+            let lead = match self.imports.get(place) {
+                Some(it) => self.lead(self.module_of(it.scope), it.path, it.last),
+                None => Lead::Outside,
+            };
+            if let Some(it) = self.imports.get_mut(place) {
+                it.lead = lead;
+            }
+        }
+    }
+
+    /// Whether a module's crate calls itself by this name, and nothing else there may be called so.
+    fn is_own_crate(&self, module: usize, name: &str) -> bool {
+        let mut is_own = false;
+        for it in &self.imports {
+            if it.name == name && (it.scope == module || it.is_crate) {
+                is_own = it.is_crate && it.last == "self" && self.root_of(module) == Some(it.scope);
+                if !is_own {
+                    return false;
+                }
+            }
+        }
+        is_own && !self.is_rooted(module, name) && !(self.has_star(module) && self.has_module(name))
     }
 
     /// Where a path of a module leads.
     pub(super) fn lead(&self, module: usize, path: Path<'a>, last: &'a str) -> Lead<'a> {
+        let path = if !path.is_absolute && self.is_own_crate(module, path.root) {
+            path.from_crate()
+        } else {
+            path
+        };
         let root = path.first(last);
         let lead = if path.is_absolute {
             self.crate_lead(root)
@@ -207,7 +250,7 @@ impl<'a> Scopes<'a> {
 
     /// Where a name leads that a `use` brings in, as the first of a path: inside only if its module is there.
     fn import_lead(&self, it: &Import<'a>) -> Lead<'a> {
-        if !self.is_inside(it) {
+        if !it.is_inside {
             return self.crate_lead(it.path.first(it.last));
         }
         match self.place_lead(self.module_of(it.scope), it.path) {
@@ -413,11 +456,44 @@ impl<'a> Scopes<'a> {
         }
     }
 
-    /// Whether a first name leads out of the files.
-    pub fn is_foreign(&self, scope: usize, root: &'a str) -> bool {
+    /// Whether a body round a scope may have a module or a type of this name, or bring one in.
+    pub(super) fn is_of_body(&self, scope: usize, name: &str) -> bool {
+        if matches!(name, "crate" | "self" | "super") {
+            return false;
+        }
+        let mut at = scope;
+        for _ in 0..self.scopes.len() {
+            if !self.is_inner(at) {
+                break;
+            }
+            if self.has_star(at) || self.is_rooted(at, name) || self.brings(at, name) {
+                return true;
+            }
+            at = self.scope(at).outer;
+        }
+        false
+    }
+
+    /// Whether a scope has a `use` of this name.
+    fn brings(&self, scope: usize, name: &str) -> bool {
+        for it in &self.imports {
+            if it.scope == scope && it.name == name {
+                return true;
+            }
+        }
+        false
+    }
+
+    /// Whether a first name leads out of the files: to the crate of that name, or to what a `use` brings in from one of these.
+    pub fn is_foreign(&self, scope: usize, root: &'a str, crates: &[&str]) -> bool {
+        let module = self.module_of(scope);
         let mut path = Path::new();
         path.go(root);
-        let lead = self.lead(self.module_of(scope), path, "");
-        matches!(lead, Lead::Known | Lead::Outside)
+        let is_right = match self.import_of(module, root) {
+            Some(it) => it.last == root && is_among(it.path.first(root), crates),
+            None => true,
+        };
+        let lead = self.lead(module, path, "");
+        is_right && !self.is_of_body(scope, root) && matches!(lead, Lead::Known | Lead::Outside)
     }
 }

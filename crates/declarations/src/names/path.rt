@@ -47,6 +47,21 @@ impl<'a> Path<'a> {
         self.count = self.count.saturating_add(1);
     }
 
+    /// The same path, if its first name is that of the crate that it is in.
+    pub(super) fn from_crate(self) -> Path<'a> {
+        let (before, over) = match self.count {
+            1 => ("crate", self.over),
+            2 => (self.before, "crate"),
+            _ => (self.before, self.over),
+        };
+        Path {
+            root: "crate",
+            before,
+            over,
+            ..self
+        }
+    }
+
     /// The name that is brought in as this one: that of the module, if it is `self`.
     pub fn last_of(self, name: &'a str) -> &'a str {
         if name == "self" && self.count > 0 {

@@ -152,14 +152,14 @@ impl<'a> Scopes<'a> {
 
     /// Whether a `use` brings in what these files declare, by its own name.
     fn is_own(&self, it: &Import<'a>) -> bool {
-        it.last == it.name && matches!(self.lead_of(it), Lead::In(_))
+        it.last == it.name && matches!(it.lead, Lead::In(_))
     }
 
     /// Whether a known type is brought in by its own name, from a crate that no module hides.
     fn is_known_import(&self, it: &Import<'a>, space: Space) -> bool {
         space == Space::Types
             && it.path.is_known_as(it.name, it.last)
-            && matches!(self.lead_of(it), Lead::Known)
+            && matches!(it.lead, Lead::Known)
             && !self.is_at_times(it.scope, it.name, it.is_conditional)
     }
 
@@ -257,7 +257,7 @@ impl<'a> Scopes<'a> {
         if self.is_at_times(it.scope, name, it.is_conditional) {
             return Found::Wrong(AT_TIMES);
         }
-        match self.lead_of(it) {
+        match it.lead {
             Lead::Known if space == Space::Types && it.path.count > 0 => Found::Known(it.last),
             Lead::In(step) if it.last == name => self.by_path(step, name, space),
             Lead::In(_) => Found::Wrong(RENAMED),
@@ -369,7 +369,7 @@ impl<'a> Scopes<'a> {
         for it in &self.imports {
             if it.is_glob
                 && (it.is_public || self.is_in(it.scope, step))
-                && let Lead::In(there) = self.lead_of(it)
+                && let Lead::In(there) = it.lead
                 && self.is_in(included.scope, there)
             {
                 return true;
@@ -410,7 +410,7 @@ impl<'a> Scopes<'a> {
 
     /// Whether a `*` may bring in another than was found. A known crate has no other of a known name.
     fn may_bring(&self, it: &Import<'a>, found: &Found<'a>, name: &str, space: Space) -> bool {
-        match self.lead_of(it) {
+        match it.lead {
             Lead::In(_) => false,
             Lead::Type => space == Space::Constants,
             Lead::Known if matches!(found, Found::Known(_)) => false,
@@ -429,7 +429,7 @@ impl<'a> Scopes<'a> {
         };
         for it in &self.imports {
             if it.is_glob && it.scope == scope {
-                match self.lead_of(it) {
+                match it.lead {
                     Lead::In(_) => stars.is_inside = true,
                     Lead::Known => stars.is_known = true,
                     Lead::Type if space != Space::Constants => {}
@@ -461,6 +461,9 @@ impl<'a> Scopes<'a> {
         ensures only { IsOnlyOfAStep self.now name.now space result }
     {
         let module = self.module_of(scope);
+        if !path.is_absolute && self.is_of_body(scope, path.root) {
+            return Found::Two;
+        }
         match self.lead(module, path, name) {
             Lead::Known => Found::Known(name),
             Lead::Outside | Lead::Type => Found::Outside,

@@ -1,4 +1,5 @@
 //! What `use` brings into a scope, name by name.
+use super::leads::Lead;
 use super::rule::Path;
 use super::{Import, Scopes, put};
 use declaration_parser::attributes::{first_word, front, plain_name};
@@ -30,6 +31,8 @@ impl<'a> Import<'a> {
             is_crate: false,
             is_public,
             is_conditional,
+            is_inside: false,
+            lead: Lead::Outside,
         }
     }
 
