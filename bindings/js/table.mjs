@@ -545,9 +545,9 @@ export class Table {
   }
   #putStruct(out, node, json, depth) {
     if (node.fields.length === 0 && json.members?.length !== 0) throw new Wrong("expected a struct without fields");
+    if (!json.members) throw new Wrong("expected an object with the fields");
     for (const { name, node: place } of node.fields) {
       inside(name, () => {
-        if (!json.members) throw new Wrong("expected an object with the fields");
         const found = json.members.find(([key]) => key === name);
         if (!found) throw new Wrong("a field is missing");
         this.#put(out, place, found[1], depth);
@@ -562,10 +562,8 @@ export class Table {
   }
   #putTuple(out, node, json, depth) {
     if (node.nodes.length === 0 && json.items?.length !== 0) throw new Wrong("expected a struct without fields");
-    node.nodes.forEach((place, i) => inside(`[${i}]`, () => {
-      if (json.items?.length !== node.nodes.length) throw new Wrong("expected an array with as many elements as the tuple has");
-      this.#put(out, place, json.items[i], depth);
-    }));
+    if (json.items?.length !== node.nodes.length) throw new Wrong("expected an array with as many elements as the tuple has");
+    node.nodes.forEach((place, i) => inside(`[${i}]`, () => this.#put(out, place, json.items[i], depth)));
   }
   #putVariant(out, node, json, depth) {
     const [name, held] = json.text !== undefined ? [json.text] : json.members?.length === 1 ? json.members[0] : [];

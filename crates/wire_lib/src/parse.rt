@@ -490,26 +490,34 @@ fn named<'a, 'b>(members: &'b [(&'a str, Json<'a>)], name: &str) -> Option<&'b J
     None
 }
 
-/// The JSON of field `i` of `count`.
+/// The JSON of field `i`.
 fn part<'a, 'b>(
     names: &Names,
-    count: usize,
     i: usize,
     json: &'b Json<'a>,
 ) -> Result<&'b Json<'a>, &'static str> {
     match (names, json) {
         (Names::Newtype, _) => Ok(json),
-        (Names::Tuple, Json::Array(elements)) if elements.len() == count => match elements.get(i) {
-            Some(held) => Ok(held),
-            None => Err(NO_TYPE),
-        },
-        (Names::Tuple, _) => Err("expected an array with as many elements as the tuple has"),
+        (Names::Tuple, Json::Array(elements)) => elements.get(i).ok_or(NO_TYPE),
         (Names::Fields(names), Json::Object(members)) => match names.get(i) {
             Some(name) => named(members, name.as_str()).ok_or("a field is missing"),
             None => Err(NO_TYPE),
         },
-        (Names::Fields(_), _) => Err("expected an object with the fields"),
         _ => Err(NO_TYPE),
+    }
+}
+
+/// Why this isn't the JSON of a struct of `count` fields, whatever these are.
+fn misfit(names: &Names, count: usize, json: &Json<'_>) -> Option<&'static str> {
+    match (names, json) {
+        (Names::Newtype, _) => None,
+        (Names::Unit | Names::Empty, Json::Null) => None,
+        (Names::Tuple, Json::Array(elements)) if elements.len() == count => None,
+        (Names::Fields(_), Json::Object(members)) if count > 0 || members.is_empty() => None,
+        _ if count == 0 => Some("expected a struct without fields"),
+        (Names::Tuple, _) => Some("expected an array with as many elements as the tuple has"),
+        (Names::Fields(_), _) => Some("expected an object with the fields"),
+        _ => Some(NO_TYPE),
     }
 }
 
@@ -577,16 +585,6 @@ fn check_members(alloc: Global, names: &Names, json: &Json<'_>) -> Result<(), Pa
     }
 }
 
-/// Whether this is the JSON of a struct without fields.
-fn is_right_without_fields(names: &Names, json: &Json<'_>) -> bool {
-    match (names, json) {
-        (Names::Unit | Names::Empty, Json::Null) => true,
-        (Names::Tuple, Json::Array(elements)) => elements.is_empty(),
-        (Names::Fields(_), Json::Object(members)) => members.is_empty(),
-        _ => false,
-    }
-}
-
 /// A struct or a tuple.
 #[cycle(parse)]
 fn group(
@@ -597,8 +595,8 @@ fn group(
     depth: u32,
     json: &Json<'_>,
 ) -> Parsed {
-    if fields.is_empty() && !is_right_without_fields(names, json) {
-        return Err(refusal("expected a struct without fields"));
+    if let Some(why) = misfit(names, fields.len(), json) {
+        return Err(refusal(why));
     }
     let mut items = Vec::new(alloc);
     for i in 0..fields.len() {
@@ -625,7 +623,7 @@ fn field(
     let Some(place) = fields.get(i) else {
         return Err(refusal(NO_TYPE));
     };
-    match part(names, fields.len(), i, json) {
+    match part(names, i, json) {
         Ok(held) => value(alloc, schema, *place, depth, held),
         Err(why) => Err(refusal(why)),
     }
@@ -792,10 +790,26 @@ fn json_of<'a>(
     }
 }
 
-/// The error for a text that isn't JSON from byte `offset` on.
-fn no_json(alloc: Global, text: &str, offset: usize) -> ParseError {
-    let before = text.get(..offset).unwrap_or(text).chars().count();
-    at_column(alloc, before.saturating_add(1))
+/// How many more brackets open than close in a text. Those in strings count too.
+fn open_brackets(text: &str) -> usize {
+    let mut open: usize = 0;
+    for it in text.chars() {
+        open = match it {
+            '[' | '{' => open.saturating_add(1),
+            ']' | '}' => open.saturating_sub(1),
+            _ => open,
+        };
+    }
+    open
+}
+
+/// The error for a text that isn't JSON from byte `offset` on, or nests too deeply there.
+fn no_json(alloc: Global, depth: u32, text: &str, offset: usize) -> ParseError {
+    let before = text.get(..offset).unwrap_or(text);
+    if open_brackets(before) >= json_depth(depth) {
+        return refusal(TOO_DEEP);
+    }
+    at_column(alloc, before.chars().count().saturating_add(1))
 }
 
 /// The value that a text contains, as the text says it.
@@ -804,7 +818,7 @@ fn value_of_text(alloc: Global, schema: &Schema, place: usize, depth: u32, text:
     let mut reader = Reader::new(text, &mut scratch)?;
     match json_of(alloc, depth, &mut reader) {
         Ok(Some(json)) => value_of_line(alloc, schema, place, depth, &json),
-        Ok(None) => Err(no_json(alloc, text, reader.offset())),
+        Ok(None) => Err(no_json(alloc, depth, text, reader.offset())),
         Err(error) => Err(error),
     }
 }
