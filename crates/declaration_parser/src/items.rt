@@ -14,7 +14,7 @@ const BODY: &[&str] = &["{", ";"];
 pub enum Kind {
     File,
     Module,
-    /// A module with a file of its own, at its name, and one whose file has another name.
+    /// A module with a file of its own, at its name, and one whose file has another name or is in another folder.
     Outline,
     Misnamed,
     /// Beside a module: that it stands under a condition.
@@ -77,9 +77,11 @@ pub struct Item<'a> {
 pub struct Walk<'a> {
     pub scopes: Vec<Scope<'a>>,
     pub items: Vec<Item<'a>>,
-    /// The scope that is gone over, and how many tokens are left behind the words of an item, in which there is no other.
+    /// The scope that is gone over, and how many tokens are left behind the words of an item, in which there is no other, and
+    /// behind the module whose files are in another folder.
     scope: usize,
     quiet: usize,
+    moved: usize,
     pub failed: bool,
 }
 
@@ -127,6 +129,7 @@ impl<'a> Walk<'a> {
             items: Vec::new(alloc),
             scope: 0,
             quiet: 0,
+            moved: usize::MAX,
             failed: false,
         }
     }
@@ -154,6 +157,7 @@ impl<'a> Walk<'a> {
     pub fn read_file(&mut self, file: usize, tokens: &'a [Token]) {
         self.scope = file;
         self.quiet = tokens.len();
+        self.moved = usize::MAX;
         let mut rest = tokens;
         for _ in 0..tokens.len() {
             if rest.is_empty() {
@@ -328,11 +332,15 @@ impl<'a> Walk<'a> {
         if item.has("cfg") {
             self.note(Kind::Conditional, name);
         }
-        if group(rest).is_some() {
+        let is_moved = rest.len() > self.moved;
+        if let Some((_, after)) = group(rest) {
+            if !is_moved && item.has("path") {
+                self.moved = after.len();
+            }
             self.open(Kind::Module, name, rest);
             return behind_first(rest);
         }
-        let kind = if item.has("path") {
+        let kind = if is_moved || item.has("path") {
             Kind::Misnamed
         } else {
             Kind::Outline

@@ -9,7 +9,7 @@ use crate::declaration::{Body, Declaration, Field, Fields, Form, VariantOf};
 use crate::faults::Faults;
 use crate::head::{Head, Marking};
 use crate::reading::first_mark;
-use crate::tokens::{Read, Token, Word, is_among, is_listed, is_name};
+use crate::tokens::{Read, Token, Word, is_among, is_lifetime, is_listed, is_name};
 use crate::words::{
     HIDDEN_MARK, MOST_FIELDS, OF_IMPLEMENTATIONS, OF_POSTCARD, ONLY_FIELD, TOO_MANY,
 };
@@ -97,13 +97,19 @@ impl<'a> Parser<'a> {
         begun.get(..length).unwrap_or(&[])
     }
 
-    /// Takes `pub`, with what it is limited to.
+    /// Takes `pub`, with what it is limited to. A type in parentheses may follow it too, as in `pub (crate::Id)`.
     fn visibility(&mut self) {
-        if self.at.take("pub")
-            && matches!(front(self.at.rest), Word::Paren)
-            && let Some((inside, behind)) = group(self.at.rest)
-            && is_among(first_word(inside), &["crate", "super", "self", "in"])
-        {
+        if !self.at.take("pub") || !matches!(front(self.at.rest), Word::Paren) {
+            return;
+        }
+        let Some((inside, behind)) = group(self.at.rest) else {
+            return;
+        };
+        let is_limit = match inside {
+            [only] => is_among(only.text.as_str(), &["crate", "super", "self"]),
+            _ => first_word(inside) == "in",
+        };
+        if is_limit {
             self.at.rest = behind;
         }
     }
@@ -290,10 +296,10 @@ impl<'a> Parser<'a> {
             return;
         }
         let is_length = self.at.take("const");
-        let name = if is_length {
-            self.word()
-        } else {
+        let name = if is_lifetime(self.at.peek()) {
             self.at.step()
+        } else {
+            self.name_of()
         };
         self.refuse_in_code(
             is_among(name, OF_IMPLEMENTATIONS),

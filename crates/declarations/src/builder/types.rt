@@ -150,6 +150,10 @@ impl<'a> Builder<'a, '_> {
         if at.path.is_empty() {
             return self.names.find(self.here, at.last, space);
         }
+        // what belongs to a parameter isn't known here
+        if !at.path.is_absolute && self.given(at.path.root).is_some() {
+            return Found::Outside;
+        }
         self.names.find_by_path(self.here, at.path, at.last, space)
     }
 

@@ -38,6 +38,12 @@ fn has_roots(folder: &str) -> bool {
     matches!(last_of(folder), "bin" | "examples" | "tests" | "benches")
 }
 
+/// Whether a folder is the `src` of a crate, or in it. Above a whole path it may have any name.
+fn is_in_src(folder: &str) -> bool {
+    let is_whole = folder.starts_with('/');
+    last_of(folder) == "src" || (!is_whole && (folder.starts_with("src/") || folder.contains("/src/")))
+}
+
 /// The module that a file is: by its name, or by its folder's.
 pub(super) fn module_of_file(file: &str) -> &str {
     let (folder, stem) = parts_of(file);
@@ -167,10 +173,12 @@ impl<'a> Scopes<'a> {
         is_root(stem)
     }
 
-    /// Whether a file has no module round it: it is the root of a crate, or alone.
+    /// Whether a file has no module round it: it is the root of a crate, or alone and not in its `src`.
     fn is_top_file(&self, file: usize) -> bool {
         let (folder, _) = parts_of(self.name_of_file(file));
-        self.is_root_file(file) || has_roots(folder) || self.files.len() == 1
+        self.is_root_file(file)
+            || has_roots(folder)
+            || (self.files.len() == 1 && !is_in_src(folder))
     }
 
     /// The root of a crate that a scope is in: the one whose modules lead to it, or else the only one above its folder.

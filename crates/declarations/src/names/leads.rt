@@ -113,10 +113,12 @@ impl<'a> Scopes<'a> {
         false
     }
 
-    /// Whether a file of its name isn't a module's, which an attribute says.
-    fn is_misnamed(&self, name: &str) -> bool {
+    /// Whether a path may lead through a module whose file hasn't its name, which an attribute says.
+    fn is_misnamed(&self, path: Path<'a>) -> bool {
         for it in &self.scopes {
-            if it.kind == Kind::Misnamed && it.name == name {
+            if it.kind == Kind::Misnamed
+                && (path.count > 3 || is_among(it.name, &[path.root, path.over, path.before]))
+            {
                 return true;
             }
         }
@@ -326,7 +328,7 @@ impl<'a> Scopes<'a> {
     fn named_lead(&self, module: usize, path: Path<'a>) -> Lead<'a> {
         let at = path.before;
         let is_first = path.count == 1 && !path.is_absolute;
-        if self.is_misnamed(at) {
+        if self.is_misnamed(path) {
             return Lead::Wrong(BROUGHT_IN);
         }
         let declared = match self.import_of(module, at) {

@@ -11,7 +11,7 @@ pub struct Path<'a> {
     pub(super) ups: usize,
     pub count: usize,
     /// Whether `::` precedes all of them.
-    pub(super) is_absolute: bool,
+    pub is_absolute: bool,
 }
 
 impl<'a> Path<'a> {
