@@ -1,4 +1,4 @@
-// A parameter's name, raw or with an attribute before it, and a path that begins with a parameter.
+// A parameter with a raw name is meant by its plain name too.
 pub struct T(u64);
 pub mod U {
     pub type Item = u8;

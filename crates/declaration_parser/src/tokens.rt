@@ -209,22 +209,12 @@ fn word_of(text: &str) -> Word {
 
 /// Whether a word is one of these.
 pub fn is_among(word: &str, words: &[&str]) -> bool {
-    for known in words {
-        if *known == word {
-            return true;
-        }
-    }
-    false
+    words.iter().any(|known| *known == word)
 }
 
 /// Whether a word is in a list, which has blanks between them.
 pub fn is_listed(word: &str, list: &str) -> bool {
-    for known in list.split_whitespace() {
-        if known == word {
-            return true;
-        }
-    }
-    false
+    list.split_whitespace().any(|known| known == word)
 }
 
 /// The first letter of a word.

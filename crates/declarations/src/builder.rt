@@ -85,12 +85,7 @@ pub struct Builder<'a, 'b> {
 
 /// Whether a declaration has other parameters than lifetimes.
 fn has_type_parameters(it: &Declaration<'_>) -> bool {
-    for parameter in &it.parameters {
-        if !is_lifetime(parameter) {
-            return true;
-        }
-    }
-    false
+    it.parameters.iter().any(|parameter| !is_lifetime(parameter))
 }
 
 impl<'a, 'b> Builder<'a, 'b> {

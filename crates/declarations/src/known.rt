@@ -133,12 +133,8 @@ pub fn plain_node(word: &str) -> Option<Node>
 
 /// The form of the known type of this name, if it holds others or a length.
 pub fn form_of(word: &str) -> Option<KnownForm> {
-    for (names, form) in ROWS {
-        if is_listed(word, names) {
-            return Some(*form);
-        }
-    }
-    None
+    let row = ROWS.iter().find(|row| is_listed(word, row.0))?;
+    Some(row.1)
 }
 
 /// Whether every file has this name.
@@ -158,12 +154,8 @@ pub fn is_known(word: &str) -> bool {
 
 /// As what a type is sent that isn't read, if that is known.
 pub fn sent_as(word: &str) -> Option<&'static str> {
-    for (names, sent) in SENT_AS {
-        if is_listed(word, names) {
-            return Some(*sent);
-        }
-    }
-    None
+    let row = SENT_AS.iter().find(|row| is_listed(word, row.0))?;
+    Some(row.1)
 }
 
 /// The integer type of a node that writes one as a varint.

@@ -23,12 +23,8 @@ pub struct Number {
 
 /// What a type of numbers has at most, and how many bits: 0 if devices differ.
 pub fn width_of(word: &str) -> Option<(u64, u64)> {
-    for (name, most, bits) in OF_NUMBERS {
-        if *name == word {
-            return Some((*most, *bits));
-        }
-    }
-    None
+    let row = OF_NUMBERS.iter().find(|row| row.0 == word)?;
+    Some((row.1, row.2))
 }
 
 impl Number {

@@ -194,12 +194,7 @@ fn parts_of(node: &Node) -> &[usize] {
 
 /// Whether all these places are of nodes that can be read.
 fn are_readable(readable: &[bool], places: &[usize]) -> bool {
-    for place in places {
-        if !readable.get(*place).copied().unwrap_or(false) {
-            return false;
-        }
-    }
-    true
+    !places.iter().any(|place| !readable.get(*place).copied().unwrap_or(false))
 }
 
 /// Notes that nodes can't be read whose types can't be, from the last node to the first and back; and whether there were some.

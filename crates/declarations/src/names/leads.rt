@@ -92,57 +92,39 @@ impl<'a> Scopes<'a> {
 
     /// Whether a module of a step has one of this name in it, under each condition.
     fn is_child_in(&self, step: Step<'a>, name: &str) -> bool {
-        for it in &self.scopes {
-            let is_it = it.name == name
-                && matches!(it.kind, Kind::Module | Kind::Outline | Kind::Misnamed);
-            if is_it && self.is_in(it.outer, step) && self.children(it.outer, name).conditions == 0
-            {
-                return true;
-            }
-        }
-        false
+        self.scopes.iter().any(|it| {
+            it.name == name
+                && matches!(it.kind, Kind::Module | Kind::Outline | Kind::Misnamed)
+                && self.is_in(it.outer, step)
+                && self.children(it.outer, name).conditions == 0
+        })
     }
 
     /// Whether these files have a module of this name, or a crate by its folder.
     pub fn has_module(&self, name: &str) -> bool {
-        for place in 0..self.scopes.len() {
-            if is_within(&self.scopes, Step::Module(name), place) {
-                return true;
-            }
-        }
-        false
+        (0..self.scopes.len()).any(|place| is_within(&self.scopes, Step::Module(name), place))
     }
 
     /// Whether a path may lead through a module whose file hasn't its name, which an attribute says.
     fn is_misnamed(&self, path: Path<'a>) -> bool {
-        for it in &self.scopes {
-            if it.kind == Kind::Misnamed
+        self.scopes.iter().any(|it| {
+            it.kind == Kind::Misnamed
                 && (path.count > 3 || is_among(it.name, &[path.root, path.over, path.before]))
-            {
-                return true;
-            }
-        }
-        false
+        })
     }
 
     /// Whether a crate of these files has this name.
     fn has_crate(&self, name: &str) -> bool {
-        for it in &self.scopes {
-            if it.kind == Kind::File && is_called(it.name, name) && self.is_root_file(it.file) {
-                return true;
-            }
-        }
-        false
+        self.scopes.iter().any(|it| {
+            it.kind == Kind::File && is_called(it.name, name) && self.is_root_file(it.file)
+        })
     }
 
     /// The import of a module or a crate by this name, if a module has it.
     fn import_of(&self, module: usize, name: &str) -> Option<&Import<'a>> {
-        for it in &self.imports {
-            if it.name == name && (it.scope == module || it.is_crate) {
-                return Some(it);
-            }
-        }
-        None
+        self.imports
+            .iter()
+            .find(|it| it.name == name && (it.scope == module || it.is_crate))
     }
 
     /// Whether a step has a type of this name.
@@ -166,13 +148,10 @@ impl<'a> Scopes<'a> {
 
     /// Whether a `use` may bring in a module of this name from outside.
     fn is_brought(&self, name: &str) -> bool {
-        for it in &self.imports {
+        self.imports.iter().any(|it| {
             let is_it = (it.is_glob && it.is_public) || it.name == name;
-            if is_it && (!it.is_inside || (!it.is_glob && it.last != name)) {
-                return true;
-            }
-        }
-        false
+            is_it && (!it.is_inside || (!it.is_glob && it.last != name))
+        })
     }
 
     /// Notes of each `use` whether its first name is one of these files.
@@ -277,18 +256,14 @@ impl<'a> Scopes<'a> {
 
     /// Whether a `*` of a module, under no condition, leads to one that has a module of this name in it.
     fn is_by_star(&self, module: usize, name: &str) -> bool {
-        for it in &self.imports {
-            if it.is_glob
+        self.imports.iter().any(|it| {
+            it.is_glob
                 && it.scope == module
                 && !it.is_conditional
                 && self.is_rooted(module, it.path.root)
-                && let Lead::In(step) = self.place_lead(module, it.path)
-                && self.is_child_in(step, name)
-            {
-                return true;
-            }
-        }
-        false
+                && matches!(self.place_lead(module, it.path), Lead::In(step)
+                    if self.is_child_in(step, name))
+        })
     }
 
     /// Where the name of a crate leads.
@@ -390,12 +365,9 @@ impl<'a> Scopes<'a> {
 
     /// Whether a `use` may make a module of this name one of another module.
     fn is_passed_on(&self, name: &str) -> bool {
-        for it in &self.imports {
-            if it.name == name || (it.is_glob && it.is_public) {
-                return true;
-            }
-        }
-        false
+        self.imports
+            .iter()
+            .any(|it| it.name == name || (it.is_glob && it.is_public))
     }
 
     /// The module that has the last one of a path in it, if no more than one other stands before that.
@@ -478,12 +450,7 @@ impl<'a> Scopes<'a> {
 
     /// Whether a scope has a `use` of this name.
     fn brings(&self, scope: usize, name: &str) -> bool {
-        for it in &self.imports {
-            if it.scope == scope && it.name == name {
-                return true;
-            }
-        }
-        false
+        self.imports.iter().any(|it| it.scope == scope && it.name == name)
     }
 
     /// Whether a first name leads out of the files: to the crate of that name, or to what a `use` brings in from one of these.

@@ -69,22 +69,11 @@ fn is_maker(rules: &[Token]) -> bool {
 
 /// Whether the rules of a macro have words of declarations, or call another one.
 fn may_declare(rules: &[Token]) -> bool {
-    for token in rules {
-        if matches!(
-            token.word,
-            Word::Struct
-                | Word::Enum
-                | Word::Union
-                | Word::Alias
-                | Word::Constant
-                | Word::Import
-                | Word::Module
-                | Word::Bang
-        ) {
-            return true;
-        }
-    }
-    false
+    rules.iter().any(|token| match token.word {
+        Word::Struct | Word::Enum | Word::Union | Word::Alias => true,
+        Word::Constant | Word::Import | Word::Module | Word::Bang => true,
+        _ => false,
+    })
 }
 
 /// Whether a macro of another crate is known to declare nothing.
@@ -94,12 +83,7 @@ fn is_check(name: &str) -> bool {
 
 /// Whether a name is among words.
 fn has_word(words: &[Token], name: &str) -> bool {
-    for token in words {
-        if plain_name(token.text.as_str()) == name {
-            return true;
-        }
-    }
-    false
+    words.iter().any(|token| plain_name(token.text.as_str()) == name)
 }
 
 impl<'a> Scopes<'a> {
@@ -171,21 +155,13 @@ impl<'a> Scopes<'a> {
 
     /// Whether a scope calls a macro of another crate, which may declare any name there.
     pub(super) fn is_by_macro(&self, scope: usize) -> bool {
-        for call in &self.calls {
-            if call.is_foreign && call.scope == scope {
-                return true;
-            }
-        }
-        false
+        self.calls.iter().any(|call| call.is_foreign && call.scope == scope)
     }
 
     /// Whether a name is handed to a macro in a step, which may declare it there.
     pub(super) fn is_handed(&self, step: Step<'a>, name: &str) -> bool {
-        for call in &self.calls {
-            if self.is_in(call.scope, step) && has_word(call.inside, name) {
-                return true;
-            }
-        }
-        false
+        self.calls
+            .iter()
+            .any(|call| self.is_in(call.scope, step) && has_word(call.inside, name))
     }
 }

@@ -351,31 +351,21 @@ impl<'a> Scopes<'a> {
 
     /// Whether a `*` in a step or round it, or one that passes on its names from elsewhere, may bring in another than was found.
     fn may_pass(&self, step: Step<'a>, found: &Found<'a>, name: &str, space: Space) -> bool {
-        for it in &self.imports {
-            let is_near = it.is_glob
-                && (it.is_public || self.is_seen(it.scope, step) || self.is_passed(it, step));
-            if is_near && self.may_bring(it, found, name, space) {
-                return true;
-            }
-        }
-        false
+        self.imports.iter().any(|it| {
+            it.is_glob
+                && (it.is_public || self.is_seen(it.scope, step) || self.is_passed(it, step))
+                && self.may_bring(it, found, name, space)
+        })
     }
 
     /// Whether a `*` leads to the module into which another file's words are brought.
     fn is_passed(&self, included: &Import<'a>, step: Step<'a>) -> bool {
-        if !included.is_included() {
-            return false;
-        }
-        for it in &self.imports {
-            if it.is_glob
-                && (it.is_public || self.is_in(it.scope, step))
-                && let Lead::In(there) = it.lead
-                && self.is_in(included.scope, there)
-            {
-                return true;
-            }
-        }
-        false
+        included.is_included()
+            && self.imports.iter().any(|it| {
+                it.is_glob
+                    && (it.is_public || self.is_in(it.scope, step))
+                    && matches!(it.lead, Lead::In(there) if self.is_in(included.scope, there))
+            })
     }
 
     /// Whether a scope is one of a step's, or round one of them.
@@ -384,28 +374,16 @@ impl<'a> Scopes<'a> {
             Step::Scope(own) => self.is_round(scope, own),
             // the scope of a file is at its place
             Step::File(file) => self.is_in(scope, step) || self.is_round(scope, file),
-            _ => self.is_round_some(scope, step),
+            _ => (0..self.scopes.len())
+                .any(|place| self.is_in(place, step) && self.is_round(scope, place)),
         }
-    }
-
-    /// Whether a scope is one of a step's, or round one of them, whichever it is.
-    fn is_round_some(&self, scope: usize, step: Step<'a>) -> bool {
-        for place in 0..self.scopes.len() {
-            if self.is_in(place, step) && self.is_round(scope, place) {
-                return true;
-            }
-        }
-        false
     }
 
     /// Whether a step has a `use` that may pass a name on.
     fn passes_on(&self, step: Step<'a>, name: &str) -> bool {
-        for it in &self.imports {
-            if (it.is_glob || it.name == name) && self.is_in(it.scope, step) {
-                return true;
-            }
-        }
-        false
+        self.imports
+            .iter()
+            .any(|it| (it.is_glob || it.name == name) && self.is_in(it.scope, step))
     }
 
     /// Whether a `*` may bring in another than was found. A known crate has no other of a known name.
@@ -442,12 +420,7 @@ impl<'a> Scopes<'a> {
 
     /// Whether a scope has a `*`.
     pub(super) fn has_star(&self, scope: usize) -> bool {
-        for it in &self.imports {
-            if it.is_glob && it.scope == scope {
-                return true;
-            }
-        }
-        false
+        self.imports.iter().any(|it| it.is_glob && it.scope == scope)
     }
 
     /// What the last name of a path stands for, which a scope uses.
@@ -489,12 +462,9 @@ impl<'a> Scopes<'a> {
 
     /// Whether another scope of a step has a `*`.
     fn has_star_beside(&self, step: Step<'a>, scope: usize) -> bool {
-        for it in &self.imports {
-            if it.is_glob && it.scope != scope && self.is_in(it.scope, step) {
-                return true;
-            }
-        }
-        false
+        self.imports
+            .iter()
+            .any(|it| it.is_glob && it.scope != scope && self.is_in(it.scope, step))
     }
 
     /// Appends the paths of what a name may stand for, each once.
