@@ -5,7 +5,7 @@ use crate::known::{form_of, is_known, plain_node, sent_as};
 use crate::names::{Found, Space, What};
 use crate::near::put_nearest;
 use crate::paths::{PathAt, path_at};
-use declaration_parser::attributes::{first_word, group, up_to};
+use declaration_parser::attributes::{first_word, group, type_up_to, up_to};
 use declaration_parser::declaration::Declaration;
 use declaration_parser::faults::Faults;
 use declaration_parser::tokens::{Token, Word, is_among, is_lifetime};
@@ -298,6 +298,12 @@ impl<'a> Builder<'a, '_> {
     /// What stands for a parameter that is a type. A name that stands for none is wrong only if the parameter is sent.
     #[cycle(types)]
     fn argument(&mut self, depth: u32) -> Given<'a> {
+        let word = self.words.peek();
+        if is_among(word, UNSENT) {
+            let (_, rest) = type_up_to(self.words.rest, &[",", ">"]);
+            self.words.rest = rest;
+            return Given::Wrong(word, CANNOT_BE_SENT);
+        }
         let at = path_at(self.words.rest);
         let is_alone = !at.last.is_empty() && is_among(first_word(at.rest), &[",", ">"]);
         let given = if is_alone { self.unsent(&at) } else { None };
