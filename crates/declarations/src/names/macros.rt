@@ -164,4 +164,13 @@ impl<'a> Scopes<'a> {
             .iter()
             .any(|call| self.is_in(call.scope, step) && has_word(call.inside, name))
     }
+
+    /// Whether another scope of a step calls a macro that may declare a name there.
+    pub(super) fn is_handed_beside(&self, step: Step<'a>, scope: usize, name: &str) -> bool {
+        self.calls.iter().any(|call| {
+            call.scope != scope
+                && self.is_in(call.scope, step)
+                && (call.is_foreign || has_word(call.inside, name))
+        })
+    }
 }

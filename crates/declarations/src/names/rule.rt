@@ -451,7 +451,9 @@ impl<'a> Scopes<'a> {
         ensures only { IsOnlyOfAStep self.now name.now space result }
     {
         match self.step(step, name, space) {
-            Found::In(_, there) if self.has_star_beside(step, there) => Found::Two,
+            Found::In(_, there)
+                if self.has_star_beside(step, there)
+                    || self.is_handed_beside(step, there, name) => Found::Two,
             Found::Not if self.is_handed(step, name) => Found::Wrong(HANDED),
             Found::Not if !self.passes_on(step, name) => Found::Wrong(NOT_THERE),
             Found::Not if self.may_pass(step, &Found::Not, name, space) => Found::Wrong(BY_STAR),
