@@ -193,17 +193,11 @@ pub fn is_comment_mark(token: &str) -> bool
 
 /// Which of the words that are compared a token is, by its text.
 fn word_of(text: &str) -> Word {
-    for (known, word) in WORDS {
-        if *known == text {
-            return *word;
-        }
-    }
-    if is_mark(text) {
-        Word::Mark
-    } else if text.starts_with("//") {
-        Word::Comment
-    } else {
-        Word::Other
+    match WORDS.iter().find(|row| row.0 == text) {
+        Some(row) => row.1,
+        None if is_mark(text) => Word::Mark,
+        None if text.starts_with("//") => Word::Comment,
+        None => Word::Other,
     }
 }
 

@@ -192,12 +192,10 @@ impl<'a> Parser<'a> {
 
     /// Refuses a word of serde's, with what to write.
     fn refuse_serde(&mut self, name: &str) {
-        for (known, why) in OF_SERDE {
-            if *known == name {
-                return self.at.refuse(name, why);
-            }
+        match OF_SERDE.iter().find(|row| row.0 == name) {
+            Some(row) => self.at.refuse(name, row.1),
+            None => self.at.refuse(name, UNKNOWN),
         }
-        self.at.refuse(name, UNKNOWN);
     }
 
     /// Refuses a transparent type that has more fields than the one that serde sends.
