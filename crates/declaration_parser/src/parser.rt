@@ -2,8 +2,9 @@
 pub mod by_hand;
 mod said;
 
-pub use crate::attributes::plain_name;
-use crate::attributes::{behind_attribute, first_word, front, group, type_up_to, up_to};
+use crate::attributes::{
+    behind_attribute, first_word, front, group, plain_name, type_up_to, up_to,
+};
 use crate::cursor::Cursor;
 use crate::declaration::{Body, Declaration, Field, Fields, Form, VariantOf};
 use crate::faults::Faults;
