@@ -449,7 +449,7 @@ impl<'a> Scopes<'a> {
     }
 
     /// Whether a scope has a `use` of this name.
-    fn brings(&self, scope: usize, name: &str) -> bool {
+    pub(super) fn brings(&self, scope: usize, name: &str) -> bool {
         self.imports.iter().any(|it| it.scope == scope && it.name == name)
     }
 

@@ -1,5 +1,5 @@
 //! What macros make, as far as their rules and calls say.
-use super::candidates::Step;
+use super::candidates::{Only, Space, Step};
 use super::{Import, Scopes, What};
 use declaration_parser::attributes::{behind_first, first_word, name_at, plain_name};
 use declaration_parser::items::Item;
@@ -163,6 +163,19 @@ impl<'a> Scopes<'a> {
         self.calls
             .iter()
             .any(|call| self.is_in(call.scope, step) && has_word(call.inside, name))
+    }
+
+    /// Whether a module that neither declares nor brings in a name hands it to a macro.
+    pub(super) fn is_handed_unknown(&self, name: &str, space: Space) -> bool {
+        self.calls.iter().any(|call| {
+            self.is_in(call.scope, Step::All)
+                && has_word(call.inside, name)
+                && !self.brings(call.scope, name)
+                && matches!(
+                    self.only(Step::Scope(call.scope), name, space),
+                    Only::Nothing
+                )
+        })
     }
 
     /// Whether another scope of a step calls a macro that may declare a name there.

@@ -316,6 +316,9 @@ impl<'a> Scopes<'a> {
         let near = if stars.is_inside { Step::All } else { file };
         let found = self.in_files(near, name, space);
         match found {
+            Found::In(_, there)
+                if stars.is_inside && self.may_be_made_there(module, there, name, space) =>
+                Found::Wrong(BY_STAR),
             Found::In(..) | Found::Known(_)
                 if stars.is_inside && self.may_pass(file, &found, name, space) => Found::Wrong(
                 BY_STAR,
@@ -323,6 +326,24 @@ impl<'a> Scopes<'a> {
             Found::In(..) if !stars.is_inside && self.is_by_macro(module) => Found::Wrong(BY_MACRO),
             found => found,
         }
+    }
+
+    /// Whether a macro may make the name that a `*` of a module brings in, in place of what was found: if no `*` leads there, or if
+    /// a module that doesn't have the name hands it to a macro.
+    fn may_be_made_there(&self, module: usize, there: usize, name: &str, space: Space) -> bool {
+        let mut is_passed = false;
+        for it in &self.imports {
+            if it.is_glob
+                && it.scope == module
+                && let Lead::In(step) = it.lead
+            {
+                if self.is_in(there, step) {
+                    return self.is_handed_beside(step, there, name);
+                }
+                is_passed = is_passed || self.passes_on(step, name);
+            }
+        }
+        !is_passed || self.is_handed_unknown(name, space)
     }
 
     /// What a name stands for by a step, or by all files, or if it is known.
