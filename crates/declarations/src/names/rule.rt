@@ -331,19 +331,16 @@ impl<'a> Scopes<'a> {
     /// Whether a macro may make the name that a `*` of a module brings in, in place of what was found: if no `*` leads there, or if
     /// a module that doesn't have the name hands it to a macro.
     fn may_be_made_there(&self, module: usize, there: usize, name: &str, space: Space) -> bool {
-        let mut is_passed = false;
         for it in &self.imports {
             if it.is_glob
                 && it.scope == module
                 && let Lead::In(step) = it.lead
+                && self.is_in(there, step)
             {
-                if self.is_in(there, step) {
-                    return self.is_handed_beside(step, there, name);
-                }
-                is_passed = is_passed || self.passes_on(step, name);
+                return self.is_handed_beside(step, there, name);
             }
         }
-        !is_passed || self.is_handed_unknown(name, space)
+        !self.is_reached(Step::Scope(module), there, name) || self.is_handed_unknown(name, space)
     }
 
     /// What a name stands for by a step, or by all files, or if it is known.
@@ -478,9 +475,31 @@ impl<'a> Scopes<'a> {
             Found::Not if self.is_handed(step, name) => Found::Wrong(HANDED),
             Found::Not if !self.passes_on(step, name) => Found::Wrong(NOT_THERE),
             Found::Not if self.may_pass(step, &Found::Not, name, space) => Found::Wrong(BY_STAR),
-            Found::Not => self.step(Step::All, name, space),
+            Found::Not => self.passed_on(step, name, space),
             found => found,
         }
+    }
+
+    /// What a step passes on under a name: the only candidate in all files, unless a macro may make the name in its place.
+    fn passed_on(&self, step: Step<'a>, name: &'a str, space: Space) -> Found<'a>
+        ensures only { IsOnlyOfAStep self.now name.now space result }
+    {
+        match self.step(Step::All, name, space) {
+            Found::In(_, there)
+                if !self.is_reached(step, there, name) || self.is_handed_unknown(name, space) =>
+                Found::Wrong(HANDED),
+            found => found,
+        }
+    }
+
+    /// Whether a `use` of a step may lead to a scope under a name, by one of these files or more.
+    fn is_reached(&self, step: Step<'a>, there: usize, name: &str) -> bool {
+        self.imports.iter().any(|it| {
+            (it.is_glob || it.name == name)
+                && self.is_in(it.scope, step)
+                && matches!(it.lead, Lead::In(next)
+                    if self.is_in(there, next) || self.passes_on(next, name))
+        })
     }
 
     /// Whether another scope of a step has a `*`.
