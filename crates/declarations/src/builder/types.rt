@@ -282,7 +282,7 @@ impl<'a> Builder<'a, '_> {
 
     /// What stands for a parameter that is a length, or another value, which no length can be.
     fn given_length(&mut self) -> Given<'a> {
-        let ends = &[">", ","];
+        let ends: &[&str] = &[">", ","];
         let (words, rest) = up_to(self.words.rest, ends);
         let is_other = match group(words) {
             Some((inside, _)) => is_no_length(inside),
