@@ -5,7 +5,7 @@ ghost use Rattle.declarations.specs.NameRule.{candidates_in};
 use super::candidates::{Only, Space, Step, is_called, is_within, only_of};
 use super::path::Path;
 use super::rule::{BROUGHT_IN, BY_MODULE, RENAMED};
-use super::{Import, Item, Kind, Scopes, is_known_crate};
+use super::{Import, Kind, Scopes, is_known_crate};
 use declaration_parser::tokens::is_among;
 
 /// Where a path leads.

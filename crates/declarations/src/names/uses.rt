@@ -2,7 +2,7 @@
 use super::leads::Lead;
 use super::rule::Path;
 use super::{Import, Scopes, put};
-use declaration_parser::attributes::{first_word, front, plain_name};
+use declaration_parser::attributes::{front, plain_name};
 use declaration_parser::tokens::{Token, Word};
 
 /// In place of a path, that another file's words are brought in.
