@@ -210,6 +210,9 @@ impl<'a> Scopes<'a> {
             }
             at = self.scope(at).outer;
             match self.own(at, name, space) {
+                Found::Not if !is_everywhere(name) && self.is_handed(Step::Scope(at), name) => {
+                    return Found::Wrong(HANDED);
+                }
                 Found::Not => {}
                 found => return found,
             }
