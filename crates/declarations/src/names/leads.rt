@@ -171,6 +171,8 @@ impl<'a> Scopes<'a> {
     pub(super) fn find_leads(&mut self) {
         for place in 0..self.imports.len() {
             let lead = match self.imports.get(place) {
+                Some(it) if !it.path.is_absolute && self.is_of_body(it.scope, it.path.root, place) =>
+                    Lead::Doubtful,
                 Some(it) => self.lead(self.module_of(it.scope), it.path, it.last),
                 None => Lead::Outside,
             };
@@ -430,8 +432,8 @@ impl<'a> Scopes<'a> {
         }
     }
 
-    /// Whether a body round a scope may have a module or a type of this name, or bring one in.
-    pub(super) fn is_of_body(&self, scope: usize, name: &str) -> bool {
+    /// Whether a body round a scope may have a module or a type of this name, or bring one in by another `use` than this one.
+    pub(super) fn is_of_body(&self, scope: usize, name: &str, own: usize) -> bool {
         if matches!(name, "crate" | "self" | "super") {
             return false;
         }
@@ -440,12 +442,19 @@ impl<'a> Scopes<'a> {
             if !self.is_inner(at) {
                 break;
             }
-            if self.has_star(at) || self.is_rooted(at, name) || self.brings(at, name) {
+            if self.is_rooted(at, name) || self.may_have(at, name, own) {
                 return true;
             }
             at = self.scope(at).outer;
         }
         false
+    }
+
+    /// Whether a scope has another `use` than this one that is of a name, or may be.
+    fn may_have(&self, scope: usize, name: &str, own: usize) -> bool {
+        self.imports.iter().enumerate().any(|(place, it)| {
+            place != own && it.scope == scope && (it.is_glob || it.name == name)
+        })
     }
 
     /// Whether a scope has a `use` of this name.
@@ -463,6 +472,8 @@ impl<'a> Scopes<'a> {
             None => true,
         };
         let lead = self.lead(module, path, "");
-        is_right && !self.is_of_body(scope, root) && matches!(lead, Lead::Known | Lead::Outside)
+        is_right
+            && !self.is_of_body(scope, root, usize::MAX)
+            && matches!(lead, Lead::Known | Lead::Outside)
     }
 }

@@ -455,7 +455,7 @@ impl<'a> Scopes<'a> {
         ensures only { IsOnlyOfAStep self.now name.now space result }
     {
         let module = self.module_of(scope);
-        if !path.is_absolute && self.is_of_body(scope, path.root) {
+        if !path.is_absolute && self.is_of_body(scope, path.root, usize::MAX) {
             return Found::Two;
         }
         match self.lead(module, path, name) {
