@@ -8,7 +8,7 @@ mod reading;
 mod rule;
 mod uses;
 
-use crate::known::KNOWN_CRATES;
+use crate::known::{KNOWN_CRATES, is_everywhere};
 pub use candidates::Space;
 use declaration_parser::declaration::Declaration;
 use declaration_parser::items::{Kind, Scope, Walk};
@@ -83,8 +83,11 @@ pub struct Scopes<'a> {
     items: Vec<Item<'a>>,
     imports: Vec<Import<'a>>,
     stands: Vec<Stand>,
-    /// All names that are declared, or brought in from what isn't known.
+    /// All names that are declared, or brought in from what isn't known; and all that a `use` or a module has.
     named: BTreeMap<&'a str, ()>,
+    used: BTreeMap<&'a str, ()>,
+    /// The places of modules in others, and of what stands beside them.
+    modules: Vec<usize>,
     /// The module that has each file, if one of these files has it.
     parents: Vec<Option<usize>>,
     /// The rules of macros, and calls that may declare something.
@@ -124,6 +127,8 @@ impl<'a> Scopes<'a> {
             imports: Vec::new(alloc),
             stands: Vec::new(alloc),
             named: BTreeMap::new(alloc),
+            used: BTreeMap::new(alloc),
+            modules: Vec::new(alloc),
             parents: Vec::new(alloc),
             rules: Vec::new(alloc),
             calls: Vec::new(alloc),
@@ -131,6 +136,7 @@ impl<'a> Scopes<'a> {
             endpoints: Vec::new(alloc),
             failed: walk.failed,
         };
+        names.find_modules();
         names.find_parents();
         names.read_items(&walk.items);
         names.find_insides();
@@ -142,6 +148,16 @@ impl<'a> Scopes<'a> {
             return Err(AllocError);
         }
         Ok(names)
+    }
+
+    /// Notes which scopes are modules in others, or stand beside such.
+    fn find_modules(&mut self) {
+        for (place, it) in self.scopes.iter().enumerate() {
+            if !matches!(it.kind, Kind::File | Kind::Body | Kind::Impl) {
+                self.failed = self.modules.push(place).is_err() || self.failed;
+                self.failed = put(&mut self.used, it.name) || self.failed;
+            }
+        }
     }
 
     /// The scope at a place; a file without a name if there is none.
@@ -217,6 +233,14 @@ impl<'a> Scopes<'a> {
         };
         self.failed = self.scopes.push(scope).is_err() || self.failed;
         place
+    }
+
+    /// Whether a module has a name that every file has by itself, since none gives it to anything else.
+    pub fn is_untouched(&self, scope: usize, name: &str) -> bool {
+        is_everywhere(name)
+            && !self.is_inner(scope)
+            && !self.has(name)
+            && !self.used.contains_key(name)
     }
 
     /// Whether a file declares a name, or brings it in from what isn't known.

@@ -148,6 +148,10 @@ impl<'a> Builder<'a, '_> {
     /// What a path stands for in the scope whose words are read.
     pub(super) fn found_in(&self, at: &PathAt<'a>, space: Space) -> Found<'a> {
         if at.path.is_empty() {
+            // most names are these, and needn't be looked for
+            if space == Space::Types && self.names.is_untouched(self.here, at.last) {
+                return Found::Known(at.last);
+            }
             return self.names.find(self.here, at.last, space);
         }
         // what belongs to a parameter isn't known here

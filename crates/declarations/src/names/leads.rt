@@ -72,7 +72,8 @@ impl<'a> Scopes<'a> {
             last: 0,
             conditions: 0,
         };
-        for (place, it) in self.scopes.iter().enumerate() {
+        for place in &self.modules {
+            let it = self.scope(*place);
             if it.outer != module || it.name != name {
                 continue;
             }
@@ -80,7 +81,7 @@ impl<'a> Scopes<'a> {
                 Kind::Module => {
                     found.are_some = true;
                     found.written = found.written.saturating_add(1);
-                    found.last = place;
+                    found.last = *place;
                 }
                 Kind::Outline | Kind::Misnamed => found.are_some = true,
                 Kind::Conditional => found.conditions = found.conditions.saturating_add(1),
@@ -92,9 +93,10 @@ impl<'a> Scopes<'a> {
 
     /// Whether a module of a step has one of this name in it, under each condition.
     fn is_child_in(&self, step: Step<'a>, name: &str) -> bool {
-        self.scopes.iter().any(|it| {
+        self.modules.iter().any(|place| {
+            let it = self.scope(*place);
             it.name == name
-                && matches!(it.kind, Kind::Module | Kind::Outline | Kind::Misnamed)
+                && it.kind != Kind::Conditional
                 && self.is_in(it.outer, step)
                 && self.children(it.outer, name).conditions == 0
         })
@@ -107,7 +109,8 @@ impl<'a> Scopes<'a> {
 
     /// Whether a path may lead through a module whose file hasn't its name, which an attribute says.
     fn is_misnamed(&self, path: Path<'a>) -> bool {
-        self.scopes.iter().any(|it| {
+        self.modules.iter().any(|place| {
+            let it = self.scope(*place);
             it.kind == Kind::Misnamed
                 && (path.count > 3 || is_among(it.name, &[path.root, path.over, path.before]))
         })
@@ -115,8 +118,9 @@ impl<'a> Scopes<'a> {
 
     /// Whether a crate of these files has this name.
     fn has_crate(&self, name: &str) -> bool {
-        self.scopes.iter().any(|it| {
-            it.kind == Kind::File && is_called(it.name, name) && self.is_root_file(it.file)
+        // the scope of a file is at its place
+        (0..self.files.len()).any(|file| {
+            is_called(self.scope(file).name, name) && self.is_root_file(file)
         })
     }
 

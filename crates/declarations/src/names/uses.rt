@@ -93,6 +93,7 @@ impl<'a> Scopes<'a> {
     /// Adds what is brought in.
     fn put_import(&mut self, import: Import<'a>) {
         self.failed = self.imports.push(import).is_err() || self.failed;
+        self.failed = put(&mut self.used, import.name) || self.failed;
         if !import.path.is_known_as(import.name, import.last) {
             self.failed = put(&mut self.named, import.name) || self.failed;
         }
