@@ -237,10 +237,12 @@ impl<'a> Scopes<'a> {
 
     /// Whether a module has a name that every file has by itself, since none gives it to anything else.
     pub fn is_untouched(&self, scope: usize, name: &str) -> bool {
-        is_everywhere(name)
-            && !self.is_inner(scope)
-            && !self.has(name)
-            && !self.used.contains_key(name)
+        is_everywhere(name) && !self.is_inner(scope) && !self.has(name) && !self.is_used(name)
+    }
+
+    /// Whether a `use` or a module in another one has a name.
+    fn is_used(&self, name: &str) -> bool {
+        self.used.contains_key(name)
     }
 
     /// Whether a file declares a name, or brings it in from what isn't known.

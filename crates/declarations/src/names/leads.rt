@@ -72,6 +72,9 @@ impl<'a> Scopes<'a> {
             last: 0,
             conditions: 0,
         };
+        if !self.is_used(name) {
+            return found;
+        }
         for place in &self.modules {
             let it = self.scope(*place);
             if it.outer != module || it.name != name {
@@ -126,6 +129,9 @@ impl<'a> Scopes<'a> {
 
     /// The import of a module or a crate by this name, if a module has it.
     fn import_of(&self, module: usize, name: &str) -> Option<&Import<'a>> {
+        if !self.is_used(name) {
+            return None;
+        }
         self.imports
             .iter()
             .find(|it| it.name == name && (it.scope == module || it.is_crate))
@@ -133,7 +139,7 @@ impl<'a> Scopes<'a> {
 
     /// Whether a step has a type of this name.
     pub(super) fn has_type(&self, step: Step<'a>, name: &str) -> bool {
-        !matches!(self.only(step, name, Space::Types), Only::Nothing)
+        self.has(name) && !matches!(self.only(step, name, Space::Types), Only::Nothing)
     }
 
     /// Whether the first name of a path is that of a module, or of what the module declares.
@@ -189,6 +195,9 @@ impl<'a> Scopes<'a> {
     /// Whether a module's crate calls itself by this name, and nothing else there may be called so.
     fn is_own_crate(&self, module: usize, name: &str) -> bool {
         let mut is_own = false;
+        if !self.is_used(name) {
+            return false;
+        }
         for it in &self.imports {
             if it.name == name && (it.scope == module || it.is_crate) {
                 is_own = it.is_crate && it.last == "self" && self.root_of(module) == Some(it.scope);

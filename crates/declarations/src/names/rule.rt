@@ -134,6 +134,9 @@ impl<'a> Scopes<'a> {
     /// What a `use` brings into a step under a name. Of files, what they declare by that name says nothing.
     fn brought(&self, step: Step<'a>, name: &'a str, space: Space) -> Brought {
         let mut brought = Brought::Nothing;
+        if !self.is_used(name) {
+            return brought;
+        }
         let is_wide = matches!(step, Step::File(_) | Step::All);
         for (index, it) in self.imports.iter().enumerate() {
             let is_it = !it.is_glob && it.name == name && self.is_in(it.scope, step);
