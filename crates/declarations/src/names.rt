@@ -86,8 +86,9 @@ pub struct Scopes<'a> {
     /// All names that are declared, or brought in from what isn't known; and all that a `use` or a module has.
     named: BTreeMap<&'a str, ()>,
     used: BTreeMap<&'a str, ()>,
-    /// The places of modules in others, and of what stands beside them.
+    /// The places of modules in others and of what stands beside them, and of those whose file has another name.
     modules: Vec<usize>,
+    misnamed: Vec<usize>,
     /// The module that has each file, if one of these files has it.
     parents: Vec<Option<usize>>,
     /// The rules of macros, and calls that may declare something.
@@ -129,6 +130,7 @@ impl<'a> Scopes<'a> {
             named: BTreeMap::new(alloc),
             used: BTreeMap::new(alloc),
             modules: Vec::new(alloc),
+            misnamed: Vec::new(alloc),
             parents: Vec::new(alloc),
             rules: Vec::new(alloc),
             calls: Vec::new(alloc),
@@ -156,6 +158,9 @@ impl<'a> Scopes<'a> {
             if !matches!(it.kind, Kind::File | Kind::Body | Kind::Impl) {
                 self.failed = self.modules.push(place).is_err() || self.failed;
                 self.failed = put(&mut self.used, it.name) || self.failed;
+            }
+            if it.kind == Kind::Misnamed {
+                self.failed = self.misnamed.push(place).is_err() || self.failed;
             }
         }
     }
@@ -190,8 +195,8 @@ impl<'a> Scopes<'a> {
     /// Whether the item at a place is what a declaration says.
     fn is_declared(&self, place: usize, it: &Declaration<'a>) -> bool {
         match self.items.get(place) {
-            Some(item) => item.name == it.name
-                && item.line == it.line
+            Some(item) => item.line == it.line
+                && item.name == it.name
                 && matches!(item.what, What::Unmarked)
                 && self.file_of(item.scope) == it.file.file.as_str(),
             None => false,

@@ -112,10 +112,9 @@ impl<'a> Scopes<'a> {
 
     /// Whether a path may lead through a module whose file hasn't its name, which an attribute says.
     fn is_misnamed(&self, path: Path<'a>) -> bool {
-        self.modules.iter().any(|place| {
-            let it = self.scope(*place);
-            it.kind == Kind::Misnamed
-                && (path.count > 3 || is_among(it.name, &[path.root, path.over, path.before]))
+        self.misnamed.iter().any(|place| {
+            let name = self.scope(*place).name;
+            path.count > 3 || is_among(name, &[path.root, path.over, path.before])
         })
     }
 
