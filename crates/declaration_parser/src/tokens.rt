@@ -100,7 +100,7 @@ pub enum Word {
 
 /// A word, a lifetime, a number, a text, a character or a mark, and the line where it begins. A comment `// message` is one
 /// token, and so is one that is almost that, if a declaration may follow it. One that says how a field is sent is the tokens of
-/// an attribute. A text is between `"`, whatever it was written between.
+/// an attribute. A text is between `"`, whatever it was written between. A name is in Unicode's form NFC, as Rust compares names.
 #[derive(Drop)]
 pub struct Token {
     pub text: String,
