@@ -19,6 +19,7 @@ export class Unread extends Error {
 
 const GREATEST_DEPTH = 1000;
 const INTEGER = /^([ui])(8|16|32|64|128)$/;
+const PARTS = new Map([["option", "node"], ["list", "node"], ["map", "node"], ["array", "node"], ["newtype", "node"], ["struct", "fields"], ["tuple", "nodes"]]);
 const NO_PARTS = new Set(["bool", "char", "bytes", "text", "f32", "f64", "unit", "empty", "fixed"]);
 const UTF8 = new TextDecoder("utf-8", { fatal: true, ignoreBOM: true });
 const TEXT = new TextEncoder();
@@ -255,13 +256,16 @@ export class Table {
     this.#check();
   }
   #check() {
-    const isPlace = (n) => Number.isInteger(n) && n >= 0 && n < this.nodes.length;
+    const isCount = (n) => Number.isInteger(n) && n >= 0, isPlace = (n) => isCount(n) && n < this.nodes.length;
     for (const node of this.nodes) {
+      if (typeof node !== "object" || node === null) throw new TypeError("the table has a node that is no object");
       const parts = node.node !== undefined ? [node.node] : node.nodes ?? (node.fields ?? node.variants ?? []).map((it) => it.node);
       const known = INTEGER.test(node.kind) || NO_PARTS.has(node.kind) ||
-        ["option", "list", "map", "array", "newtype", "struct", "tuple", "enum"].includes(node.kind);
+        node.kind === "enum" || (PARTS.has(node.kind) && node[PARTS.get(node.kind)] !== undefined);
       const named = (node.fields ?? node.variants ?? []).every((it) => typeof it.name === "string");
-      if (!known || !parts.every(isPlace) || !named || (node.kind === "fixed" && !INTEGER.test(node.integer))) {
+      const isWhole = (node.kind !== "array" || isCount(node.count)) && (node.most == null || isCount(node.most)) &&
+        (node.kind !== "fixed" || (INTEGER.test(node.integer) && ["little", "big"].includes(node.order)));
+      if (!known || !parts.every(isPlace) || !named || !isWhole) {
         throw new TypeError(`the table has a node that isn't known: ${JSON.stringify(node)}`);
       }
     }
@@ -402,7 +406,10 @@ export class Table {
 
   // ---- writing
 
-  /** The bytes of the value that a line of JSON is, by itself or as `{"value": ..}`. Throws Wrong, with the way to what is wrong. */
+  /**
+   * The bytes of the value that a line of JSON is, by itself or as `{"value": ..}`. It is the latter if it can be both, as in `wire`: so
+   * `{"value": ..}` around a value has one meaning. Throws Wrong, with the way to what is wrong.
+   */
   write(place, line, { depth = 60, empty = 65536 } = {}) {
     this.#checkPlace(place);
     this.#empty = empty;

@@ -81,6 +81,11 @@ for (const it of [undefined, 1, -1, "T"]) {
   assert.throws(() => single.write(it, "1.5"), /no place/);
 }
 assert.equal(of({ kind: "list", node: 1, most: null }, { kind: "u8" }).write(0, `"${"00".repeat(200000)}"`).length, 200003);
+// a table that isn't whole is refused as such, before bytes are read by it
+for (const node of [null, 5, { kind: "struct" }, { kind: "tuple" }, { kind: "option" }, { kind: "list", most: -1, node: 0 }, { kind: "array", node: 0 },
+  { kind: "array", node: 0, count: -1 }, { kind: "array", count: 1 }, { kind: "fixed", integer: "u16" }, { kind: "text", most: "5" }, { kind: "other", undefined: 0 }]) {
+  assert.throws(() => of({ kind: "u8" }, node), /the table has a node that/, JSON.stringify(node));
+}
 // types of one name are told apart by their lines; without a line none is chosen
 const twice = new Table({ version: 1, types: [["Config", 3, 0], ["Config", 7, 1], ["All", 9, 1]].map(([name, line, node]) => ({ name, line, node })), nodes: [{ kind: "u8" }, { kind: "u16" }] });
 assert.deepEqual(twice.names, ["Config:3", "Config:7", "All"]);
