@@ -34,9 +34,14 @@ export function decode(frame: Bytes, options?: Pick<Options, "sentinel">): Uint8
 export function crc32(bytes: Bytes): number;
 export function seal(message: Bytes): Uint8Array;
 export function unseal(message: Bytes): Uint8Array | undefined;
+/** `return()`, as `break` calls it, ends it, also while it waits. A `ReadableStream` is unlocked, and keeps what wasn't read. */
 export function receive(
   source: ReadableStream<Uint8Array> | AsyncIterable<Uint8Array> | Iterable<Uint8Array>,
-  limit: number,
-  options?: Options,
+  /** Or a receiver of one's own, which keeps the frame that has begun; it has its own sentinel and form. */
+  limit: number | Receiver,
+  options?: Options & {
+    /** Ends it, also while it waits: what is asked for then is rejected with the signal's reason. */
+    signal?: AbortSignal;
+  },
 ): AsyncGenerator<Event, void, void>;
 export function receiverStream(limit: number, options?: Options): TransformStream<Uint8Array, Event>;

@@ -1,6 +1,6 @@
 // Messages as frames over a line that may break, by a WebAssembly module whose code is proved (crates/frames_c). This file is tested, not
-// proved. It runs in Node 20, Deno and browsers, and needs no other package. Each receiver and each sender has an instance of the module of
-// its own, so nothing is shared, and nothing has to be freed.
+// proved. It runs in Node 20, Deno and browsers, and needs no other package. What a receiver or a sender keeps is bytes here, which are put into
+// one of two instances of the module for a call: there may be any number of them, and nothing has to be freed.
 //
 // Messages are counted unless `plain` is said: each that is received was sent, whatever broke off. README.md says what that means.
 
@@ -41,89 +41,150 @@ class Instance {
   reserve(bytes) {
     const more = this.base + bytes - this.calls.memory.buffer.byteLength;
     if (more <= 0) return;
-    const pages = Math.ceil(more / 65536);
-    try { this.calls.memory.grow(this.is64 ? U64(pages) : pages); } catch (error) {
-      if (!(error instanceof TypeError)) throw error;
-      this.calls.memory.grow(pages); // engines before the final form of memory64
-    }
+    const pages = Math.ceil(more / 65536), grow = (n) => this.calls.memory.grow(n);
+    try {
+      try { grow(this.is64 ? U64(pages) : pages); } catch (error) {
+        if (!this.is64 || !(error instanceof TypeError)) throw error;
+        grow(pages); // engines before the final form of memory64
+      }
+    } catch (cause) { throw new RangeError(`frames: the module has no memory for ${bytes} bytes`, { cause }); }
   }
-  put(offset, bytes) { new Uint8Array(this.calls.memory.buffer, this.base + offset, bytes.length).set(bytes); }
-  get(offset, length) { return new Uint8Array(this.calls.memory.buffer, this.base + offset, length).slice(); }
-  number(offset) { return Number(new DataView(this.calls.memory.buffer).getBigUint64(this.base + offset, true)); }
-  byte(offset) { return new Uint8Array(this.calls.memory.buffer, this.base + offset, 1)[0]; }
+  // the memory, of which growing makes another buffer
+  get view() {
+    const { buffer } = this.calls.memory;
+    return this.seen?.buffer === buffer ? this.seen : (this.seen = new DataView(buffer));
+  }
+  get bytes() {
+    const { buffer } = this.calls.memory;
+    return this.all?.buffer === buffer ? this.all : (this.all = new Uint8Array(buffer));
+  }
+  put(offset, bytes) { this.bytes.set(bytes, this.base + offset); }
+  get(offset, length) { return this.bytes.slice(this.base + offset, this.base + offset + length); }
+  number(offset) { return Number(this.view.getBigUint64(this.base + offset, true)); }
+  byte(offset) { return this.bytes[this.base + offset]; }
 }
 
+// what calls share that take and return bytes; and what receivers share, `held` of which is the one whose state is in it
+let shared, receiving, held;
+const instance = () => (shared ??= new Instance());
+
+/** A plain view of bytes. Those of a buffer that was transferred are gone: to make the view throws a TypeError then. */
 function bytesOf(it) {
-  if (it instanceof Uint8Array) return it;
   if (it instanceof ArrayBuffer) return new Uint8Array(it);
   if (ArrayBuffer.isView(it)) return new Uint8Array(it.buffer, it.byteOffset, it.byteLength);
   throw new TypeError("frames: bytes are needed: a Uint8Array, another view or an ArrayBuffer");
 }
-function sentinelOf({ sentinel = 0 }) {
+/** What the options of a call say. What would be ignored is refused: `new Receiver(8, 10)`, `{ delimiter: 10 }`. */
+function optionsOf(options, ...names) {
+  if (typeof options !== "object" || options === null) {
+    const meant = typeof options === "boolean" ? `{ plain: ${options} }` : `{ sentinel: ${Number.isInteger(options) ? options : 10} }`;
+    throw new TypeError(`frames: options are an object: write ${meant}`);
+  }
+  for (const name in options) {
+    if (!names.includes(name)) throw new TypeError(`frames: no option is called ${name}: write ${names.join(" or ")}`);
+  }
+  const { sentinel = 0, plain = false, signal } = options;
   if (!Number.isInteger(sentinel) || sentinel < 0 || sentinel > 255) throw new RangeError("frames: a sentinel is a number from 0 to 255");
-  return sentinel;
+  if (typeof plain !== "boolean") throw new TypeError("frames: plain is true or false");
+  if (signal !== undefined && typeof signal?.throwIfAborted !== "function") throw new TypeError("frames: signal is an AbortSignal: write { signal: controller.signal }");
+  return { sentinel, plain, signal };
 }
 
+// the places of a receiver's state, of an event, of a chunk, and of the buffer, which grows with what is begun
+const [EVENT, CHUNK_AT, BUFFER] = [16, 64, 64 + CHUNK];
 /** Receives the messages of a stream that comes in chunks, with at most `limit` bytes between two delimiters. */
 export class Receiver {
-  #it; #limit; #push;
+  #state = new Uint8Array(16); #begun = new Uint8Array(0); #limit; #push;
   constructor(limit, options = {}) {
     if (!Number.isSafeInteger(limit) || limit < 0 || limit > 0x40000000) throw new RangeError("frames: a limit is a number of bytes, up to 2 ** 30");
-    this.#it = new Instance();
+    const { sentinel, plain } = optionsOf(options, "sentinel", "plain");
+    receiving ??= new Instance();
     this.#limit = limit;
-    this.#push = this.#it.calls[options.plain ? "frames_c_push_plain" : "frames_c_push"];
-    // the receiver at 0, an event at 16, the buffer at 64, the chunk behind it
-    this.#it.reserve(64 + limit + CHUNK);
-    this.#it.calls.frames_c_receiver(this.#it.at(0), sentinelOf(options));
+    this.#push = plain ? "frames_c_push_plain" : "frames_c_push";
+    this.#state[9] = sentinel; // as a new receiver
   }
-  /** What these bytes bring about, in order. */
+  /** The instance, with this receiver's state in it; that of another one is put aside. */
+  #held() {
+    const it = receiving;
+    if (held === this) return it;
+    held?.#putAside();
+    held = undefined;
+    it.reserve(BUFFER + this.#begun.length);
+    it.put(0, this.#state);
+    it.put(BUFFER, this.#begun);
+    this.#begun = new Uint8Array(0);
+    held = this;
+    return it;
+  }
+  #putAside() {
+    this.#begun = receiving.get(BUFFER, receiving.number(0));
+    this.#state = receiving.get(0, 16);
+  }
+  /** What these bytes bring about, in order. If it throws because memory ran out, all of them were taken, or none. */
   push(bytes) {
-    const [it, all, events] = [this.#it, bytesOf(bytes), []];
+    const [all, events, it] = [bytesOf(bytes), [], this.#held()];
+    const room = Math.min(this.#limit, it.number(0) + all.length); // no more comes between two delimiters in this call
+    it.reserve(BUFFER + room);
+    let failure;
     for (let from = 0; from < all.length; from += CHUNK) {
       const chunk = all.subarray(from, from + CHUNK);
-      it.put(64 + this.#limit, chunk);
+      it.put(CHUNK_AT, chunk);
       for (let at = 0; ; ) {
-        this.#push(it.at(16), it.at(0), it.at(64), U64(this.#limit), it.at(64 + this.#limit + at), U64(chunk.length - at));
-        at += it.number(16);
-        const kind = it.byte(48), place = { end: from + at - 1, length: it.number(24) };
-        if (kind === MESSAGE) events.push({ kind: "message", bytes: it.get(64 + it.number(32), it.number(40)), ...place });
-        else if (kind === DAMAGED) events.push({ kind: "damaged", ...place });
-        else if (kind === TOO_LONG) events.push({ kind: "tooLong", ...place });
-        else break;
+        it.calls[this.#push](it.at(EVENT), it.at(0), it.at(BUFFER), U64(room), it.at(CHUNK_AT + at), U64(chunk.length - at));
+        at += it.number(EVENT);
+        const kind = it.byte(EVENT + 32), place = { end: from + at - 1, length: it.number(EVENT + 8) };
+        if (kind !== MESSAGE && kind !== DAMAGED && kind !== TOO_LONG) break;
+        try {
+          if (kind === MESSAGE) events.push({ kind: "message", bytes: it.get(BUFFER + it.number(EVENT + 16), it.number(EVENT + 24)), ...place });
+          else events.push({ kind: kind === DAMAGED ? "damaged" : "tooLong", ...place });
+        } catch (error) { failure ??= error; } // the rest is taken too, or the next push would begin inside a frame
       }
     }
+    if (failure) throw failure;
     return events;
   }
   /** How many bytes have come since the last delimiter. */
-  get begun() { return Number(this.#it.calls.frames_c_begun(this.#it.at(0))); }
+  get begun() {
+    const it = this.#held();
+    return Number(it.calls.frames_c_begun(it.at(0)));
+  }
   /** Ends the stream, and begins a new one. Returns the partial frame at its end, if there is one. */
   finish() {
-    const length = this.begun;
-    return this.#it.calls.frames_c_finish(this.#it.at(0)) ? { kind: "cut", length } : undefined;
+    const length = this.begun, it = this.#held();
+    return it.calls.frames_c_finish(it.at(0)) ? { kind: "cut", length } : undefined;
   }
 }
 
 /** Makes the bytes of each message, for a line that may break. */
 export class Sender {
-  #it; #send; #sends = 0;
+  #state; #send; #sends = 0;
   constructor(options = {}) {
-    this.#it = new Instance();
-    this.#send = this.#it.calls[options.plain ? "frames_c_send_plain" : "frames_c_send"];
-    this.#it.put(0, [0, sentinelOf(options)]); // as a new sender
+    const { sentinel, plain } = optionsOf(options, "sentinel", "plain");
+    instance();
+    this.#send = plain ? "frames_c_send_plain" : "frames_c_send";
+    this.#state = Uint8Array.of(0, sentinel); // as a new sender
   }
   /** The bytes to write. Call `sent` once all of them went out; if they didn't, call nothing. */
   send(message) {
-    const [it, bytes] = [this.#it, bytesOf(message)];
+    const [it, bytes] = [instance(), bytesOf(message)];
     const space = bytes.length + Math.floor(bytes.length / 254) + 16;
     it.reserve(32 + bytes.length + space);
+    it.put(0, this.#state);
     it.put(32, bytes);
-    this.#send(it.at(16), it.at(0), it.at(32), U64(bytes.length), it.at(32 + bytes.length), U64(space));
+    it.calls[this.#send](it.at(16), it.at(0), it.at(32), U64(bytes.length), it.at(32 + bytes.length), U64(space));
     if (it.byte(24)) throw new Error("frames: a send has no space"); // the space is that of the longest frame
+    const out = it.get(32 + bytes.length, it.number(16));
+    this.#state = it.get(0, 2);
     this.#sends++;
-    return it.get(32 + bytes.length, it.number(16));
+    return out;
   }
   /** Says that all bytes of the last send went out. */
-  sent() { this.#it.calls.frames_c_sent(this.#it.at(0)); }
+  sent() {
+    const it = instance();
+    it.put(0, this.#state);
+    it.calls.frames_c_sent(it.at(0));
+    this.#state = it.get(0, 2);
+  }
   /** Writes a message to a WritableStream's writer, as that of a serial port. If that fails, the next send begins with a delimiter. */
   async write(writer, message) {
     const bytes = this.send(message), sends = this.#sends;
@@ -132,10 +193,9 @@ export class Sender {
   }
 }
 
-let shared;
 // a call of a whole source, and what it wrote
 function whole(source, space, name, ...more) {
-  const it = (shared ??= new Instance());
+  const it = instance();
   it.reserve(32 + source.length + space);
   it.put(32, source);
   it.calls[name](it.at(0), it.at(32), U64(source.length), it.at(32 + source.length), U64(space), ...more);
@@ -145,12 +205,12 @@ function whole(source, space, name, ...more) {
 }
 /** The shortest frame of a message's bytes, without a delimiter; each byte XORed with the sentinel. */
 export function encode(message, options = {}) {
-  const bytes = bytesOf(message);
-  return whole(bytes, bytes.length + Math.floor(bytes.length / 254) + 2, "frames_c_encode_with_sentinel", sentinelOf(options));
+  const bytes = bytesOf(message), { sentinel } = optionsOf(options, "sentinel");
+  return whole(bytes, bytes.length + Math.floor(bytes.length / 254) + 2, "frames_c_encode_with_sentinel", sentinel);
 }
 /** The message of one frame, with or without the delimiter that ends it. Throws a RangeError for all other bytes. */
 export function decode(frame, options = {}) {
-  const bytes = bytesOf(frame), sentinel = sentinelOf(options), end = bytes.indexOf(sentinel);
+  const bytes = bytesOf(frame), { sentinel } = optionsOf(options, "sentinel"), end = bytes.indexOf(sentinel);
   if (bytes.length === 0) throw new RangeError("frames: no frame: there are no bytes");
   if (end === 0) throw new RangeError("frames: no frame: a delimiter is in front");
   if (end > 0 && end < bytes.length - 1) throw new RangeError("frames: bytes are after the delimiter that ends the frame");
@@ -158,14 +218,14 @@ export function decode(frame, options = {}) {
 }
 /** The CRC-32 of bytes, as Ethernet, gzip and PNG have it. */
 export function crc32(bytes) {
-  const [it, source] = [(shared ??= new Instance()), bytesOf(bytes)];
+  const [it, source] = [instance(), bytesOf(bytes)];
   it.reserve(32 + source.length);
   it.put(32, source);
   return it.calls.frames_c_crc32(it.at(32), U64(source.length)) >>> 0;
 }
 /** A message with its CRC-32 appended, to be sent: `unseal` notices bytes that changed on the line. */
 export function seal(message) {
-  const [it, source] = [(shared ??= new Instance()), bytesOf(message)];
+  const [it, source] = [instance(), bytesOf(message)];
   it.reserve(32 + source.length + 4);
   it.put(32, source);
   it.calls.frames_c_seal(it.at(0), it.at(32), U64(source.length + 4), U64(source.length));
@@ -173,7 +233,7 @@ export function seal(message) {
 }
 /** What was sealed; undefined if the last four bytes aren't the CRC-32 of those before them. */
 export function unseal(message) {
-  const [it, source] = [(shared ??= new Instance()), bytesOf(message)];
+  const [it, source] = [instance(), bytesOf(message)];
   it.reserve(32 + source.length);
   it.put(32, source);
   it.calls.frames_c_unseal(it.at(0), it.at(32), U64(source.length));
@@ -182,31 +242,77 @@ export function unseal(message) {
 
 // a receiver of the chunks of one stream, which counts places from its first byte
 function receiverOf(limit, options) {
-  const receiver = new Receiver(limit, options);
+  if (limit instanceof Receiver && Object.keys(options).length) throw new TypeError("frames: a receiver has its own sentinel and form: give no options with it");
+  const receiver = limit instanceof Receiver ? limit : new Receiver(limit, options);
   let before = 0;
   return {
     push(chunk) {
-      const events = receiver.push(chunk);
+      const { length } = bytesOf(chunk), events = receiver.push(chunk);
       for (const event of events) event.end += before;
-      before += bytesOf(chunk).length;
+      before += length;
       return events;
     },
     finish: () => receiver.finish(),
   };
 }
-async function* chunks(source) {
-  if (typeof source.getReader !== "function") return yield* source;
-  const reader = source.getReader();
-  try {
-    for (let it; !(it = await reader.read()).done; ) yield it.value;
-  } finally { reader.releaseLock(); }
+// the chunks of a source, which `end` gives back, also while a read waits: what that had read already goes to `late`
+function chunksOf(source, late) {
+  const reader = typeof source?.getReader === "function" ? source.getReader() : undefined;
+  const chunks = reader ? undefined : (async function* () { yield* source; })();
+  let wake, ended;
+  return {
+    read: () => ended ? { done: true } : new Promise((go, no) => {
+      wake = () => go({ done: true });
+      (reader ? reader.read() : chunks.next()).then((it) => {
+        wake = undefined;
+        if (ended && !it.done) late(it.value); else go(it);
+      }, (error) => { wake = undefined; no(error); }).catch(() => {}); // of what is late: nobody asks for it any more
+    }),
+    end() {
+      if (ended) return ended;
+      if (reader) reader.releaseLock(); // ends a read that waits: what comes then stays in the stream
+      else if (wake) source.destroy?.(); // a stream of Node, as `for await` leaves it
+      ended = chunks?.return() ?? Promise.resolve();
+      ended.catch(() => {}); // said by who awaits it
+      if (!wake) return ended;
+      wake();
+      return (ended = Promise.resolve()); // a generator ends once what it waits for has come
+    },
+    get isEnded() { return ended !== undefined; },
+  };
 }
-/** What is received of a stream, as it comes: Web Serial's `port.readable`, a Node stream, or whatever gives bytes one after another. */
-export async function* receive(source, limit, options = {}) {
-  const receiver = receiverOf(limit, options);
-  for await (const chunk of chunks(source)) yield* receiver.push(chunk);
-  const cut = receiver.finish();
-  if (cut) yield cut;
+/**
+ * What is received of a stream, as it comes: Web Serial's `port.readable`, a Node stream, or whatever gives bytes one after another. `return()`,
+ * as `break` calls it, ends it and gives the stream back, also while it waits; so does `signal`, by which it throws. A Receiver in place of the
+ * limit keeps the frame that has begun, for the next call.
+ */
+export function receive(source, limit, options = {}) {
+  let chunks;
+  const events = (async function* () {
+    const { signal } = optionsOf(options, "sentinel", "plain", "signal"), { signal: _, ...form } = options, receiver = receiverOf(limit, form);
+    signal?.throwIfAborted();
+    chunks = chunksOf(source, receiver.push);
+    signal?.addEventListener("abort", chunks.end);
+    try {
+      for (let chunk; !(chunk = await chunks.read()).done; ) {
+        for (const event of receiver.push(chunk.value)) {
+          yield event;
+          signal?.throwIfAborted();
+        }
+      }
+      signal?.throwIfAborted();
+      const cut = chunks.isEnded ? undefined : receiver.finish();
+      if (cut) yield cut;
+    } finally {
+      signal?.removeEventListener("abort", chunks.end);
+      await chunks.end();
+    }
+  })();
+  for (const name of ["return", "throw"]) {
+    const call = events[name];
+    events[name] = (it) => { chunks?.end(); return call.call(events, it); };
+  }
+  return events;
 }
 /** The same as a stage of a pipe: `port.readable.pipeThrough(receiverStream(1024))`. */
 export function receiverStream(limit, options = {}) {

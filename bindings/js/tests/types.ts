@@ -7,11 +7,12 @@ async function uses(port: { readable: ReadableStream<Uint8Array>; writable: Writ
   const sender = new Sender({ sentinel: 10 }), writer = port.writable.getWriter();
   await sender.write(writer, seal(new Uint8Array([1, 2])));
   let damaged = 0;
-  for await (const event of receive(port.readable, 1024, { plain: true })) {
+  for await (const event of receive(port.readable, 1024, { plain: true, signal: new AbortController().signal })) {
     if (event.kind === "message") unseal(event.bytes)?.length.toFixed();
     else if (event.kind === "damaged") damaged += event.end - event.length;
     else if (event.kind === "cut") damaged += event.length;
   }
+  for await (const event of receive([new Uint8Array(1)], new Receiver(8))) damaged += event.length;
   const stream: ReadableStream<Event> = port.readable.pipeThrough(receiverStream(64));
   const receiver = new Receiver(64), found = receiver.push(new ArrayBuffer(3)), cut = receiver.finish();
   return damaged + found.length + (cut ? cut.length : 0) + receiver.begun + crc32(decode(encode(new DataView(new ArrayBuffer(2))))) + (stream.locked ? 1 : 0);
@@ -19,6 +20,10 @@ async function uses(port: { readable: ReadableStream<Uint8Array>; writable: Writ
 export function misuses(): void {
   // @ts-expect-error a limit is needed
   new Receiver();
+  // @ts-expect-error options are an object
+  new Receiver(8, 10);
+  // @ts-expect-error no option is called so
+  new Sender({ delimiter: 10 });
   // @ts-expect-error a text isn't bytes
   new Sender().send("text");
   // @ts-expect-error a frame has no form, counted or plain

@@ -1,6 +1,7 @@
 // frames.mjs beside oracle.mjs: messages, broken and changed lines, streams, refusals.
 // usage: node unit.mjs [ROUNDS | SECONDSs]     a module in the place of ../frames.wasm: FRAMES_WASM
 import assert from "node:assert";
+import { getEventListeners } from "node:events";
 import { readFileSync } from "node:fs";
 import { Readable } from "node:stream";
 import * as frames from "../frames.mjs";
@@ -80,6 +81,103 @@ async function streams() {
   assert.deepEqual(both.map((it) => it.status), ["fulfilled", "rejected"]);
   assert.deepEqual(new frames.Receiver(8).push(Uint8Array.from(line)).map((it) => it.kind), ["message", "damaged", "message"]);
 }
+const HI = Uint8Array.of(0, 4, 2, 104, 105, 0);
+const soon = () => new Promise((go) => setTimeout(go, 5));
+/** What a promise becomes, within a second. */
+const within = (promise) => new Promise((go, no) => {
+  const late = setTimeout(() => no(new Error("it waits")), 1000);
+  promise.then(go, no).finally(() => clearTimeout(late));
+});
+/** A wait that is ended, by return() or by a signal: the stream is given back, and keeps what comes then. */
+async function ends() {
+  const open = () => { let to; const stream = new ReadableStream({ start(it) { to = it; } }); return [stream, to]; };
+  for (const end of ["return", "throw", "abort", "aborted"]) {
+    const [stream, to] = open(), stop = new AbortController(), { signal } = stop, events = frames.receive(stream, 8, { signal });
+    to.enqueue(Uint8Array.of(...HI, ...HI.subarray(1), 4, 2));
+    if (end !== "aborted") assert.equal((await events.next()).value.kind, "message");
+    if (end !== "aborted") assert.equal((await events.next()).value.end, 10);
+    let waits;
+    if (end === "aborted") { stop.abort(); waits = events.next(); } else { waits = events.next(); await soon(); }
+    if (end === "return") assert.deepEqual(await within(events.return()), { done: true, value: undefined });
+    else if (end === "throw") await assert.rejects(within(events.throw(new Error("mine"))), /mine/);
+    else if (end === "abort") stop.abort();
+    assert.equal(stream.locked, false, end);
+    if (end[0] === "a") await assert.rejects(within(waits), { name: "AbortError" }); else assert.deepEqual(await within(waits), { done: true, value: undefined });
+    assert.equal((await within(events.next())).done, true);
+    assert.equal(getEventListeners(signal, "abort").length, 0);
+    to.enqueue(HI);
+    const again = frames.receive(stream, 8), { value } = await within(again.next());
+    assert.deepEqual(value.bytes, Uint8Array.of(104, 105), end); // of the stream's next chunk, also if it was aborted before a read
+    await within(again.return());
+    assert.equal(stream.locked, false);
+  }
+  // a receiver of one's own keeps the frame that has begun, also one that came as the wait was ended
+  for (const part of [2, 3, 4]) {
+    const [stream, to] = open(), receiver = new frames.Receiver(8), events = frames.receive(stream, receiver), waits = events.next();
+    await soon();
+    to.enqueue(HI.subarray(0, part));
+    if (part === 3) await soon();
+    await within(events.return());
+    assert.equal((await within(waits)).done, true);
+    to.enqueue(HI.subarray(part));
+    const again = frames.receive(stream, receiver);
+    assert.deepEqual((await within(again.next())).value, { kind: "message", bytes: Uint8Array.of(104, 105), end: 5 - part, length: 4 });
+    await within(again.return());
+    assert.throws(() => frames.receiverStream(receiver, { sentinel: 0 }), /give no options with it/);
+  }
+  // a signal between two events: neither is the next one given, nor is the stream kept
+  const [stream, to] = open(), stop = new AbortController(), events = frames.receive(stream, 8, { signal: stop.signal });
+  to.enqueue(Uint8Array.of(...HI, ...HI));
+  await events.next();
+  stop.abort(new Error("enough"));
+  assert.equal(stream.locked, false);
+  await assert.rejects(within(events.next()), /enough/);
+  // a stream of Node is destroyed, as `for await` does; an iterable is ended, at once or when what it waits for has come
+  const readable = new Readable({ read() {} }), of = frames.receive(readable, 8), waits = of.next();
+  await soon();
+  await within(of.return());
+  assert.deepEqual([(await within(waits)).done, readable.destroyed], [true, true]);
+  let isOver = false, go;
+  const source = (async function* () { try { yield HI; yield await new Promise((it) => { go = it; }); } finally { isOver = true; } });
+  for await (const { kind } of frames.receive(source(), 8)) { assert.equal(kind, "message"); break; }
+  assert.equal(isOver, true);
+  isOver = false;
+  const slow = frames.receive(source(), 8);
+  await slow.next();
+  const late = slow.next();
+  await soon();
+  await within(slow.return());
+  assert.equal((await within(late)).done, true);
+  go(HI);
+  await soon();
+  assert.equal(isOver, true);
+}
+/** As many receivers and senders as one likes, each with its own state, whichever is used next. */
+function many() {
+  const all = [];
+  for (let k = 0; k < 20000; k++) {
+    const options = { sentinel: k % 3, plain: k % 2 === 1 }, receiver = new frames.Receiver(40, options), sender = new frames.Sender(options);
+    const line = Uint8Array.of(...sender.send(Uint8Array.of(1, 0, k >> 8, k)), ...sender.send(Uint8Array.of(k)));
+    all.push({ receiver, line, wanted: new oracle.Receiver(40, options), at: 0, sender, other: new oracle.Sender(options) });
+  }
+  for (let k = 0; k < 60000; k++) {
+    const it = all[some(k < 30000 ? all.length : 20)], chunk = it.line.subarray(it.at, it.at += 1 + some(6));
+    assert.deepEqual(it.receiver.push(chunk), it.wanted.push(chunk));
+    if (some(9) === 0) assert.equal(it.receiver.begun, it.wanted.begun);
+    if (some(30) === 0) assert.deepEqual(it.receiver.finish(), it.wanted.finish());
+    if (some(4) === 0) { it.sender.sent(); it.other.sent(); }
+    assert.deepEqual(it.sender.send(chunk), it.other.send(chunk));
+    if (it.at >= it.line.length) it.at = 0;
+  }
+}
+/** Where memory ends inside a push, all its bytes were taken: what comes next isn't taken for a frame that nobody sent. */
+function noMemory() {
+  const receiver = new frames.Receiver(32), line = new frames.Sender().send(Uint8Array.of(9, 9, 3, 1, 88)), { slice } = Uint8Array.prototype;
+  assert.equal(receiver.begun, 0);
+  Uint8Array.prototype.slice = () => { throw new RangeError("Array buffer allocation failed"); };
+  try { assert.throws(() => receiver.push(Uint8Array.of(...HI, ...line.subarray(0, 5))), RangeError); } finally { Uint8Array.prototype.slice = slice; }
+  assert.deepEqual(receiver.push(line.subarray(5)).map(({ bytes }) => [...bytes]), [[9, 9, 3, 1, 88]]);
+}
 /** What the page shows: entries with the bytes at their places, whatever the chunks are; texts from which the same bytes are made. */
 function lines() {
   for (let k = 0; k < 100; k++) {
@@ -98,6 +196,29 @@ function lines() {
   for (const it of ['"\\ud800"', '"a', '"a" 1', "0", "0g"]) assert.throws(() => writing.message(it), Wrong);
 }
 function refusals() {
+  // options that would be ignored: what to write is said
+  for (const [call, said] of [
+    [() => new frames.Receiver(8, 10), /write \{ sentinel: 10 \}/], [() => new frames.Receiver(8, true), /write \{ plain: true \}/],
+    [() => new frames.Sender(10), /write \{ sentinel: 10 \}/], [() => new frames.Sender("\n"), /options are an object/], [() => new frames.Sender(null), /options are an object/],
+    [() => new frames.Receiver(8, { delimiter: 10 }), /no option is called delimiter: write sentinel or plain/], [() => new frames.Receiver(8, [10]), /no option/],
+    [() => new frames.Receiver(8, { plain: "no" }), /plain is true or false/], [() => frames.encode(Uint8Array.of(1), 10), /write \{ sentinel: 10 \}/],
+    [() => frames.decode(Uint8Array.of(1), { plain: true }), /no option is called plain/], [() => frames.receiverStream(8, 10), /write \{ sentinel: 10 \}/],
+    [() => frames.receiverStream(8, { signal: new AbortController().signal }), /no option is called signal/],
+  ]) assert.throws(call, (error) => error instanceof TypeError && said.test(error.message), `${call}`);
+  // bytes that were transferred are gone, and aren't none
+  const gone = new Uint8Array(3), view = new DataView(gone.buffer);
+  structuredClone(gone.buffer, { transfer: [gone.buffer] });
+  for (const it of [gone, view, gone.buffer]) {
+    assert.throws(() => new frames.Receiver(8).push(it), /detached/);
+    assert.throws(() => new frames.Sender().send(it), /detached/);
+    assert.throws(() => frames.seal(it), /detached/);
+  }
+  // a class of one's own over bytes changes nothing of them
+  class Own extends Uint8Array { static get [Symbol.species]() { return Array; } subarray() { return new Own(0); } }
+  assert.deepEqual(new frames.Receiver(8).push(Own.from(HI)).map((it) => it.kind), ["message"]);
+  // what doesn't fit the module's memory, and a limit that no number is
+  for (const limit of [8n, -0.5, Infinity, 2 ** 53, 2 ** 31]) assert.throws(() => new frames.Receiver(limit), RangeError);
+  if (!process.env.FRAMES_WASM) assert.throws(() => new frames.Sender().send(new Uint8Array(2 ** 31)), /no memory for \d+ bytes/); // of 32 bits
   for (const limit of [-1, 1.5, NaN, "8", 2 ** 40, undefined]) assert.throws(() => new frames.Receiver(limit), RangeError);
   for (const s of [-1, 256, 1.5, "0"]) assert.throws(() => new frames.Sender({ sentinel: s }), RangeError);
   for (const it of [5, "text", [1, 2], null, undefined, {}]) {
@@ -122,6 +243,9 @@ refusals();
 await frames.load(import.meta.resolve("../frames.wasm")); // a URL as a text
 await frames.load(process.env.FRAMES_WASM ? readFileSync(process.env.FRAMES_WASM) : undefined);
 await streams();
+await ends();
+many();
+noMemory();
 lines();
 let rounds = 0;
 for (; isTimed ? Date.now() < until : rounds < Number(told); rounds++) { whole(); stream(); }
