@@ -2,7 +2,7 @@
 import { load } from "../frames.mjs";
 import { Table, Wrong } from "../table.mjs";
 import { exampleBytes, exampleTable } from "./example.mjs";
-import { hexOf, Lines, logLine, Writing } from "./lines.mjs";
+import { Files, hexOf, Lines, logLine, Writing } from "./lines.mjs";
 
 const it = (id) => document.getElementById(id);
 const SHOWN = 500, KEPT = 100000, KEPT_BYTES = 1 << 26, WINDOW = 2000;
@@ -51,19 +51,22 @@ function clear() {
   kinds = new Map();
   began = performance.now();
   it("rows").replaceChildren();
+  it("files").textContent = "";
   show();
 }
 
 /** Takes bytes from the line. */
 export function take(bytes) {
-  const now = performance.now();
+  keep(bytes);
+  if (lines) note(lines.push(bytes));
+}
+function keep(bytes) {
   kept.push(bytes);
   keptBytes += bytes.length;
   while (keptBytes > KEPT_BYTES && kept.length > 1) keptBytes -= kept.shift().length;
-  recent.push([now, bytes.length]);
-  if (lines) note(lines.push(bytes), now);
+  recent.push([performance.now(), bytes.length]);
 }
-function note(found, now) {
+function note(found, now = performance.now()) {
   for (const entry of found) {
     entry.seconds = (now - began) / 1000;
     const kind = kinds.get(entry.kind) ?? { count: 0, bad: entry.bad, times: [] };
@@ -84,6 +87,7 @@ const isWanted = ({ kind, text, bytes }) => {
 function rowOf(entry) {
   const row = document.createElement("tr");
   row.tabIndex = -1;
+  if (entry.file) row.title = entry.file;
   if (entry.bad) row.className = "bad";
   const texts = { time: entry.seconds.toFixed(3), place: `${entry.from}–${entry.to}`, kind: entry.kind, text: entry.text, hex: hexOf(entry.bytes, 64) };
   for (const [name, text] of Object.entries(texts)) {
@@ -134,8 +138,10 @@ function show() {
 
 async function connect() {
   it("lost").textContent = "";
+  if (isBusy()) return;
   const chosen = await navigator.serial.requestPort();
   await chosen.open({ baudRate: Number(it("baud").value) });
+  if (isBusy()) return chosen.close(); // a file was dropped meanwhile
   port = chosen;
   it("connect").disabled = true;
   it("close").disabled = false;
@@ -158,26 +164,28 @@ async function connect() {
 }
 /** The stream is over: what is begun is cut off. */
 function ended() {
-  if (lines) note(lines.finish(), performance.now());
+  if (lines) note(lines.finish());
 }
-/** Whether a port is open, which another stream must not be mixed with. */
+/** Whether a port is open or a file is read, which another stream must not be mixed with. */
 function isBusy() {
   if (port) it("lost").textContent = "Close the port first.";
-  return port !== undefined;
+  else if (files.isReading) it("lost").textContent = "A file is being read.";
+  return port !== undefined || files.isReading;
 }
-async function takeFile(file) {
-  if (!file) return; // none was chosen, or what was dropped isn't a file
-  if (file.name.endsWith(".json")) {
-    it("table").value = await file.text();
-    return settle();
-  }
-  if (isBusy()) return;
-  begin();
-  clear();
-  const chunks = file.stream().getReader();
-  for (let chunk; !(chunk = await chunks.read()).done; ) take(chunk.value);
-  ended();
-}
+/** Each captured file has a receiver and a line of its own. */
+const files = new Files({
+  table(text) { it("table").value = text; settle(); },
+  begin(isFirst) {
+    if (port) return void isBusy();
+    begin();
+    if (isFirst) clear();
+    if (!lines) throw new Error("not read: paste a table, or choose bytes");
+    return lines;
+  },
+  note(found, bytes) { keep(bytes); note(found); },
+  report(line) { it("files").textContent += `${line}\n`; },
+  fail(line) { it("lost").textContent = line; },
+});
 async function send() {
   it("refused").textContent = it("sent").textContent = "";
   let writer;
@@ -217,8 +225,8 @@ await load();
 it("log").tabIndex = 0;
 for (const id of ["form", "type", "sentinel", "table"]) it(id).addEventListener(id === "type" || id === "form" ? "change" : "input", settle);
 for (const id of ["tableFile", "file"]) {
-  it(id).onchange = async () => {
-    await takeFile(it(id).files[0]);
+  it(id).onchange = () => {
+    files.take(it(id).files);
     it(id).value = ""; // the same file may be chosen again
   };
 }
@@ -247,7 +255,7 @@ document.body.ondragleave = () => document.body.classList.remove("over");
 document.body.ondrop = (event) => {
   event.preventDefault();
   document.body.classList.remove("over");
-  takeFile(event.dataTransfer.files[0]);
+  files.take(event.dataTransfer.files);
 };
 if (!("serial" in navigator)) {
   it("connect").disabled = true;

@@ -72,6 +72,46 @@ export class Lines {
   }
 }
 
+const isTable = (file) => file.name.endsWith(".json");
+/**
+ * Files one after another, whenever they are dropped, tables before captures. Of its owner it calls `table(text)`; `begin(isFirst)`, which
+ * returns the Lines of a capture, or nothing; `note(entries, bytes)`; and `report(line)`, once for each capture, or `fail(line)`.
+ */
+export class Files {
+  #waiting = []; #owner;
+  isReading = false;
+  constructor(owner) { this.#owner = owner; }
+  async take(files) {
+    this.#waiting.push(...Array.from(files).sort((a, b) => isTable(b) - isTable(a)));
+    if (this.isReading) return;
+    this.isReading = true;
+    let isFirst = true;
+    for (let file; (file = this.#waiting.shift()); ) {
+      try {
+        if (isTable(file)) this.#owner.table(await file.text());
+        else isFirst = !(await this.#read(file, isFirst)) && isFirst;
+      } catch (error) { this.#owner.fail(`${file.name}: ${error.message}`); }
+    }
+    this.isReading = false;
+  }
+  async #read(file, isFirst) {
+    const lines = this.#owner.begin(isFirst), reader = lines && file.stream().getReader();
+    let messages = 0, damaged = 0;
+    const note = (entries, bytes) => {
+      for (const entry of entries) {
+        entry.file = file.name;
+        if (entry.bad) damaged++; else messages++;
+      }
+      this.#owner.note(entries, bytes);
+    };
+    if (!lines) return false;
+    for (let chunk; !(chunk = await reader.read()).done; ) note(lines.push(chunk.value), chunk.value);
+    note(lines.finish(), new Uint8Array(0));
+    this.#owner.report(`${file.name}: ${lines.bytes} bytes, messages ${messages}, damaged ${damaged}`);
+    return true;
+  }
+}
+
 /** Makes frames of what is typed: JSON of a value, or, of bytes, hexadecimal digits or a text in quotes. */
 export class Writing {
   #sender;
@@ -98,9 +138,9 @@ export class Writing {
   }
 }
 
-/** An entry as a line of a log: as `wire read` says it, with the time in seconds. */
-export function logLine({ seconds, kind, bad, from, to, text, value, bytes }) {
-  const head = `{"seconds":${seconds.toFixed(3)},`;
+/** An entry as a line of a log: as `wire read` says it, with the time in seconds, and its file's name if it is of one. */
+export function logLine({ seconds, file, kind, bad, from, to, text, value, bytes }) {
+  const head = `{"seconds":${seconds.toFixed(3)},${file === undefined ? "" : `"file":${JSON.stringify(file)},`}`;
   if (bad) return `${head}"${kind.replace(" ", "_")}":{"from":${from},"to":${to}},"hex":"${hexOf(bytes).replaceAll(" ", "")}"}`;
   return `${head}"from":${from},"to":${to},"value":${value ? text : JSON.stringify(text)}}`;
 }

@@ -55,6 +55,10 @@ const saved = async (id) => {
     HTMLAnchorElement.prototype.click = function () { globalThis.named = this.download; }; document.getElementById("${id}").dispatchEvent(new Event("click"));`);
   return browser.run(`blobs[0].text()`);
 };
+const drops = (...all) => browser.run(`for (const files of ${JSON.stringify(all)}) {
+  const data = new DataTransfer();
+  for (const [name, bytes] of files) data.items.add(new File([Uint8Array.from(bytes)], name));
+  document.body.dispatchEvent(new DragEvent("drop", { dataTransfer: data, bubbles: true, cancelable: true })); }`);
 const drop = (name, content) => browser.run(`{ const data = new DataTransfer();
   data.items.add(new File([${content}], ${JSON.stringify(name)}));
   document.body.dispatchEvent(new DragEvent("drop", { dataTransfer: data, bubbles: true, cancelable: true })); }`);
@@ -173,6 +177,14 @@ try {
   await drop("bytes.bin", `Uint8Array.from(${JSON.stringify(counted)})`);
   await browser.until(`document.querySelectorAll("#rows tr").length === 2`, "bytes are shown");
   assert.deepEqual((await rows()).map((it) => it.slice(2, 4)), [["message", '"hi"'], ["damaged", ""]]);
+
+  // files in a row and at once: each has a receiver and a line of its own
+  await drops([["one.bin", [...counted, 3, 2]]], [["two.bin", counted], ["three.bin", [104, 105, 0]]]);
+  await browser.until(`document.getElementById("files").innerText.includes("three.bin")`, "three files were read");
+  assert.deepEqual((await text("files")).trim().split("\n"), [`one.bin: ${counted.length + 2} bytes, messages 1, damaged 2`,
+    `two.bin: ${counted.length} bytes, messages 1, damaged 1`, "three.bin: 3 bytes, messages 0, damaged 1"]);
+  await browser.until(`document.querySelectorAll("#rows tr").length === 6`, "the files' lines are shown");
+  assert.deepEqual((await rows()).map((it) => it[2]), ["message", "damaged", "cut", "message", "damaged", "damaged"]);
 
   // bytes in a value, by a word
   const blob = { version: 1, types: [{ name: "Blob", line: 1, node: 0 }], nodes: [{ kind: "struct", fields: [{ name: "data", node: 1 }], size: null }, { kind: "bytes", size: null }] };

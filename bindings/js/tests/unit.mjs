@@ -1,11 +1,12 @@
 // frames.mjs beside oracle.mjs: messages, broken and changed lines, streams, refusals.
 // usage: node unit.mjs [ROUNDS | SECONDSs]     a module in the place of ../frames.wasm: FRAMES_WASM
 import assert from "node:assert";
+import { File } from "node:buffer";
 import { getEventListeners } from "node:events";
 import { readFileSync } from "node:fs";
 import { Readable } from "node:stream";
 import * as frames from "../frames.mjs";
-import { Lines, logLine, Writing } from "../page/lines.mjs";
+import { Files, Lines, logLine, Writing } from "../page/lines.mjs";
 import { Wrong } from "../table.mjs";
 import * as oracle from "./oracle.mjs";
 
@@ -178,6 +179,28 @@ function noMemory() {
   try { assert.throws(() => receiver.push(Uint8Array.of(...HI, ...line.subarray(0, 5))), RangeError); } finally { Uint8Array.prototype.slice = slice; }
   assert.deepEqual(receiver.push(line.subarray(5)).map(({ bytes }) => [...bytes]), [[9, 9, 3, 1, 88]]);
 }
+/** Files that are dropped in a row or at once: each has a receiver and a report of its own, and tables come first. */
+async function dropped() {
+  const said = [], slow = (bytes, name) => Object.assign(new File([], name), {
+    stream: () => new ReadableStream({ async start(to) { for (const it of bytes) { await soon(); to.enqueue(Uint8Array.of(it)); } to.close(); } }),
+  });
+  const files = new Files({
+    table: (text) => said.push(`table ${text}`), begin: (isFirst) => { said.push(isFirst ? "begin" : "go on"); return new Lines({ form: "counted" }); },
+    note: (entries) => { for (const it of entries) said.push(`${it.file} ${it.kind} ${it.from}`); }, report: (line) => said.push(line), fail: (line) => said.push(line),
+  });
+  const first = files.take([slow([...HI, 3, 2], "one")]);
+  await soon();
+  assert.equal(files.isReading, true);
+  await files.take([slow([104, 105, 0], "two"), slow([], "three"), new File(["{}"], "types.json")]);
+  await first;
+  assert.deepEqual(said, ["begin", "one message 1", "one cut 6", "one: 8 bytes, messages 1, damaged 1", "table {}", "go on", "two damaged 0",
+    "two: 3 bytes, messages 0, damaged 1", "go on", "three: 0 bytes, messages 0, damaged 0"]);
+  said.length = 0;
+  const gone = Object.assign(new File([], "gone"), { stream() { throw new Error("it isn't there"); } });
+  await files.take([gone, slow(HI, "next")]);
+  assert.deepEqual(said, ["begin", "gone: it isn't there", "begin", "next message 1", "next: 6 bytes, messages 1, damaged 0"]);
+  assert.equal(JSON.parse(logLine({ seconds: 1, file: 'a"b', kind: "cut", bad: true, from: 0, to: 1, bytes: HI })).file, 'a"b');
+}
 /** What the page shows: entries with the bytes at their places, whatever the chunks are; texts from which the same bytes are made. */
 function lines() {
   for (let k = 0; k < 100; k++) {
@@ -246,6 +269,7 @@ await streams();
 await ends();
 many();
 noMemory();
+await dropped();
 lines();
 let rounds = 0;
 for (; isTimed ? Date.now() < until : rounds < Number(told); rounds++) { whole(); stream(); }
