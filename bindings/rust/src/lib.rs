@@ -336,10 +336,10 @@ impl<'a> Receiver<'a> {
         })
     }
 
-    /// Hands on each event of a piece.
+    /// Hands on each event of a piece. If `hear` panics, the events of the rest are dropped: the receiver stands behind the piece then too.
     pub fn push_all(&mut self, piece: &[u8], mut hear: impl FnMut(Event<'_>)) {
-        let mut heard = self.hear(piece);
-        while let Some(event) = heard.next() {
+        let mut all = All(self.hear(piece));
+        while let Some(event) = all.0.next() {
             hear(event);
         }
     }
@@ -447,6 +447,15 @@ impl Heard<'_, '_, '_> {
         let (used, event) = self.receiver.push(self.rest);
         self.rest = self.rest.get(used..).unwrap_or(&[]);
         event
+    }
+}
+
+/// Takes what wasn't asked for. Else the next push could begin inside a frame, and its end be heard as a message that nobody sent.
+struct All<'r, 'a, 'p>(Heard<'r, 'a, 'p>);
+
+impl Drop for All<'_, '_, '_> {
+    fn drop(&mut self) {
+        while self.0.next().is_some() {}
     }
 }
 

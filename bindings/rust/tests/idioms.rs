@@ -136,6 +136,19 @@ fn a_port_of_ones_own() {
 }
 
 #[test]
+fn a_panic_loses_no_place() {
+    let (mut buffer, mut line, message) = ([0u8; 32], [0u8; 16], b"\x09\x09\x03\x01X");
+    let n = Sender::new(0).send(message, &mut line).unwrap();
+    let mut receiver = Receiver::new(&mut buffer, 0);
+    let front = [&b"\x00\x04\x02hi"[..], &line[..5]].concat();
+    let panics = || receiver.push_all(&front, |_| panic!("in hear"));
+    assert!(std::panic::catch_unwind(std::panic::AssertUnwindSafe(panics)).is_err());
+    let mut heard = Vec::new();
+    receiver.push_all(&line[5..n], |event| heard.push(format!("{event:?}")));
+    assert_eq!(heard, [format!("{:?}", Event::Message(message))]);
+}
+
+#[test]
 fn an_empty_room_is_no_end() -> Result<(), Box<dyn Error>> {
     let (mut buffer, mut heard) = ([0u8; 16], Vec::new());
     let is_cut = Receiver::new(&mut buffer, 0).listen(&mut Io(line(0)), &mut [], |event| {
