@@ -14,7 +14,8 @@ messages where that may not be (`seal`, `unseal`).
     for event in listen(port, limit=1024):
         ...                             # the same, and Cut at the end, where it broke off
 
-A receiver and a sender may be used by several threads: each call is done as a whole, and so is each `Sender.write`.
+A receiver and a sender may be used by several threads: each call is done as a whole, and so is each `Sender.write`. A call inside another
+one of the same receiver or sender, as of a signal handler or of the line that is written to, is a `RuntimeError`.
 
 This module itself is tested, not proved. It hands the library bytes that don't change and buffers of its own, so nothing overlaps and no
 pointer is null. What isn't bytes, or holds none, is a `TypeError`: a number is no message of so many zeros.
@@ -30,7 +31,7 @@ import time
 from ctypes import POINTER, Structure, addressof, byref, c_bool, c_char_p, c_size_t, c_uint8, c_uint32, c_void_p, cast, string_at
 from dataclasses import dataclass
 from operator import index
-from threading import Lock, RLock
+from threading import RLock
 from typing import Any, Callable, Iterator, List, Optional, Protocol, Union
 
 __all__ = [
@@ -233,6 +234,11 @@ class Sender:
         Call `sent` once all of them went out. Where they didn't, call nothing: the next send then begins with a sentinel.
         """
         message = _bytes(message)
+        with self._lock:
+            self._refuse_inside()
+            return self._made(message)
+
+    def _made(self, message: bytes) -> bytes:
         room = len(message) + len(message) // 254 + 16
         dest = _Room(room)
         written = self._send(byref(self._state), message, len(message), dest.address, room)
@@ -242,66 +248,92 @@ class Sender:
 
     def sent(self) -> None:
         """Says that all bytes of the last send went out."""
-        library().frames_c_sent(byref(self._state))
+        with self._lock:
+            self._refuse_inside()
+            library().frames_c_sent(byref(self._state))
+
+    def _refuse_inside(self) -> None:
+        if self._is_writing:
+            raise RuntimeError("a call of a sender inside a write of its own")
 
     def write(self, line: _Line, message: bytes) -> None:
         """Sends a message over a file object or a serial port, which is flushed; of several threads one after another.
 
-        What it raises comes out, and a write that takes nothing is an `OSError`; the next send then begins with a sentinel. A write inside
+        What it raises comes out, and a write that takes nothing is an `OSError`; the next send then begins with a sentinel. A call inside
         a write, by the line itself or a signal handler, is a `RuntimeError`. A writer of asyncio has no count to return: `frames.aio.Line`
         sends over that.
         """
+        message = _bytes(message)
         with self._lock:
-            if self._is_writing:
-                raise RuntimeError("a write inside a write of the same sender")
-            self._is_writing = True
+            self._refuse_inside()
             try:
+                self._is_writing = True
                 self._write(line, message)
             finally:
                 self._is_writing = False
 
     def _write(self, line: _Line, message: bytes) -> None:
-        out = memoryview(self.send(message))
+        out = memoryview(self._made(message))
         while out:
             count = line.write(out)
             if not count or count < 0:  # as a write of C says that it failed
                 raise OSError("the line takes nothing")
             out = out[count:]
         line.flush()
-        self.sent()
+        library().frames_c_sent(byref(self._state))
 
 
 class Receiver:
     """Hears the messages of a stream that comes in pieces, with stretches of at most `limit` bytes, for which it has a buffer."""
 
     def __init__(self, limit: int, sentinel: int = 0, plain: bool = False) -> None:
+        if isinstance(limit, bool):
+            raise TypeError("a limit is a number of bytes, not a bool")
         if index(limit) < 1:
             raise ValueError("a limit is a number of bytes, 1 or more")
         self._limit = index(limit)
         self._state, self._buffer = library().frames_c_receiver(_byte(sentinel)), _Room(self._limit)
-        self._lock = Lock()
+        self._lock, self._is_pushing = RLock(), False
         self._push = library().frames_c_push_plain if plain else library().frames_c_push
 
     def push(self, piece: bytes) -> List[Event]:
-        """What these bytes bring about, in order: messages as `bytes`, `Damaged`, `TooLong`."""
+        """What these bytes bring about, in order: messages as `bytes`, `Damaged`, `TooLong`.
+
+        After what it raises, such as `MemoryError` or `KeyboardInterrupt`, the receiver goes on behind the next sentinel.
+        """
         piece = _bytes(piece)
+        with self._lock:
+            self._refuse_inside()
+            try:
+                self._is_pushing = True
+                return self._pushed(piece)
+            except BaseException:  # else the end of a frame, the front of which is lost, may be heard as a message
+                self._state.count, self._state.past = 0, 1
+                raise
+            finally:
+                self._is_pushing = False
+
+    def _pushed(self, piece: bytes) -> List[Event]:
         events: List[Event] = []
         state, room, limit = byref(self._state), self._buffer.address, self._limit
         at: int = cast(c_char_p(piece), c_void_p).value or room  # the library reads the bytes where they stand
         end = at + len(piece)
-        with self._lock:
-            while True:
-                event = self._push(state, room, limit, at, end - at)
-                at += event.used
-                kind = event.kind
-                if kind == _MESSAGE:
-                    events.append(string_at(room + event.start, event.length))
-                elif kind == _DAMAGED:
-                    events.append(Damaged(event.stretch))
-                elif kind == _TOO_LONG:
-                    events.append(TooLong(limit))
-                else:
-                    return events
+        while True:
+            event = self._push(state, room, limit, at, end - at)
+            at += event.used
+            kind = event.kind
+            if kind == _MESSAGE:
+                events.append(string_at(room + event.start, event.length))
+            elif kind == _DAMAGED:
+                events.append(Damaged(event.stretch))
+            elif kind == _TOO_LONG:
+                events.append(TooLong(limit))
+            else:
+                return events
+
+    def _refuse_inside(self) -> None:
+        if self._is_pushing:
+            raise RuntimeError("a call of a receiver inside a push of its own")
 
     @property
     def begun(self) -> int:
@@ -312,6 +344,7 @@ class Receiver:
     def finish(self) -> Optional[Cut]:
         """Ends the stream, and begins a new one: `Cut` where it ended inside a stretch."""
         with self._lock:
+            self._refuse_inside()
             begun = int(library().frames_c_begun(byref(self._state)))
             return Cut(begun) if library().frames_c_finish(byref(self._state)) else None
 

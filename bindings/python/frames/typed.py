@@ -13,6 +13,7 @@ from __future__ import annotations
 import ctypes
 import json
 import os
+import re
 import shutil
 import subprocess
 import tempfile
@@ -97,22 +98,34 @@ class _Stream:
     def __init__(self, of: _Type, calls: ctypes.CDLL, sentinel: int, strict: bool) -> None:
         self._of, self._calls, self._terms = of, calls, _Terms(sentinel=sentinel, strict=strict)
         self._left, self._before, self._is_closed = b"", 0, False
-        self._lock = threading.Lock()
+        self._lock, self._is_pushing = threading.RLock(), False
         self.push(b"")  # what the declarations are refused for
 
     def push(self, piece: bytes, ends: bool = False) -> List[Dict[str, Any]]:
         """The answers that these bytes bring. Threads push one after another: the room and what is left over are one receiver's."""
+        piece = bytes(memoryview(piece))
         with self._lock:
-            self._terms.ends = ends
-            given = self._left + bytes(memoryview(piece))
-            _, text, used, self._terms.inside = self._of.said(self._calls.wire_c_read, self._terms, given)
-            answers = [json.loads(line) for line in text.splitlines()]
-            for answer in answers:
-                for what, places in answer.items():
-                    if what != "value":  # counted from the first byte that the call was handed
-                        answer[what] = {name: place + self._before for name, place in places.items()}
-            self._left, self._before = (b"", 0) if ends else (given[used:], self._before + used)
-            return answers
+            if self._is_pushing:  # by a signal handler
+                raise RuntimeError("a call of a receiver inside another one")
+            try:
+                self._is_pushing = True
+                self._left += piece  # which is read again, if memory ends before it is answered
+                return self._answered(ends)
+            finally:
+                self._is_pushing = False
+                if ends:
+                    self._left, self._before, self._terms.inside = b"", 0, 0
+
+    def _answered(self, ends: bool) -> List[Dict[str, Any]]:
+        self._terms.ends = ends
+        _, text, used, inside = self._of.said(self._calls.wire_c_read, self._terms, self._left)
+        answers = [json.loads(line) for line in text.splitlines()]
+        for answer in answers:
+            for what, places in answer.items():
+                if what != "value":  # counted from the first byte that the call was handed
+                    answer[what] = {name: place + self._before for name, place in places.items()}
+        self._left, self._before, self._terms.inside = self._left[used:], self._before + used, inside
+        return answers
 
     def listen(self, source: Any, ends: bool) -> Iterator[Dict[str, Any]]:
         for piece in _pieces(source, ends, lambda: self._is_closed):
@@ -156,17 +169,55 @@ def _closed(pipe: IO[bytes]) -> None:
 def write(declarations: _Path, type_name: str, values: Iterable[Any], sentinel: int = 0, wire: Optional[str] = None) -> bytes:
     """The bytes that `wire write` makes of these values: a sentinel, and a frame and a sentinel for each.
 
+    A value may be `{"value": ..}`, as a receiver answers it. If that is also a value of the type by itself, of one with a field `value`, and
+    another one, it is a `ValueError`: write `[value]` of the type `[Type; 1]`, which has the same bytes and one meaning.
+
     A value that isn't of the type is a `ValueError`. A text or a dictionary, which is no list of values, is a `TypeError`. What is wrong with
     the declarations or the type is an `OSError`, and so is that there is neither the library nor the program (`FileNotFoundError`).
     """
-    declarations = os.fspath(declarations)
     if isinstance(values, (str, dict)):  # whose letters and keys would be taken for values
         raise TypeError("a list of values is needed, not a value alone")
-    lines = "".join(json.dumps(value) + "\n" for value in values)
+    values = list(values)
+    by_itself = {k: value for k, value in enumerate(values, 1) if isinstance(value, dict) and list(value) == ["value"]}
+    _refuse_both(os.fspath(declarations), type_name, by_itself, wire)
+    return _written(os.fspath(declarations), type_name, values, _byte(sentinel), wire)
+
+
+def _refuse_both(declarations: str, type_name: str, values: Dict[int, Any], wire: Optional[str]) -> None:
+    """Raises for the first of these values `{"value": ..}` that is of the type by itself too, and another value then."""
+    of_one = f"[{type_name}; 1]"
+    try:
+        while values:
+            try:
+                alone = _written(declarations, of_one, [[value] for value in values.values()], 0, wire)
+                break
+            except ValueError as error:  # some are no values by themselves, as usual
+                refused = {int(line) for line in re.findall(r"(?m)^(?:wire: )?line (\d+): ", str(error))}
+                values = {k: value for line, (k, value) in enumerate(values.items(), 1) if refused and line not in refused}
+    except OSError:  # said by the write itself
+        return
+    if values:
+        told = _written(declarations, type_name, values.values(), 0, wire)
+        for k, one, other in zip(values, alone[1:].split(b"\0"), told[1:].split(b"\0")):
+            if one != other:
+                raise ValueError(f'value {k}: {{"value": ..}} is of the type, and what it holds is another value: write [..] of the type {of_one}')
+
+
+def _line(value: Any) -> str:
+    try:
+        return json.dumps(value, allow_nan=False) + "\n"
+    except ValueError as error:
+        if "JSON compliant" not in str(error):
+            raise
+        raise ValueError('a float that is no number is a text: write "NaN", "Infinity" or "-Infinity"') from None
+
+
+def _written(declarations: str, type_name: str, values: Iterable[Any], sentinel: int, wire: Optional[str]) -> bytes:
+    lines = "".join(map(_line, values))
     by_library = _of_library(declarations, type_name, wire)
     if by_library is not None:
-        return by_library[0].write(lines.encode(), _byte(sentinel))
-    command = [_wire(wire), "write", declarations, type_name, f"sentinel={_byte(sentinel):02x}"]
+        return by_library[0].write(lines.encode(), sentinel)
+    command = [_wire(wire), "write", declarations, type_name, f"sentinel={sentinel:02x}"]
     done = subprocess.run(command, input=lines.encode(), capture_output=True)
     if done.returncode != 0:
         said = done.stderr.decode(errors="replace").strip() or f"wire ended with status {done.returncode}"

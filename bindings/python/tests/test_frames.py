@@ -86,7 +86,7 @@ def refuses(kind, call, *arguments):
 def test_misuse():
     """No number, text or list is taken for bytes, and no limit for the length of a buffer that isn't there."""
     assert all(refuses(ValueError, frames.Receiver, limit) for limit in (0, -1, -(1 << 40)))
-    assert all(refuses(TypeError, frames.Receiver, limit) for limit in (1.5, "8", None, b"8"))
+    assert all(refuses(TypeError, frames.Receiver, limit) for limit in (1.5, "8", None, b"8", True, float("nan")))
     assert all(refuses((MemoryError, OverflowError), frames.Receiver, 1 << bits) for bits in (62, 63, 64, 80))
     assert all(refuses(ValueError, frames.encode, b"hi", sentinel) for sentinel in (-1, 256))
     assert all(refuses(TypeError, frames.encode, b"hi", sentinel) for sentinel in (1.0, "a", None, True))
@@ -130,11 +130,78 @@ def test_write():
             sender.write(io.BytesIO(), b"inside")
             return super().write(out)
 
-    refused = []
-    inside = threading.Thread(target=lambda: refused.append(refuses(RuntimeError, sender.write, Loop(), b"hi")), daemon=True)
-    inside.start(), inside.join(timeout=5)
-    assert refused == [True], "a write inside a write waits for itself"
+    assert in_time(lambda: refuses(RuntimeError, sender.write, Loop(), b"hi")), "a write inside a write waits for itself"
     sender.write(io.BytesIO(), b"hi")
+
+    class Sends(io.BytesIO):  # and then fails: what it sent isn't what the write sends
+        def write(self, out):
+            assert refuses(RuntimeError, sender.send, b"inside") and refuses(RuntimeError, sender.sent)
+            raise OSError("the line failed")
+
+    assert refuses(OSError, sender.write, Sends(), b"hi") and sender.send(b"hi") == b"\0\4\2hi\0"
+
+
+def in_time(call):
+    """What a call in a thread returns, within five seconds."""
+    told = []
+    thread = threading.Thread(target=lambda: told.append(call()), daemon=True)
+    thread.start(), thread.join(timeout=5)
+    return told and told[0]
+
+
+def test_inside(folder):
+    """A call inside a push, as a signal handler makes it between two events, is refused, and doesn't wait for itself."""
+    receiver, damaged = frames.Receiver(8), frames.Damaged
+    try:
+        frames.Damaged = lambda length: (refuses(RuntimeError, receiver.push, b"x"), refuses(RuntimeError, receiver.finish), receiver.begun)
+        assert in_time(lambda: receiver.push(b"\x05a\0\4\2hi\0")) == [(True, True, 0), b"hi"]
+    finally:
+        frames.Damaged = damaged
+    if folder:
+        path, loads = os.path.join(folder, "inside.rs"), typed.json.loads
+        pathlib.Path(path).touch()
+        receiver = typed.TypedReceiver(path, "u8")
+        try:
+            typed.json.loads = lambda line: {"refused": {"it": refuses(RuntimeError, receiver.answers, b"")}}
+            assert in_time(lambda: receiver.answers(b"\2\7\0")) == [{"refused": {"it": 1}}]
+        finally:
+            typed.json.loads = loads
+
+
+def test_raised(folder):
+    """After what a push raises, the end of a frame isn't a message that nobody sent; typed messages are read again."""
+
+    def fails(*_):
+        raise MemoryError
+
+    line, damaged = frames.Sender().send(b"\x09\x09\x03\x01X"), frames.Damaged
+    receiver = frames.Receiver(32)
+    try:
+        frames.Damaged = fails
+        assert refuses(MemoryError, receiver.push, b"\x05a\0" + line[:5])
+    finally:
+        frames.Damaged = damaged
+    assert receiver.push(line[5:] + b"\4\2hi\0") == [b"hi"]
+    if folder:
+        path, loads = os.path.join(folder, "raised.rs"), typed.json.loads
+        pathlib.Path(path).touch()
+        stream, receiver = typed.write(path, "[u8; 3]", [[9, 2, 7], [1, 2, 3]]), typed.TypedReceiver(path, "[u8; 3]")
+        heard = []
+        try:
+            typed.json.loads = fails
+            assert refuses(MemoryError, list, receiver.listen(io.BytesIO(stream[:8])))
+        finally:
+            typed.json.loads = loads
+        heard = list(receiver.listen(io.BytesIO(stream[8:])))
+        assert heard == [{"value": [9, 2, 7]}, {"value": [1, 2, 3]}], heard
+        # nor is a stream that was answered, or wasn't, in front of the next one
+        try:
+            typed.json.loads = fails
+            assert refuses(MemoryError, receiver.answers, stream)
+        finally:
+            typed.json.loads = loads
+        assert receiver.answers(b"\1" * 70000) == [{"too_long": {"from": 0, "to": 70000}}]
+        assert receiver.answers(stream[1:]) == heard
 
 
 def test_lengths():
@@ -455,6 +522,45 @@ def test_typed_threads(folder):
     assert not wrong, wrong[:3]
 
 
+def test_value_field(folder, wire):
+    """Of a type with a field `value` no value is taken for another one: what to write is said."""
+    path = os.path.join(folder, "node.rs")
+    with open(path, "w", encoding="utf-8") as file:
+        file.write("#[derive(Serialize, Deserialize)]\npub struct Node { pub value: Option<Box<Node>> }\n")
+        file.write("#[derive(Serialize, Deserialize)]\npub struct Inner { pub value: u8 }\n")
+        file.write("#[derive(Serialize, Deserialize)]\npub struct Outer { pub value: Inner }\n")
+    none, one, two = {"value": None}, {"value": {"value": None}}, {"value": {"value": {"value": None}}}
+
+    def written(type_name, *values):
+        return typed.write(path, type_name, values, wire=wire)
+
+    assert written("Node", none) == b"\0\1\1\0" and written("Node", none, none) == b"\0\1\1\0\1\1\0"
+    for values, k in (([one], 1), ([two], 1), ([none, two, one], 2)):
+        try:
+            written("Node", *values)
+        except ValueError as error:
+            assert str(error).startswith(f"value {k}: ") and "[Node; 1]" in str(error), error
+        else:
+            raise AssertionError(f"one of two values was sent for {values}")
+    assert [written("[Node; 1]", [it]) for it in (none, one, two)] == [b"\0\1\1\0", b"\0\2\1\1\0", b"\0\3\1\1\1\0"]
+    # what has one meaning goes out, by itself or as a receiver answers it; and nothing else does
+    assert written("Inner", {"value": 7}) == written("Inner", {"value": {"value": 7}}) == b"\0\2\7\0"
+    assert written("Outer", {"value": {"value": 7}}, {"value": {"value": {"value": 8}}}) == b"\0\2\7\0\2\x08\0"
+    assert all(refuses(ValueError, written, *it) for it in (("Outer", {"value": 7}), ("Inner", {"value": 256}), ("Inner", {"value": 7, "more": 1})))
+    assert written("u8", {"value": 7}, 8) == b"\0\2\7\0\2\x08\0" and refuses(OSError, written, "None", {"value": 7})
+    # a float that is no number is a text, as a receiver answers it
+    try:
+        written("f32", float("nan"))
+    except ValueError as error:
+        assert '"NaN"' in str(error), error
+    else:
+        raise AssertionError("not refused")
+    assert written("f32", "NaN") == written("f32", {"value": "NaN"})
+    loop = []
+    loop.append(loop)
+    assert refuses(ValueError, written, "u8", loop)
+
+
 def test_typed(folder, wire):
     path = os.path.join(folder, "lamp.rs")
     with open(path, "w", encoding="utf-8") as file:
@@ -538,6 +644,8 @@ def main():
     test_threads()
     test_waits()
     test_aio()
+    test_inside(None)
+    test_raised(None)
     if len(sys.argv) > 1:
         by_library = typed.library()
         os.environ.pop("WIRE_LIBRARY", None)  # a wheel has its own, or none
@@ -545,10 +653,14 @@ def main():
         wire = os.environ.pop("WIRE", None)
         if by_library is not None:
             test_typed(sys.argv[1], None)
+            test_inside(sys.argv[1])
+            test_raised(sys.argv[1])
+            test_value_field(sys.argv[1], None)
             test_typed_threads(sys.argv[1])
         if wire:
             os.environ["WIRE"] = wire
             test_typed(sys.argv[1], wire)
+            test_value_field(sys.argv[1], wire)
         test_both(rng, sys.argv[1])
 
 
