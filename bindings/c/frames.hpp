@@ -3,6 +3,10 @@
 #ifndef FRAMES_HPP
 #define FRAMES_HPP
 
+#if __cplusplus < 201703L
+#error "frames.hpp: C++17 or later is needed: -std=c++17"
+#endif
+
 #include <frames.h>
 
 #include <cstddef>
@@ -51,6 +55,28 @@ class receiver {
     struct frames_receiver state_;
     std::vector<std::uint8_t> buffer_;
     kind kind_;
+    bool pushing_ = false;
+
+    // Takes bytes from `at` on, up to the first event.
+    struct frames_event step(bytes piece, std::size_t &at) {
+        const auto call = kind_ == kind::plain ? frames_push_plain : frames_push;
+        const struct frames_event e = call(&state_, buffer_.data(), buffer_.size(), piece.data() + at, piece.size() - at);
+        at += e.used;
+        return e;
+    }
+    static bool brought(const struct frames_event &e) { return e.kind != FRAMES_MORE && e.kind != FRAMES_MISUSED; }
+    // What of a piece isn't taken yet: it is at the end, also if `hear` throws. Else the next push could begin inside a frame, and the end of
+    // one be received as a message that nobody sent.
+    struct rest {
+        receiver &of;
+        bytes piece;
+        std::size_t at;
+        ~rest() {
+            while (at < piece.size() && brought(of.step(piece, at))) {
+            }
+            of.pushing_ = false;
+        }
+    };
 
   public:
     explicit receiver(std::size_t limit, kind k = kind::counted, std::uint8_t sentinel = 0)
@@ -71,17 +97,20 @@ class receiver {
         return *this;
     }
 
-    // Calls `hear` with each event of the piece, in order. If `hear` throws, the rest of the piece is dropped.
-    template <class Hear> void push(bytes piece, Hear &&hear) {
-        const auto call = kind_ == kind::plain ? frames_push_plain : frames_push;
-        for (std::size_t at = 0;;) {
-            const struct frames_event e = call(&state_, buffer_.data(), buffer_.size(), piece.data() + at, piece.size() - at);
-            at += e.used;
+    // Calls `hear` with each event of the piece, in order, and returns true. If `hear` throws, the events of the rest of the piece are
+    // dropped. Inside `hear` a push to the same receiver takes nothing and returns false: its bytes would come before the rest of the piece.
+    template <class Hear> bool push(bytes piece, Hear &&hear) {
+        if (pushing_)
+            return false;
+        pushing_ = true;
+        rest left{*this, piece, 0};
+        for (;;) {
+            const struct frames_event e = step(piece, left.at);
             switch (e.kind) {
             case FRAMES_MESSAGE: hear(event{message{bytes(buffer_.data() + e.start, e.length)}}); break;
             case FRAMES_DAMAGED: hear(event{damaged{e.stretch}}); break;
             case FRAMES_TOO_LONG: hear(event{too_long{}}); break;
-            default: return;
+            default: return e.kind == FRAMES_MORE;
             }
         }
     }
@@ -98,28 +127,43 @@ class receiver {
 class sender {
     struct frames_sender state_;
     kind kind_;
+    bool sending_ = false;
 
   public:
     explicit sender(kind k = kind::counted, std::uint8_t sentinel = 0) : state_(frames_sender(sentinel)), kind_(k) {}
     sender(const sender &) = delete;
     sender &operator=(const sender &) = delete;
-    sender(sender &&other) noexcept : state_(std::exchange(other.state_, frames_sender(other.state_.sentinel))), kind_(other.kind_) {}
+    sender(sender &&other) noexcept : state_(std::exchange(other.state_, frames_sender(other.state_.sentinel))), kind_(other.kind_) {
+        other.sending_ = false;
+    }
     sender &operator=(sender &&other) noexcept {
         state_ = std::exchange(other.state_, frames_sender(other.state_.sentinel));
         kind_ = other.kind_;
+        sending_ = other.sending_ = false;
         return *this;
     }
 
     // Sends over a line: `write(bytes)` returns whether all of them went out, as a bool, or throws. After a failure the next send begins
-    // with a sentinel, so that it is received.
+    // with a sentinel, so that it is received. Inside `write` a send by the same sender writes nothing and returns false: its bytes would
+    // come inside those of the first. What `hear` of a receiver sends is no such send, unless `write` led to it.
     template <class Write> bool send(bytes content, Write &&write) {
         static_assert(std::is_same_v<std::invoke_result_t<Write &, bytes>, bool>, "write returns a bool: a count, as -1, would mean success");
+        if (sending_)
+            return false;
         std::vector<std::uint8_t> out(frames_most_encoded_length(content.size()) + 14);
         const auto call = kind_ == kind::plain ? frames_send_plain : frames_send;
         const struct frames_written w = call(&state_, content.data(), content.size(), out.data(), out.size());
-        if (w.status != FRAMES_OK || !write(bytes(out.data(), w.length)))
+        if (w.status != FRAMES_OK)
             return false;
-        frames_sent(&state_);
+        const struct turn {
+            bool &is;
+            ~turn() { is = false; }
+        } ends{sending_};
+        sending_ = true;
+        if (!write(bytes(out.data(), w.length)))
+            return false;
+        if (sending_) // else `write` moved this sender away: the next send begins with a sentinel
+            frames_sent(&state_);
         return true;
     }
 };

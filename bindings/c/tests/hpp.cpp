@@ -1,4 +1,4 @@
-// frames.hpp: a send that is interrupted, one behind it, in pieces; moves; one frame; sums.
+// frames.hpp: a send that is interrupted, one behind it, in pieces; moves; calls inside calls; callbacks that throw; one frame; sums.
 #include <frames.hpp>
 
 #include <array>
@@ -20,7 +20,70 @@ static void holds(bool it, int line) {
 
 static std::string text(frames::bytes b) { return std::string(b.begin(), b.end()); }
 
+// A send inside a send, and a push inside a push, change nothing of the outer one, and say so.
+static void inside() {
+    std::string line;
+    frames::sender sender;
+    const std::string outer = "outer", inner = "inner", last = "last";
+    auto whole = [&](frames::bytes b) { return line.append(b.begin(), b.end()), true; };
+    const bool sent = sender.send(outer, [&](frames::bytes b) {
+        HOLDS(!sender.send(inner, whole) && line.empty()); // nothing of it goes out
+        line.append(b.begin(), b.begin() + 4);
+        HOLDS(!sender.send(inner, whole) && line.size() == 4);
+        return false;
+    });
+    HOLDS(!sent && sender.send(last, whole) && sender.send(outer, [&](frames::bytes b) { return whole(b) && !sender.send(inner, whole); }));
+    try {
+        sender.send(outer, [](frames::bytes) -> bool { throw 1; });
+        HOLDS(false);
+    } catch (int) {
+    }
+    HOLDS(sender.send(last, whole)); // a throw ends the send
+    std::vector<std::string> heard;
+    frames::receiver receiver(32);
+    auto note = [&](const frames::event &e) {
+        if (auto *m = std::get_if<frames::message>(&e))
+            heard.push_back(text(m->content));
+        else
+            heard.push_back("damaged");
+        HOLDS(!receiver.push(std::string("\0\2\0", 3), [](const frames::event &) { HOLDS(false); }));
+    };
+    HOLDS(receiver.push(line, note));
+    HOLDS((heard == std::vector<std::string>{"damaged", "last", "outer", "last"}));
+    // a receiver answers by a sender, and a line that loops back finds it sending
+    std::string answers;
+    HOLDS(receiver.push(line, [&](const frames::event &) { HOLDS(sender.send(inner, [&](frames::bytes b) { return answers.append(b.begin(), b.end()), true; })); }));
+    int refused = 0;
+    HOLDS(sender.send(outer, [&](frames::bytes b) { return receiver.push(b, [&](const frames::event &) { refused += !sender.send(inner, whole); }); }));
+    HOLDS(refused == 1);
+    // a sender that is moved away by its own write begins with a sentinel, and so does the one that it became
+    frames::sender taker;
+    HOLDS(sender.send(outer, [&](frames::bytes) { return taker = std::move(sender), true; }));
+    auto begins = [](frames::bytes b) { return *b.begin() == 0; };
+    HOLDS(sender.send(outer, begins) && taker.send(outer, begins));
+}
+
+// A `hear` that throws loses the events of the rest of the piece, and no more: the end of a frame isn't received as a message.
+static void throws() {
+    frames::receiver receiver(32);
+    std::string line;
+    frames::sender sender;
+    sender.send(std::string("\x09\x09\x03\x01X"), [&](frames::bytes b) { return line.append(b.begin(), b.end()), true; });
+    const std::string hi("\0\4\2hi\0", 6);
+    try {
+        receiver.push(hi + hi + line.substr(0, 5), [](const frames::event &) { throw 1; });
+        HOLDS(false);
+    } catch (int) {
+    }
+    HOLDS(receiver.begun() == 4);
+    std::vector<std::string> heard;
+    HOLDS(receiver.push(line.substr(5), [&](const frames::event &e) { heard.push_back(text(std::get<frames::message>(e).content)); }));
+    HOLDS((heard == std::vector<std::string>{"\x09\x09\x03\x01X"}));
+}
+
 int main() {
+    inside();
+    throws();
     using vector = std::vector<std::uint8_t>;
     frames::sender sender;
     vector line;
