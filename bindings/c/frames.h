@@ -28,6 +28,10 @@
 #ifndef FRAMES_H
 #define FRAMES_H
 
+#if !defined(__cplusplus) && defined(__STRICT_ANSI__) && (!defined(__STDC_VERSION__) || __STDC_VERSION__ < 199901L)
+#error "frames.h: C99 or later is needed: -std=c99"
+#endif
+
 #include <stdbool.h>
 #include <stddef.h>
 #include <stdint.h>
@@ -55,7 +59,8 @@ enum frames_kind {
     FRAMES_MESSAGE = 1,  /* a message, in the buffer until the next push */
     FRAMES_DAMAGED = 2,  /* a stretch that is no frame, or whose message isn't counted where it should be */
     FRAMES_TOO_LONG = 3, /* a stretch with more bytes than the buffer has */
-    FRAMES_MISUSED = 4   /* more bytes are begun than the buffer has, or a pointer is null: nothing changed */
+    FRAMES_MISUSED = 4   /* more bytes are begun than the buffer has, a pointer is null, or the length is that of a read that failed (-1):
+                            nothing changed */
 };
 
 /* What was written: how many bytes, 0 where it was refused. */
@@ -132,6 +137,9 @@ struct frames_written frames_c_unseal(const uint8_t *message, size_t length);
 
 /* Whether a buffer may be handed on. */
 static inline bool frames_is_there(const void *bytes, size_t length) { return bytes || length == 0; }
+
+/* Whether bytes may be pushed: not where a read failed, and its -1 was handed on as their length. */
+static inline bool frames_is_read(const void *bytes, size_t length) { return frames_is_there(bytes, length) && length <= SIZE_MAX / 2; }
 
 /* A pointer that isn't null, in place of one to nothing. */
 static inline const uint8_t *frames_from(const uint8_t *bytes) {
@@ -212,7 +220,7 @@ static inline struct frames_receiver frames_receiver(uint8_t sentinel) { return 
  * none is FRAMES_DAMAGED, and bytes behind the counted ones are ignored. */
 static inline struct frames_event frames_push(struct frames_receiver *receiver, uint8_t *buffer, size_t room, const uint8_t *bytes,
                                               size_t length) {
-    if (!receiver || !frames_is_there(buffer, room) || !frames_is_there(bytes, length)) {
+    if (!receiver || !frames_is_there(buffer, room) || !frames_is_read(bytes, length)) {
         struct frames_event null = {0, 0, 0, 0, FRAMES_MISUSED};
         return null;
     }
@@ -222,7 +230,7 @@ static inline struct frames_event frames_push(struct frames_receiver *receiver, 
 /* The same of plain messages, which stand in front of the buffer: event.start is 0. */
 static inline struct frames_event frames_push_plain(struct frames_receiver *receiver, uint8_t *buffer, size_t room,
                                                     const uint8_t *bytes, size_t length) {
-    if (!receiver || !frames_is_there(buffer, room) || !frames_is_there(bytes, length)) {
+    if (!receiver || !frames_is_there(buffer, room) || !frames_is_read(bytes, length)) {
         struct frames_event null = {0, 0, 0, 0, FRAMES_MISUSED};
         return null;
     }

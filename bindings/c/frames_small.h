@@ -8,13 +8,18 @@
  *     struct frames_small_receiver receiver = {0};   a new receiver for the sentinel zero; frames_small_new_receiver for another
  *     struct frames_small_sender sender = {0};       likewise
  *
- * What you owe: the buffer of a receiver is the same at each call; pointers aren't null unless their length is 0.
+ * What you owe: the buffer of a receiver is the same at each call; pointers aren't null unless their length is 0; no call is made inside
+ * another one with the same receiver or sender, as by `put` or by an interrupt.
  *
  * What is proved and what isn't. The functions between the lines `PROVED` and `END` are a transcription of the crate frames_small, which is
  * proved; `.ci/small` translates that crate line by line and compares. The tests for null pointers and the struct of an event aren't in
  * it. That a C compiler does with these lines what the crate does is tested: crates/frames_small/README.md. */
 #ifndef FRAMES_SMALL_H
 #define FRAMES_SMALL_H
+
+#if !defined(__cplusplus) && defined(__STRICT_ANSI__) && (!defined(__STDC_VERSION__) || __STDC_VERSION__ < 199901L)
+#error "frames_small.h: C99 or later is needed: -std=c99"
+#endif
 
 #include <stdbool.h>
 #include <stddef.h>

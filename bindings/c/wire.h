@@ -14,11 +14,14 @@
  * What the caller must keep to, and nothing can check:
  * - a pointer that isn't null points to as many bytes as its length says, which may be read, and written if it isn't to const;
  * - what is written overlaps nothing else that the call is handed;
- * - a length is below 2^63;
  * - malloc, realloc and free are of one allocator, which aligns a block of 2^k bytes or a multiple to 2^k, up to 16.
  * A null pointer is allowed if its length is 0; otherwise the call returns WIRE_NULL. */
 #ifndef WIRE_H
 #define WIRE_H
+
+#if !defined(__cplusplus) && defined(__STRICT_ANSI__) && (!defined(__STDC_VERSION__) || __STDC_VERSION__ < 199901L)
+#error "wire.h: C99 or later is needed: -std=c99"
+#endif
 
 #include <stddef.h>
 #include <stdint.h>
@@ -37,7 +40,7 @@ enum wire_status {
     WIRE_WRONG = 2,     /* the declarations or the type can't be taken: the text says why, in lines */
     WIRE_REFUSED = 3,   /* wire_write alone: some lines aren't of the type: the text says why, in lines `line K: ..`; nothing is written */
     WIRE_NO_MEMORY = 4, /* malloc gave none: nothing changed */
-    WIRE_NULL = 255     /* a pointer is null, and its length isn't 0: nothing changed */
+    WIRE_NULL = 255     /* a pointer is null, and its length isn't 0; or a length is that of a read that failed (-1): nothing changed */
 };
 
 /* How frames are read or written. A flag is set if it isn't 0; {0} is the delimiter 0 and no flag. */
@@ -68,11 +71,11 @@ struct wire_said wire_c_write(const uint8_t *declarations, size_t declarations_l
 
 /* ---- What to call. Each looks for null pointers and calls the function of its name. ---- */
 
-/* Whether one of these is null and isn't empty. */
+/* Whether one of these is null and isn't empty, or has a length that no memory has. */
 static inline int wire_is_null(const void *declarations, size_t declarations_length, const void *type, size_t type_length, const void *terms,
                                const void *from, size_t length, const void *room, size_t room_length) {
     return (!declarations && declarations_length != 0) || (!type && type_length != 0) || !terms || (!from && length != 0) ||
-           (!room && room_length != 0);
+           (!room && room_length != 0) || (declarations_length | type_length | length | room_length) > SIZE_MAX / 2;
 }
 
 /* A pointer that isn't null, in place of one to nothing. */
@@ -100,7 +103,8 @@ static inline struct wire_said wire_read(const char *declarations, size_t declar
 }
 
 /* Puts the frame of each line of JSON in front of the room, with the delimiter that ends it. Write a delimiter before the first frame of
- * a stream, as a receiver may have begun before you did. */
+ * a stream, as a receiver may have begun before you did. A line is a value, or {"value":..} as wire_read prints it. If it can be both,
+ * as of a type with a field `value`, it is the latter: for one meaning write it as [..] of the type `[T; 1]`, which has the same bytes. */
 static inline struct wire_said wire_write(const char *declarations, size_t declarations_length, const char *type, size_t type_length,
                                           const struct wire_terms *terms, const char *lines, size_t length, uint8_t *room,
                                           size_t room_length) {

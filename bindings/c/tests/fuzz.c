@@ -367,6 +367,9 @@ static void misusing(void) {
     CHECK(e.kind == FRAMES_MESSAGE && e.used == 5 && e.stretch == 4 && e.start == 1 && e.length == 2 && memcmp(buffer + 1, "hi", 2) == 0);
     r = frames_receiver(0);
     CHECK(frames_push(NULL, buffer, 8, b, 1).kind == FRAMES_MISUSED);
+    /* a read that failed, whose -1 is handed on */
+    CHECK(frames_push(&r, buffer, 8, b, (size_t)-1).kind == FRAMES_MISUSED && frames_push_plain(&r, buffer, 8, b, (size_t)-1).kind == FRAMES_MISUSED);
+    CHECK(frames_begun(&r) == 0);
     CHECK(frames_push(&r, NULL, 8, b, 1).kind == FRAMES_MISUSED && frames_push(&r, buffer, 8, NULL, 1).kind == FRAMES_MISUSED);
     CHECK(frames_push(&r, buffer, 8, NULL, 0).kind == FRAMES_MORE && frames_push(&r, NULL, 0, NULL, 0).kind == FRAMES_MORE);
     CHECK(frames_push(&r, NULL, 0, b, 3).kind == FRAMES_TOO_LONG);

@@ -71,6 +71,10 @@ static void nulls(void) {
     CHECK(wire_write(NULL, 1, "u8", 2, &terms, "7", 1, (uint8_t *)room, 8).status == WIRE_NULL);
     CHECK(wire_write("", 0, "u8", 2, &terms, NULL, 1, (uint8_t *)room, 8).status == WIRE_NULL);
     CHECK(wire_write("", 0, "u8", 2, &terms, "7", 1, NULL, 8).status == WIRE_NULL);
+    /* a read that failed, whose -1 is handed on */
+    CHECK(wire_read("", (size_t)-1, "u8", 2, &terms, stream, 1, room, 8).status == WIRE_NULL);
+    CHECK(wire_read("", 0, "u8", 2, &terms, stream, (size_t)-1, room, 8).status == WIRE_NULL);
+    CHECK(wire_write("", 0, "u8", 2, &terms, "7", (size_t)-1, (uint8_t *)room, 8).status == WIRE_NULL);
     /* nothing is nothing, also by a null pointer */
     CHECK(wire_read(NULL, 0, "u8", 2, &terms, NULL, 0, NULL, 0).status == WIRE_DONE);
     CHECK(wire_write(NULL, 0, "u8", 2, &terms, NULL, 0, NULL, 0).status == WIRE_DONE);
