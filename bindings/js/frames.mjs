@@ -5,20 +5,28 @@
 // Messages are counted unless `plain` is said: each that is received was sent, whatever broke off. README.md says what that means.
 
 let compiled;
+const byteLength = Object.getOwnPropertyDescriptor(ArrayBuffer.prototype, "byteLength").get;
+/** Whether it is an ArrayBuffer, also one of another realm, such as a frame of a page or a test's sandbox. */
+function isBuffer(it) {
+  try { return byteLength.call(it) >= 0; } catch { return false; }
+}
 
 /** Compiles the module: a URL, a Response, its bytes or a WebAssembly.Module; `frames.wasm` beside this file if none is given. */
 export async function load(source = new URL("frames.wasm", import.meta.url)) {
   if (typeof source === "string" && source.startsWith("file:")) source = new URL(source); // as import.meta.resolve returns it in Node
-  if (source instanceof WebAssembly.Module) compiled = source;
-  else if (ArrayBuffer.isView(source) || source instanceof ArrayBuffer) compiled = await WebAssembly.compile(source);
-  else if (source instanceof URL && source.protocol === "file:") {
+  const module = source instanceof WebAssembly.Module ? source : await WebAssembly.compile(await wasmOf(source));
+  if (!WebAssembly.Module.exports(module).some(({ name }) => name === "frames_c_push")) throw new TypeError("frames: this module isn't frames.wasm");
+  compiled = module;
+}
+async function wasmOf(source) {
+  if (ArrayBuffer.isView(source) || isBuffer(source)) return source;
+  if (source instanceof URL && source.protocol === "file:") {
     const { readFile } = await import("node:fs/promises");
-    compiled = await WebAssembly.compile(await readFile(source));
-  } else {
-    const response = await (source instanceof Response ? source : fetch(source));
-    if (!response.ok) throw new Error(`frames: ${response.url}: ${response.status}`);
-    compiled = await WebAssembly.compile(await response.arrayBuffer()); // also where a server doesn't say that it is WebAssembly
+    return readFile(source);
   }
+  const response = await (source instanceof Response ? source : fetch(source));
+  if (!response.ok) throw new Error(`frames: ${response.url}: ${response.status}`);
+  return response.arrayBuffer(); // also where a server doesn't say that it is WebAssembly
 }
 
 const CHUNK = 65536;
@@ -70,7 +78,7 @@ const instance = () => (shared ??= new Instance());
 
 /** A plain view of bytes. Those of a buffer that was transferred are gone: to make the view throws a TypeError then. */
 function bytesOf(it) {
-  if (it instanceof ArrayBuffer) return new Uint8Array(it);
+  if (isBuffer(it)) return new Uint8Array(it);
   if (ArrayBuffer.isView(it)) return new Uint8Array(it.buffer, it.byteOffset, it.byteLength);
   throw new TypeError("frames: bytes are needed: a Uint8Array, another view or an ArrayBuffer");
 }

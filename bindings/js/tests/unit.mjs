@@ -5,6 +5,7 @@ import { File } from "node:buffer";
 import { getEventListeners } from "node:events";
 import { readFileSync } from "node:fs";
 import { Readable } from "node:stream";
+import { runInNewContext } from "node:vm";
 import * as frames from "../frames.mjs";
 import { Files, Lines, logLine, Writing } from "../page/lines.mjs";
 import { Wrong } from "../table.mjs";
@@ -236,6 +237,10 @@ function refusals() {
     assert.throws(() => new frames.Sender().send(it), /detached/);
     assert.throws(() => frames.seal(it), /detached/);
   }
+  // bytes of another realm are bytes, and what only says so isn't
+  for (const it of ["new Uint8Array([9, 8])", "new Uint8Array([9, 8]).buffer"]) assert.deepEqual(frames.encode(runInNewContext(it)), Uint8Array.of(3, 9, 8));
+  assert.throws(() => frames.encode({ [Symbol.toStringTag]: "ArrayBuffer", byteLength: 3, length: 3 }), /bytes are needed/);
+  assert.throws(() => frames.encode(new SharedArrayBuffer(3)), /bytes are needed/);
   // a class of one's own over bytes changes nothing of them
   class Own extends Uint8Array { static get [Symbol.species]() { return Array; } subarray() { return new Own(0); } }
   assert.deepEqual(new frames.Receiver(8).push(Own.from(HI)).map((it) => it.kind), ["message"]);
@@ -264,6 +269,7 @@ function refusals() {
 
 refusals();
 await frames.load(import.meta.resolve("../frames.wasm")); // a URL as a text
+await assert.rejects(frames.load(Uint8Array.of(0, 97, 115, 109, 1, 0, 0, 0)), /isn't frames.wasm/); // another module
 await frames.load(process.env.FRAMES_WASM ? readFileSync(process.env.FRAMES_WASM) : undefined);
 await streams();
 await ends();
