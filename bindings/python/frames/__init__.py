@@ -32,7 +32,7 @@ from ctypes import POINTER, Structure, addressof, byref, c_bool, c_char_p, c_siz
 from dataclasses import dataclass
 from operator import index
 from threading import RLock
-from typing import Any, Callable, Iterator, List, Optional, Protocol, Union
+from typing import Any, Callable, Iterator, List, NoReturn, Optional, Protocol, Union
 
 __all__ = [
     "Cut", "Damaged", "Event", "Invalid", "Receiver", "Sender", "TooLong",
@@ -213,6 +213,13 @@ def _byte(sentinel: int) -> int:
     return index(sentinel)
 
 
+class _Single:
+    """Of a line there is one: a copy would have a state of its own, and not know what the other one wrote or read."""
+
+    def __reduce_ex__(self, protocol: Any) -> NoReturn:
+        raise TypeError(f"a {type(self).__name__} isn't copied: a line has one")
+
+
 class _Line(Protocol):
     """What a sender writes to: a file object, a socket's file, a port of pyserial, which is no `BinaryIO`."""
 
@@ -221,7 +228,7 @@ class _Line(Protocol):
     def flush(self) -> object: ...
 
 
-class Sender:
+class Sender(_Single):
     """Makes what goes out for each message."""
 
     def __init__(self, sentinel: int = 0, plain: bool = False) -> None:
@@ -236,15 +243,12 @@ class Sender:
         message = _bytes(message)
         with self._lock:
             self._refuse_inside()
-            return self._made(message)
-
-    def _made(self, message: bytes) -> bytes:
-        room = len(message) + len(message) // 254 + 16
-        dest = _Room(room)
-        written = self._send(byref(self._state), message, len(message), dest.address, room)
-        if written.status != _OK:
-            raise AssertionError("the room is enough for every message")
-        return dest.front(written.length)
+            room = len(message) + len(message) // 254 + 16
+            dest = _Room(room)
+            written = self._send(byref(self._state), message, len(message), dest.address, room)
+            if written.status != _OK:
+                raise AssertionError("the room is enough for every message")
+            return dest.front(written.length)
 
     def sent(self) -> None:
         """Says that all bytes of the last send went out."""
@@ -263,27 +267,22 @@ class Sender:
         a write, by the line itself or a signal handler, is a `RuntimeError`. A writer of asyncio has no count to return: `frames.aio.Line`
         sends over that.
         """
-        message = _bytes(message)
         with self._lock:
-            self._refuse_inside()
+            out = memoryview(self.send(message))
             try:
                 self._is_writing = True
-                self._write(line, message)
+                while out:
+                    count = line.write(out)
+                    if not count or count < 0:  # as a write of C says that it failed
+                        raise OSError("the line takes nothing")
+                    out = out[count:]
+                line.flush()
             finally:
                 self._is_writing = False
-
-    def _write(self, line: _Line, message: bytes) -> None:
-        out = memoryview(self._made(message))
-        while out:
-            count = line.write(out)
-            if not count or count < 0:  # as a write of C says that it failed
-                raise OSError("the line takes nothing")
-            out = out[count:]
-        line.flush()
-        library().frames_c_sent(byref(self._state))
+            self.sent()
 
 
-class Receiver:
+class Receiver(_Single):
     """Hears the messages of a stream that comes in pieces, with stretches of at most `limit` bytes, for which it has a buffer."""
 
     def __init__(self, limit: int, sentinel: int = 0, plain: bool = False) -> None:

@@ -4,12 +4,14 @@ usage: test_frames.py [FOLDER]
 """
 import array
 import asyncio
+import copy
 import ctypes
 import fcntl
 import gc
 import io
 import os
 import pathlib
+import pickle
 import random
 import select
 import struct
@@ -139,6 +141,16 @@ def test_write():
             raise OSError("the line failed")
 
     assert refuses(OSError, sender.write, Sends(), b"hi") and sender.send(b"hi") == b"\0\4\2hi\0"
+
+    class Sealing(frames.Sender):
+        def send(self, message):
+            return super().send(frames.seal(message))
+
+    line, sealing = io.BytesIO(), Sealing()
+    sealing.write(line, b"hi"), sealing.write(line, b"yo")
+    assert [frames.unseal(it) for it in frames.Receiver(16).push(line.getvalue())] == [b"hi", b"yo"]
+    for one in (frames.Sender(), sealing, frames.Receiver(8)):
+        assert all(refuses(TypeError, call, one) for call in (copy.copy, copy.deepcopy, pickle.dumps)), one
 
 
 def in_time(call):
