@@ -263,24 +263,31 @@ function receiverOf(limit, options) {
     finish: () => receiver.finish(),
   };
 }
-// the chunks of a source, which `end` gives back, also while a read waits: what that had read already goes to `late`
+// the chunks of a source, which `end` gives back, also while a read waits. If that was one of an iterable, what it brings later goes to `late`.
 function chunksOf(source, late) {
   const reader = typeof source?.getReader === "function" ? source.getReader() : undefined;
   const chunks = reader ? undefined : (async function* () { yield* source; })();
+  const over = { done: true };
   let wake, ended;
   return {
-    read: () => ended ? { done: true } : new Promise((go, no) => {
-      wake = () => go({ done: true });
-      (reader ? reader.read() : chunks.next()).then((it) => {
+    read: () => ended ? over : new Promise((go, no) => {
+      wake = () => go(over);
+      (reader ?? { read: () => chunks.next() }).read().then((it) => {
         wake = undefined;
-        if (ended && !it.done) late(it.value); else go(it);
-      }, (error) => { wake = undefined; no(error); }).catch(() => {}); // of what is late: nobody asks for it any more
+        if (ended && chunks && !it.done) late(it.value); else go(it);
+      }, (error) => {
+        wake = undefined;
+        if (ended) go(over); else no(error);
+      }).catch(() => {}); // of what is late: nobody asks for it any more
     }),
     end() {
       if (ended) return ended;
-      if (reader) reader.releaseLock(); // ends a read that waits: what comes then stays in the stream
-      else if (wake) source.destroy?.(); // a stream of Node, as `for await` leaves it
-      ended = chunks?.return() ?? Promise.resolve();
+      if (!chunks) {
+        reader.releaseLock(); // refuses the read that waits, unless its bytes have come: those that come later stay in the stream
+        return (ended = Promise.resolve());
+      }
+      if (wake) source.destroy?.(); // a stream of Node, as `for await` leaves it
+      ended = chunks.return();
       ended.catch(() => {}); // said by who awaits it
       if (!wake) return ended;
       wake();

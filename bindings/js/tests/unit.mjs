@@ -127,6 +127,15 @@ async function ends() {
     await within(again.return());
     assert.throws(() => frames.receiverStream(receiver, { sentinel: 0 }), /give no options with it/);
   }
+  // a message that came as the wait was ended is what was waited for
+  {
+    const [stream, to] = open(), events = frames.receive(stream, 8), waits = events.next();
+    await soon();
+    to.enqueue(HI);
+    const over = events.return();
+    assert.deepEqual((await within(waits)).value?.bytes, Uint8Array.of(104, 105));
+    assert.equal((await within(over)).done, true);
+  }
   // a signal between two events: neither is the next one given, nor is the stream kept
   const [stream, to] = open(), stop = new AbortController(), events = frames.receive(stream, 8, { signal: stop.signal });
   to.enqueue(Uint8Array.of(...HI, ...HI));
