@@ -74,7 +74,10 @@ class Instance {
 
 // what calls share that take and return bytes; and what receivers share, `held` of which is the one whose state is in it
 let shared, receiving, held;
-const instance = () => (shared ??= new Instance());
+// The memory of a module doesn't shrink: where it was once large, another instance takes its place.
+const LARGE = 1 << 26;
+const notLarge = (it) => (it && it.bytes.length <= LARGE ? it : new Instance());
+const instance = () => (shared = notLarge(shared));
 
 /** A plain view of bytes. Those of a buffer that was transferred are gone: to make the view throws a TypeError then. */
 function bytesOf(it) {
@@ -113,10 +116,10 @@ export class Receiver {
   }
   /** The instance, with this receiver's state in it; that of another one is put aside. */
   #held() {
-    const it = receiving;
-    if (held === this) return it;
+    if (held === this) return receiving;
     held?.#putAside();
     held = undefined;
+    const it = (receiving = notLarge(receiving));
     it.reserve(BUFFER + this.#begun.length);
     it.put(0, this.#state);
     it.put(BUFFER, this.#begun);

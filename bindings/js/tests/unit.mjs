@@ -181,6 +181,24 @@ function many() {
     if (it.at >= it.line.length) it.at = 0;
   }
 }
+/** A large message doesn't keep the module's memory: what is used next is small again, and receivers keep their states. */
+async function large() {
+  const made = [], { Instance } = WebAssembly;
+  WebAssembly.Instance = function (...words) { const it = new Instance(...words); made.push(it); return it; };
+  try {
+    const own = await import("../frames.mjs?large"); // with instances of its own
+    await own.load(process.env.FRAMES_WASM ? readFileSync(process.env.FRAMES_WASM) : undefined);
+    const one = new own.Receiver(2 ** 27), two = new own.Receiver(8), sender = new own.Sender(), lengths = () => made.map((it) => it.exports.memory.buffer.byteLength);
+    assert.equal(made.length, 2);
+    two.push(HI.subarray(0, 4));
+    const line = sender.send(new Uint8Array(7e7).fill(7));
+    assert.ok(one.push(line.subarray(0, 7e7)).length === 0 && lengths().every((it) => it > 7e7));
+    assert.deepEqual(two.push(HI.subarray(4)).map((it) => it.kind), ["message"]);
+    assert.deepEqual(sender.send(Uint8Array.of(104, 105)), HI);
+    assert.ok(made.length === 4 && lengths().slice(2).every((it) => it < 1e7), `${lengths()}`);
+    assert.deepEqual(one.push(line.subarray(7e7)).map((it) => [it.kind, it.bytes.length]), [["message", 7e7]]);
+  } finally { WebAssembly.Instance = Instance; }
+}
 /** Where memory ends inside a push, all its bytes were taken: what comes next isn't taken for a frame that nobody sent. */
 function noMemory() {
   const receiver = new frames.Receiver(32), line = new frames.Sender().send(Uint8Array.of(9, 9, 3, 1, 88)), { slice } = Uint8Array.prototype;
@@ -283,6 +301,7 @@ await frames.load(process.env.FRAMES_WASM ? readFileSync(process.env.FRAMES_WASM
 await streams();
 await ends();
 many();
+await large();
 noMemory();
 await dropped();
 lines();
