@@ -81,8 +81,8 @@ const instance = () => (shared = notLarge(shared));
 
 /** A plain view of bytes. Those of a buffer that was transferred are gone: to make the view throws a TypeError then. */
 function bytesOf(it) {
-  if (isBuffer(it)) return new Uint8Array(it);
   if (ArrayBuffer.isView(it)) return new Uint8Array(it.buffer, it.byteOffset, it.byteLength);
+  if (isBuffer(it)) return new Uint8Array(it);
   throw new TypeError("frames: bytes are needed: a Uint8Array, another view or an ArrayBuffer");
 }
 /** What the options of a call say. What would be ignored is refused: `new Receiver(8, 10)`, `{ delimiter: 10 }`. */
