@@ -286,7 +286,8 @@ function chunksOf(source, late) {
     end() {
       if (ended) return ended;
       if (!chunks) {
-        reader.releaseLock(); // refuses the read that waits, unless its bytes have come: those that come later stay in the stream
+        // refuses the read that waits, unless its bytes have come: those that come later stay in the stream
+        try { reader.releaseLock(); } catch { reader.cancel().then(() => reader.releaseLock()).catch(() => {}); } // engines before 2022
         return (ended = Promise.resolve());
       }
       if (wake) source.destroy?.(); // a stream of Node, as `for await` leaves it

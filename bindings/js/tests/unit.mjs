@@ -136,6 +136,16 @@ async function ends() {
     assert.deepEqual((await within(waits)).value?.bytes, Uint8Array.of(104, 105));
     assert.equal((await within(over)).done, true);
   }
+  // an engine that releases no reader while a read waits: the stream is cancelled
+  {
+    let go, released = 0;
+    const reader = { read: () => new Promise((it) => { go = it; }), async cancel() { go({ done: true }); go = undefined; }, releaseLock() { if (go) throw new TypeError("a read waits"); released++; } };
+    const events = frames.receive({ getReader: () => reader }, 8), waits = events.next();
+    await soon();
+    await within(events.return());
+    await soon();
+    assert.deepEqual([(await within(waits)).done, released], [true, 1]);
+  }
   // a signal between two events: neither is the next one given, nor is the stream kept
   const [stream, to] = open(), stop = new AbortController(), events = frames.receive(stream, 8, { signal: stop.signal });
   to.enqueue(Uint8Array.of(...HI, ...HI));
