@@ -96,7 +96,7 @@ class _Stream:
     """A stream of frames of a type, as it comes."""
 
     def __init__(self, of: _Type, calls: ctypes.CDLL, sentinel: int, strict: bool) -> None:
-        self._of, self._calls, self._terms = of, calls, _Terms(sentinel=sentinel, strict=strict)
+        self._of, self._calls, self._terms = of, calls, _Terms(sentinel=sentinel, strict=bool(strict))
         self._left, self._before, self._is_closed = b"", 0, False
         self._lock, self._is_pushing = threading.RLock(), False
         self.push(b"")  # what the declarations are refused for
@@ -172,15 +172,15 @@ def write(declarations: _Path, type_name: str, values: Iterable[Any], sentinel: 
     A value may be `{"value": ..}`, as a receiver answers it. If that is also a value of the type by itself, of one with a field `value`, and
     another one, it is a `ValueError`: write `[value]` of the type `[Type; 1]`, which has the same bytes and one meaning.
 
-    A value that isn't of the type is a `ValueError`. A text or a dictionary, which is no list of values, is a `TypeError`. What is wrong with
+    A value that isn't of the type is a `ValueError`. A text, bytes or a dictionary, which is no list of values, is a `TypeError`. What is wrong with
     the declarations or the type is an `OSError`, and so is that there is neither the library nor the program (`FileNotFoundError`).
     """
-    if isinstance(values, (str, dict)):  # whose letters and keys would be taken for values
+    if isinstance(values, (str, dict, bytes, bytearray, memoryview)):  # whose letters, keys and bytes would be taken for values
         raise TypeError("a list of values is needed, not a value alone")
     values = list(values)
     by_itself = {k: value for k, value in enumerate(values, 1) if isinstance(value, dict) and list(value) == ["value"]}
-    _refuse_both(os.fspath(declarations), type_name, by_itself, wire)
-    return _written(os.fspath(declarations), type_name, values, _byte(sentinel), wire)
+    _refuse_both(os.fsdecode(declarations), type_name, by_itself, wire)
+    return _written(os.fsdecode(declarations), type_name, values, _byte(sentinel), wire)
 
 
 def _refuse_both(declarations: str, type_name: str, values: Dict[int, Any], wire: Optional[str]) -> None:
@@ -233,9 +233,16 @@ class _Process:
         self._said = tempfile.TemporaryFile()
         self._feeder: Optional[threading.Thread] = None
         self._failure: Optional[BaseException] = None
+        self._is_used = False
         self._process = subprocess.Popen(words, stdin=subprocess.PIPE, stdout=subprocess.PIPE, stderr=self._said)
 
+    def _begin(self) -> None:
+        if self._is_used:
+            raise ValueError("the program answers one stream: make another receiver")
+        self._is_used = True
+
     def listen(self, source: Any, ends: bool) -> Iterator[Dict[str, Any]]:
+        self._begin()
         self._feeder = threading.Thread(target=self._feed, args=(source, ends), daemon=True)
         self._feeder.start()
         assert self._process.stdout is not None
@@ -248,6 +255,8 @@ class _Process:
             raise self._failure
 
     def answers(self, stream: bytes) -> List[Dict[str, Any]]:
+        stream = bytes(memoryview(stream))
+        self._begin()
         out, _ = self._process.communicate(stream)
         self.close()
         return [json.loads(line) for line in out.splitlines()]
@@ -290,7 +299,7 @@ class TypedReceiver:
     """
 
     def __init__(self, declarations: _Path, type_name: str, sentinel: int = 0, strict: bool = False, wire: Optional[str] = None) -> None:
-        declarations = os.fspath(declarations)
+        declarations = os.fsdecode(declarations)
         by_library = _of_library(declarations, type_name, wire)
         self._is_closed = False
         self._by: Union[_Stream, _Process]
@@ -313,7 +322,7 @@ class TypedReceiver:
         return self._opened().listen(source, ends)
 
     def answers(self, stream: bytes) -> List[Dict[str, Any]]:
-        """The answers to a whole stream. Places are counted from its first byte."""
+        """The answers to a whole stream. Places are counted from its first byte. The program answers one; another is a `ValueError`."""
         return self._opened().answers(stream)
 
     def close(self) -> None:

@@ -593,6 +593,19 @@ def test_typed(folder, wire):
     assert next(heard) == answers[0]
     receiver.close(), receiver.close()
     assert refuses(ValueError, receiver.answers, stream) and refuses(ValueError, receiver.listen, io.BytesIO(stream))
+    receiver = typed.TypedReceiver(path.encode(), "Reading", strict=256, wire=wire)  # what is true is strict
+    assert refuses(TypeError, receiver.answers, 5) and refuses(TypeError, receiver.answers, "ab")  # which takes nothing
+    assert receiver.answers(b"\x02\x81\x01\x01\0") == [{"damaged": {"from": 0, "to": 4}}], "an encoding that is too long"
+    if wire:
+        for call in (lambda: receiver.answers(stream), lambda: next(receiver.listen(io.BytesIO(stream)))):
+            try:
+                call()
+            except ValueError as error:
+                assert "one stream" in str(error), error
+            else:
+                raise AssertionError("not refused")
+    receiver.close()
+    assert all(refuses(TypeError, typed.write, path, "u8", values) for values in (b"ab", bytearray(b"ab"), memoryview(b"ab")))
     if not wire:  # a process answers one stream
         with typed.TypedReceiver(path, "Reading") as receiver:
             for _ in range(2):
