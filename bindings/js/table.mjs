@@ -30,8 +30,9 @@ const shown = (name) => name.replaceAll("\n", "\\n").replaceAll("\r", "\\r").rep
 
 class Source {
   constructor(bytes) {
-    if (!(bytes instanceof Uint8Array)) throw new TypeError("bytes are needed: a Uint8Array");
-    this.bytes = bytes;
+    const isBytes = ArrayBuffer.isView(bytes) && Object.prototype.toString.call(bytes) === "[object Uint8Array]"; // of any realm
+    if (!isBytes) throw new TypeError("bytes are needed: a Uint8Array");
+    this.bytes = new Uint8Array(bytes.buffer, bytes.byteOffset, bytes.byteLength); // a TypeError if they were transferred
     this.at = 0;
   }
   byte() {

@@ -2,6 +2,7 @@
 // written of that is read as the same; what isn't of the type is refused as such. Numbers at the edges of their types, by their bytes.
 // usage: node tables.mjs [ROUNDS]
 import assert from "node:assert";
+import { runInNewContext } from "node:vm";
 import { Table, Unread, Wrong } from "../table.mjs";
 
 const rounds = Number(process.argv[2] ?? 1000);
@@ -75,6 +76,10 @@ for (const it of [new ArrayBuffer(8), new DataView(new ArrayBuffer(8)), Uint16Ar
   assert.throws(() => single.read(0, it), TypeError);
   assert.throws(() => of({ kind: "u8" }).read(0, it), TypeError);
 }
+const gone = new Uint8Array(4);
+structuredClone(gone.buffer, { transfer: [gone.buffer] });
+assert.throws(() => of({ kind: "unit" }).read(0, gone), TypeError); // transferred bytes aren't none
+assert.equal(of({ kind: "u8" }).read(0, runInNewContext("new Uint8Array([7])")), "7"); // of another realm
 for (const it of [{ f: 1 }, 5, null, undefined]) assert.throws(() => single.write(0, it), /a text is needed/);
 for (const it of [undefined, 1, -1, "T"]) {
   assert.throws(() => single.read(it, new Uint8Array(4)), /no place/);
