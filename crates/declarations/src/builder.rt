@@ -85,7 +85,9 @@ pub struct Builder<'a, 'b> {
 
 /// Whether a declaration has other parameters than lifetimes.
 fn has_type_parameters(it: &Declaration<'_>) -> bool {
-    it.parameters.iter().any(|parameter| !is_lifetime(parameter))
+    it.parameters
+        .iter()
+        .any(|parameter| !is_lifetime(parameter))
 }
 
 impl<'a, 'b> Builder<'a, 'b> {
@@ -178,7 +180,13 @@ impl<'a, 'b> Builder<'a, 'b> {
             }
             self.owe_type(index);
             match String::from_str(self.alloc, it.name) {
-                Ok(name) => self.words.push(&mut self.types, Named { name, line: it.line }),
+                Ok(name) => self.words.push(
+                    &mut self.types,
+                    Named {
+                        name,
+                        line: it.line,
+                    },
+                ),
                 Err(_) => self.words.faults.note(true),
             }
         }

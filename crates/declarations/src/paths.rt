@@ -19,20 +19,19 @@ pub fn path_at(words: &[Token]) -> PathAt<'_> {
     let mut rest = words;
     for _ in 0..words.len() {
         match rest {
-            [one, two, behind @ ..]
-                if matches!((one.word, two.word), (Word::Colon, Word::Colon)) =>
-            {
-                rest = behind;
-                if matches!(front(behind), Word::Less) && !last.is_empty() {
-                    break;
+            [one, two, behind @ ..] if matches!((one.word, two.word), (Word::Colon, Word::Colon)) =>
+                {
+                    rest = behind;
+                    if matches!(front(behind), Word::Less) && !last.is_empty() {
+                        break;
+                    }
+                    if last.is_empty() {
+                        path.begin();
+                    } else {
+                        path.go(last);
+                    }
+                    last = "";
                 }
-                if last.is_empty() {
-                    path.begin();
-                } else {
-                    path.go(last);
-                }
-                last = "";
-            }
             [name, behind @ ..] if last.is_empty() && is_name(name.text.as_str()) => {
                 last = plain_name(name.text.as_str());
                 rest = behind;

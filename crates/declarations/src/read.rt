@@ -194,7 +194,9 @@ fn parts_of(node: &Node) -> &[usize] {
 
 /// Whether all these places are of nodes that can be read.
 fn are_readable(readable: &[bool], places: &[usize]) -> bool {
-    !places.iter().any(|place| !readable.get(*place).copied().unwrap_or(false))
+    !places
+        .iter()
+        .any(|place| !readable.get(*place).copied().unwrap_or(false))
 }
 
 /// Notes that nodes can't be read whose types can't be, from the last node to the first and back; and whether there were some.
@@ -202,7 +204,9 @@ fn find_unreadable(nodes: &[Node], readable: &mut [bool]) -> bool {
     let mut found = false;
     let count = nodes.len();
     for step in 0..count.saturating_mul(2) {
-        let place = count.saturating_sub(step.saturating_add(1)).max(step.saturating_sub(count));
+        let place = count
+            .saturating_sub(step.saturating_add(1))
+            .max(step.saturating_sub(count));
         let is_right = match nodes.get(place) {
             Some(node) => are_readable(readable, parts_of(node)),
             None => true,

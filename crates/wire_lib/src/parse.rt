@@ -491,11 +491,7 @@ fn named<'a, 'b>(members: &'b [(&'a str, Json<'a>)], name: &str) -> Option<&'b J
 }
 
 /// The JSON of field `i`.
-fn part<'a, 'b>(
-    names: &Names,
-    i: usize,
-    json: &'b Json<'a>,
-) -> Result<&'b Json<'a>, &'static str> {
+fn part<'a, 'b>(names: &Names, i: usize, json: &'b Json<'a>) -> Result<&'b Json<'a>, &'static str> {
     match (names, json) {
         (Names::Newtype, _) => Ok(json),
         (Names::Tuple, Json::Array(elements)) => elements.get(i).ok_or(NO_TYPE),

@@ -41,7 +41,8 @@ fn has_roots(folder: &str) -> bool {
 /// Whether a folder is the `src` of a crate, or in it. Above a whole path it may have any name.
 fn is_in_src(folder: &str) -> bool {
     let is_whole = folder.starts_with('/');
-    last_of(folder) == "src" || (!is_whole && (folder.starts_with("src/") || folder.contains("/src/")))
+    last_of(folder) == "src"
+        || (!is_whole && (folder.starts_with("src/") || folder.contains("/src/")))
 }
 
 /// The module that a file is: by its name, or by its folder's.

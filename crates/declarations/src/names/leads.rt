@@ -96,13 +96,17 @@ impl<'a> Scopes<'a> {
 
     /// Whether a module of a step has one of this name in it, under each condition.
     fn is_child_in(&self, step: Step<'a>, name: &str) -> bool {
-        self.modules.iter().any(|place| {
+        for place in &self.modules {
             let it = self.scope(*place);
-            it.name == name
+            if it.name == name
                 && it.kind != Kind::Conditional
                 && self.is_in(it.outer, step)
                 && self.children(it.outer, name).conditions == 0
-        })
+            {
+                return true;
+            }
+        }
+        false
     }
 
     /// Whether these files have a module of this name, or a crate by its folder.
@@ -131,9 +135,7 @@ impl<'a> Scopes<'a> {
         if !self.is_used(name) {
             return None;
         }
-        self.imports
-            .iter()
-            .find(|it| it.name == name && (it.scope == module || it.is_crate))
+        self.imports.iter().find(|it| it.name == name && (it.scope == module || it.is_crate))
     }
 
     /// Whether a step has a type of this name.
@@ -157,10 +159,13 @@ impl<'a> Scopes<'a> {
 
     /// Whether a `use` may bring in a module of this name from outside.
     fn is_brought(&self, name: &str) -> bool {
-        self.imports.iter().any(|it| {
+        for it in &self.imports {
             let is_it = (it.is_glob && it.is_public) || it.name == name;
-            is_it && (!it.is_inside || (!it.is_glob && it.last != name))
-        })
+            if is_it && (!it.is_inside || (!it.is_glob && it.last != name)) {
+                return true;
+            }
+        }
+        false
     }
 
     /// Notes of each `use` whether its first name is one of these files.
@@ -180,7 +185,8 @@ impl<'a> Scopes<'a> {
     pub(super) fn find_leads(&mut self) {
         for place in 0..self.imports.len() {
             let lead = match self.imports.get(place) {
-                Some(it) if !it.path.is_absolute && self.is_of_body(it.scope, it.path.root, place) =>
+                Some(it)
+                    if !it.path.is_absolute && self.is_of_body(it.scope, it.path.root, place) =>
                     Lead::Doubtful,
                 Some(it) => self.lead(self.module_of(it.scope), it.path, it.last),
                 None => Lead::Outside,
@@ -270,14 +276,18 @@ impl<'a> Scopes<'a> {
 
     /// Whether a `*` of a module, under no condition, leads to one that has a module of this name in it.
     fn is_by_star(&self, module: usize, name: &str) -> bool {
-        self.imports.iter().any(|it| {
-            it.is_glob
+        for it in &self.imports {
+            if it.is_glob
                 && it.scope == module
                 && !it.is_conditional
                 && self.is_rooted(module, it.path.root)
-                && matches!(self.place_lead(module, it.path), Lead::In(step)
-                    if self.is_child_in(step, name))
-        })
+                && let Lead::In(step) = self.place_lead(module, it.path)
+                && self.is_child_in(step, name)
+            {
+                return true;
+            }
+        }
+        false
     }
 
     /// Where the name of a crate leads.
@@ -471,7 +481,9 @@ impl<'a> Scopes<'a> {
 
     /// Whether a scope has a `use` of this name.
     pub(super) fn brings(&self, scope: usize, name: &str) -> bool {
-        self.imports.iter().any(|it| it.scope == scope && it.name == name)
+        self.imports
+            .iter()
+            .any(|it| it.scope == scope && it.name == name)
     }
 
     /// Whether a first name leads out of the files: to the crate of that name, or to what a `use` brings in from one of these.

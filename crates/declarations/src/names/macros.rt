@@ -83,7 +83,9 @@ fn is_check(name: &str) -> bool {
 
 /// Whether a name is among words.
 fn has_word(words: &[Token], name: &str) -> bool {
-    words.iter().any(|token| plain_name(token.text.as_str()) == name)
+    words
+        .iter()
+        .any(|token| plain_name(token.text.as_str()) == name)
 }
 
 impl<'a> Scopes<'a> {
@@ -155,14 +157,19 @@ impl<'a> Scopes<'a> {
 
     /// Whether a scope calls a macro of another crate, which may declare any name there.
     pub(super) fn is_by_macro(&self, scope: usize) -> bool {
-        self.calls.iter().any(|call| call.is_foreign && call.scope == scope)
+        self.calls
+            .iter()
+            .any(|call| call.is_foreign && call.scope == scope)
     }
 
     /// Whether a name is handed to a macro in a step, which may declare it there.
     pub(super) fn is_handed(&self, step: Step<'a>, name: &str) -> bool {
-        self.calls
-            .iter()
-            .any(|call| self.is_in(call.scope, step) && has_word(call.inside, name))
+        for call in &self.calls {
+            if self.is_in(call.scope, step) && has_word(call.inside, name) {
+                return true;
+            }
+        }
+        false
     }
 
     /// Whether a module that neither declares nor brings in a name hands it to a macro.
@@ -180,10 +187,14 @@ impl<'a> Scopes<'a> {
 
     /// Whether another scope of a step calls a macro that may declare a name there.
     pub(super) fn is_handed_beside(&self, step: Step<'a>, scope: usize, name: &str) -> bool {
-        self.calls.iter().any(|call| {
-            call.scope != scope
+        for call in &self.calls {
+            if call.scope != scope
                 && self.is_in(call.scope, step)
                 && (call.is_foreign || has_word(call.inside, name))
-        })
+            {
+                return true;
+            }
+        }
+        false
     }
 }

@@ -375,21 +375,31 @@ impl<'a> Scopes<'a> {
 
     /// Whether a `*` in a step or round it, or one that passes on its names from elsewhere, may bring in another than was found.
     fn may_pass(&self, step: Step<'a>, found: &Found<'a>, name: &str, space: Space) -> bool {
-        self.imports.iter().any(|it| {
-            it.is_glob
-                && (it.is_public || self.is_seen(it.scope, step) || self.is_passed(it, step))
-                && self.may_bring(it, found, name, space)
-        })
+        for it in &self.imports {
+            let is_near = it.is_glob
+                && (it.is_public || self.is_seen(it.scope, step) || self.is_passed(it, step));
+            if is_near && self.may_bring(it, found, name, space) {
+                return true;
+            }
+        }
+        false
     }
 
     /// Whether a `*` leads to the module into which another file's words are brought.
     fn is_passed(&self, included: &Import<'a>, step: Step<'a>) -> bool {
-        included.is_included()
-            && self.imports.iter().any(|it| {
-                it.is_glob
-                    && (it.is_public || self.is_in(it.scope, step))
-                    && matches!(it.lead, Lead::In(there) if self.is_in(included.scope, there))
-            })
+        if !included.is_included() {
+            return false;
+        }
+        for it in &self.imports {
+            if it.is_glob
+                && (it.is_public || self.is_in(it.scope, step))
+                && let Lead::In(there) = it.lead
+                && self.is_in(included.scope, there)
+            {
+                return true;
+            }
+        }
+        false
     }
 
     /// Whether a scope is one of a step's, or round one of them.
@@ -398,16 +408,25 @@ impl<'a> Scopes<'a> {
             Step::Scope(own) => self.is_round(scope, own),
             // the scope of a file is at its place
             Step::File(file) => self.is_in(scope, step) || self.is_round(scope, file),
-            _ => (0..self.scopes.len())
-                .any(|place| self.is_in(place, step) && self.is_round(scope, place)),
+            _ => {
+                for place in 0..self.scopes.len() {
+                    if self.is_in(place, step) && self.is_round(scope, place) {
+                        return true;
+                    }
+                }
+                false
+            }
         }
     }
 
     /// Whether a step has a `use` that may pass a name on.
     fn passes_on(&self, step: Step<'a>, name: &str) -> bool {
-        self.imports
-            .iter()
-            .any(|it| (it.is_glob || it.name == name) && self.is_in(it.scope, step))
+        for it in &self.imports {
+            if (it.is_glob || it.name == name) && self.is_in(it.scope, step) {
+                return true;
+            }
+        }
+        false
     }
 
     /// Whether a `*` may bring in another than was found. A known crate has no other of a known name.
@@ -444,7 +463,9 @@ impl<'a> Scopes<'a> {
 
     /// Whether a scope has a `*`.
     pub(super) fn has_star(&self, scope: usize) -> bool {
-        self.imports.iter().any(|it| it.is_glob && it.scope == scope)
+        self.imports
+            .iter()
+            .any(|it| it.is_glob && it.scope == scope)
     }
 
     /// What the last name of a path stands for, which a scope uses.
@@ -476,8 +497,8 @@ impl<'a> Scopes<'a> {
     {
         match self.step(step, name, space) {
             Found::In(_, there)
-                if self.has_star_beside(step, there)
-                    || self.is_handed_beside(step, there, name) => Found::Two,
+                if self.has_star_beside(step, there) || self.is_handed_beside(step, there, name) =>
+                Found::Two,
             Found::Not if self.is_handed(step, name) => Found::Wrong(HANDED),
             Found::Not if !self.passes_on(step, name) => Found::Wrong(NOT_THERE),
             Found::Not if self.may_pass(step, &Found::Not, name, space) => Found::Wrong(BY_STAR),
@@ -500,19 +521,26 @@ impl<'a> Scopes<'a> {
 
     /// Whether a `use` of a step may lead to a scope under a name, by one of these files or more.
     fn is_reached(&self, step: Step<'a>, there: usize, name: &str) -> bool {
-        self.imports.iter().any(|it| {
-            (it.is_glob || it.name == name)
+        for it in &self.imports {
+            if (it.is_glob || it.name == name)
                 && self.is_in(it.scope, step)
-                && matches!(it.lead, Lead::In(next)
-                    if self.is_in(there, next) || self.passes_on(next, name))
-        })
+                && let Lead::In(next) = it.lead
+                && (self.is_in(there, next) || self.passes_on(next, name))
+            {
+                return true;
+            }
+        }
+        false
     }
 
     /// Whether another scope of a step has a `*`.
     fn has_star_beside(&self, step: Step<'a>, scope: usize) -> bool {
-        self.imports
-            .iter()
-            .any(|it| it.is_glob && it.scope != scope && self.is_in(it.scope, step))
+        for it in &self.imports {
+            if it.is_glob && it.scope != scope && self.is_in(it.scope, step) {
+                return true;
+            }
+        }
+        false
     }
 
     /// Appends the paths of what a name may stand for, each once.
