@@ -242,6 +242,11 @@ impl<'a> Parser<'a> {
     /// Takes what precedes the first of these words that nothing encloses, and refuses a mark in it.
     fn skip_to(&mut self, ends: &[&str]) {
         let (skipped, rest) = up_to(self.at.rest, ends);
+        self.skip(skipped, rest);
+    }
+
+    /// Takes these words, which the rest follows, and refuses a mark in them.
+    fn skip(&mut self, skipped: &'a [Token], rest: &'a [Token]) {
         if first_mark(skipped).is_some() {
             return self.at.wrong(&[HIDDEN_MARK]);
         }
@@ -333,10 +338,11 @@ impl<'a> Parser<'a> {
         (parameters, lengths)
     }
 
-    /// Takes `where` and its bounds, up to fields in braces or a semicolon that nothing encloses.
+    /// Takes `where` and its bounds, in which there may be lengths in braces, up to the fields or a semicolon.
     fn bounds(&mut self) {
         if self.at.take("where") {
-            self.skip_to(&["{", ";"]);
+            let (bounds, rest) = type_up_to(self.at.rest, &["{", ";"]);
+            self.skip(bounds, rest);
         }
     }
 
