@@ -486,6 +486,13 @@ impl<'a> Scopes<'a> {
             .any(|it| it.scope == scope && it.name == name)
     }
 
+    /// Whether a step has a `use` of this name.
+    pub(super) fn is_imported(&self, step: Step<'a>, name: &str) -> bool {
+        self.imports
+            .iter()
+            .any(|it| it.name == name && self.is_in(it.scope, step))
+    }
+
     /// Whether a first name leads out of the files: to the crate of that name, or to what a `use` brings in from one of these.
     pub fn is_foreign(&self, scope: usize, root: &'a str, crates: &[&str]) -> bool {
         let module = self.module_of(scope);

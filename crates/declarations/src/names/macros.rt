@@ -3,7 +3,10 @@ use super::candidates::{Only, Space, Step};
 use super::{Import, Scopes, What};
 use declaration_parser::attributes::{behind_first, first_word, name_at, plain_name};
 use declaration_parser::items::Item;
-use declaration_parser::tokens::{Token, Word};
+use declaration_parser::tokens::{Token, Word, is_among};
+
+/// What precedes the names of functions and variables.
+const OF_VALUES: &[&str] = &[".", "fn", "let"];
 
 /// The rules of a macro.
 #[derive(Clone, Copy, Drop)]
@@ -20,6 +23,8 @@ pub(super) struct Call<'a> {
     scope: usize,
     /// Whether these files don't have the rules.
     is_foreign: bool,
+    /// Whether names that aren't among the words may be made of them.
+    is_pasted: bool,
 }
 
 /// What the rules of a call's macro say, if these files have them.
@@ -29,6 +34,8 @@ struct Making {
     /// Whether they may declare something, and whether that is a type by the first name that they are handed.
     may_declare: bool,
     is_maker: bool,
+    /// Whether they make names of others, or may call a macro whose rules do.
+    may_paste: bool,
 }
 
 /// The first name that the rules of a macro are handed, and what follows it; empty if there is none.
@@ -76,6 +83,23 @@ fn may_declare(rules: &[Token]) -> bool {
     })
 }
 
+/// Whether words make names of others, as `struct [<$a $b>]` does in `paste!`; those of functions and variables don't count.
+fn are_pasted(words: &[Token]) -> bool {
+    let mut before = "";
+    let mut rest = words;
+    for _ in 0..words.len() {
+        if let [open, first, ..] = rest
+            && matches!((open.word, first.word), (Word::Bracket, Word::Less))
+            && !is_among(before, OF_VALUES)
+        {
+            return true;
+        }
+        before = first_word(rest);
+        rest = behind_first(rest);
+    }
+    false
+}
+
 /// Whether a macro of another crate is known to declare nothing.
 fn is_check(name: &str) -> bool {
     name.starts_with("assert_") || name.starts_with("const_assert")
@@ -107,15 +131,22 @@ impl<'a> Scopes<'a> {
             has_rules: false,
             may_declare: false,
             is_maker: false,
+            may_paste: false,
         };
         for it in &self.rules {
             if it.name == name {
                 making.has_rules = true;
                 making.may_declare |= may_declare(it.inside);
                 making.is_maker |= is_maker(it.inside);
+                making.may_paste |= are_pasted(it.inside) || self.calls_paste(it.inside);
             }
         }
         making
+    }
+
+    /// Whether words may call a macro whose rules make names of others.
+    fn calls_paste(&self, words: &[Token]) -> bool {
+        self.rules.iter().any(|it| are_pasted(it.inside) && has_word(words, it.name))
     }
 
     /// Reads what the rules of a macro make by themselves where it is called, unless they are there.
@@ -150,6 +181,7 @@ impl<'a> Scopes<'a> {
                 inside: item.inside,
                 scope: item.scope,
                 is_foreign: !making.has_rules,
+                is_pasted: making.may_paste || are_pasted(item.inside),
             };
             self.failed = self.calls.push(call).is_err() || self.failed;
         }
@@ -172,6 +204,21 @@ impl<'a> Scopes<'a> {
         false
     }
 
+    /// Whether a step calls a macro that makes names of others there, and doesn't bring in this one by a `use` of it.
+    pub(super) fn is_pasted(&self, step: Step<'a>, name: &str) -> bool {
+        for call in &self.calls {
+            if call.is_pasted && self.is_in(call.scope, step) {
+                return !self.is_imported(step, name);
+            }
+        }
+        false
+    }
+
+    /// Whether a macro that a step calls may make a name there that the step doesn't declare.
+    pub(super) fn may_make(&self, step: Step<'a>, name: &str) -> bool {
+        self.is_handed(step, name) || self.is_pasted(step, name)
+    }
+
     /// Whether a module that neither declares nor brings in a name hands it to a macro.
     pub(super) fn is_handed_unknown(&self, name: &str, space: Space) -> bool {
         self.calls.iter().any(|call| {
@@ -190,7 +237,7 @@ impl<'a> Scopes<'a> {
         for call in &self.calls {
             if call.scope != scope
                 && self.is_in(call.scope, step)
-                && (call.is_foreign || has_word(call.inside, name))
+                && (call.is_foreign || call.is_pasted || has_word(call.inside, name))
             {
                 return true;
             }

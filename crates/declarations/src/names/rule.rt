@@ -193,7 +193,7 @@ impl<'a> Scopes<'a> {
             _ => false,
         };
         is_elsewhere
-            && (self.is_handed(Step::Scope(scope), name)
+            && (self.may_make(Step::Scope(scope), name)
                 || self.is_handed(Step::Scope(self.module_of(scope)), name))
     }
 
@@ -213,7 +213,7 @@ impl<'a> Scopes<'a> {
             }
             at = self.scope(at).outer;
             match self.own(at, name, space) {
-                Found::Not if !is_everywhere(name) && self.is_handed(Step::Scope(at), name) => {
+                Found::Not if !is_everywhere(name) && self.may_make(Step::Scope(at), name) => {
                     return Found::Wrong(HANDED);
                 }
                 Found::Not => {}
@@ -499,7 +499,7 @@ impl<'a> Scopes<'a> {
             Found::In(_, there)
                 if self.has_star_beside(step, there) || self.is_handed_beside(step, there, name) =>
                 Found::Two,
-            Found::Not if self.is_handed(step, name) => Found::Wrong(HANDED),
+            Found::Not if self.may_make(step, name) => Found::Wrong(HANDED),
             Found::Not if !self.passes_on(step, name) => Found::Wrong(NOT_THERE),
             Found::Not if self.may_pass(step, &Found::Not, name, space) => Found::Wrong(BY_STAR),
             Found::Not => self.passed_on(step, name, space),
