@@ -140,7 +140,8 @@ pub fn passed_over(tokens: &[Token]) -> Option<(&[Token], &[Token])> {
     match tokens {
         [_, mark, rest @ ..] if matches!(mark.word, Word::Bang) => match front(rest) {
             Word::Paren | Word::Bracket | Word::Brace => group(rest),
-            _ => group(behind_first(rest)),
+            _ if name_at(rest).is_some() => group(behind_first(rest)),
+            _ => None,
         },
         _ => None,
     }

@@ -3,11 +3,14 @@ use crate::attributes::{
     attribute, behind, behind_attribute, behind_first, first_word, front, group, is_attribute,
     name_at, passed_over, type_up_to, up_to,
 };
-use crate::tokens::{Token, Word};
+use crate::tokens::{Token, Word, is_among, is_name};
 use std::alloc::Global;
 
 /// What ends the words of an item before its body.
 const BODY: &[&str] = &["{", ";"];
+
+/// Words whose value a `!` behind them negates.
+const BEFORE_VALUE: &[&str] = &["break", "else", "if", "in", "match", "return", "while"];
 
 /// What a scope is.
 #[derive(Clone, Copy, PartialEq, Eq, Drop)]
@@ -107,6 +110,13 @@ impl Item<'_> {
             _ => 0,
         }
     }
+}
+
+/// Whether a `!` may call what the first word names, or an attribute of all that a file has begins with it: else it negates what
+/// is behind it.
+fn is_called(words: &[Token]) -> bool {
+    let word = first_word(words);
+    matches!(front(words), Word::Hash) || (is_name(word) && !is_among(word, BEFORE_VALUE))
 }
 
 /// What follows the attributes, marks and other comments at the start.
@@ -226,7 +236,7 @@ impl<'a> Walk<'a> {
         let is_quiet = words.len() > self.quiet;
         if let Some((inside, rest)) = passed_over(words)
             && (!is_quiet || rest.len() >= self.quiet)
-            && !matches!(front(words), Word::Brace)
+            && is_called(words)
         {
             item.kind = match front(words) {
                 Word::Rules => ItemKind::Rules,
