@@ -40,6 +40,12 @@ pub const IN_WORDS: &str =
 pub const BY_HAND: &str =
     "` is implemented by hand, so the bytes may be others than those of the fields: declare what is on the wire";
 
+/// Macros of other crates that implement one of serde's traits for what they are handed: the trait, and the macro.
+pub const MACROS_BY_HAND: &[(&str, &str)] = &[
+    ("Serialize", "derive_serialize_from_display"),
+    ("Deserialize", "derive_deserialize_from_fromstr"),
+];
+
 /// What is said of a condition on a field or a variant.
 pub const ON_SOME_DEVICES: &str =
     "` has this on some devices alone: take the attribute out where it is there, else what stands behind it";

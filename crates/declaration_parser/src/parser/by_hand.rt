@@ -1,16 +1,18 @@
 //! Types that are written by hand where they aren't derived: on one side, or under a condition.
 use super::Parser;
-use crate::attributes::{behind_first, front, type_up_to};
-use crate::tokens::{Read, Token, Word};
-use crate::words::BY_HAND;
+use crate::attributes::{behind_first, front, group, plain_name, type_up_to};
+use crate::tokens::{Read, Token, Word, is_among};
+use crate::words::{BY_HAND, MACROS_BY_HAND};
 use std::alloc::{AllocError, Global};
 use std::collections::BTreeMap;
 
-/// The names of one of serde's traits, and of the types of files that implement it by hand.
+/// The names of one of serde's traits, of the types of files that implement it by hand, and of macros that do so for what they are
+/// handed.
 #[derive(Drop)]
 struct Implemented<'a> {
     of: Vec<&'a str>,
     types: BTreeMap<&'a str, ()>,
+    macros: Vec<&'a str>,
 }
 
 /// What files implement by hand, so that each file is read once for all types.
@@ -25,18 +27,29 @@ impl<'a> Implemented<'a> {
     fn new(alloc: Global, name: &'a str) -> Result<Implemented<'a>, AllocError> {
         let mut of = Vec::new(alloc);
         of.push(name)?;
+        let mut macros = Vec::new(alloc);
+        for row in MACROS_BY_HAND {
+            if row.0 == name {
+                macros.push(row.1)?;
+            }
+        }
         Ok(Implemented {
             of,
             types: BTreeMap::new(alloc),
+            macros,
         })
     }
 
-    /// Adds the type after the `for` of an `impl` of this trait, with all names of the path that leads to it.
-    fn add_impl(&mut self, words: &'a [Token]) -> Result<(), AllocError> {
+    /// Adds the type after the `for` of an `impl` of this trait, with all names of the path that leads to it. If a macro is handed
+    /// it, adds the one of these rules.
+    fn add_impl(&mut self, words: &'a [Token], rules: &'a str) -> Result<(), AllocError> {
         let (head, rest) = type_up_to(words, &["for"]);
         let (_, named) = type_up_to(head, &self.of);
         if named.is_empty() {
             return Ok(());
+        }
+        if has_handed(rest) {
+            self.macros.push(rules)?;
         }
         let mut is_next = true;
         for token in behind_first(rest) {
@@ -50,6 +63,44 @@ impl<'a> Implemented<'a> {
             is_next = !is_name;
         }
         Ok(())
+    }
+
+    /// Adds all names that these tokens hand to such a macro. If rules hand it what they are handed, so does theirs.
+    fn add_calls(&mut self, tokens: &'a [Token]) -> Result<(), AllocError> {
+        let mut rules = "";
+        let mut rest = tokens;
+        for _ in 0..tokens.len() {
+            rules = rules_at(rest).unwrap_or(rules);
+            if let [name, mark, behind @ ..] = rest
+                && matches!(mark.word, Word::Bang)
+                && is_among(name.text.as_str(), &self.macros)
+                && let Some((inside, _)) = group(behind)
+            {
+                if has_handed(inside) {
+                    self.macros.push(rules)?;
+                }
+                for token in inside {
+                    if self.types.insert(plain_name(token.text.as_str()), ()).is_err() {
+                        return Err(AllocError);
+                    }
+                }
+            }
+            rest = behind_first(rest);
+        }
+        Ok(())
+    }
+}
+
+/// Whether something of what a macro is handed is among words of its rules.
+fn has_handed(words: &[Token]) -> bool {
+    words.iter().any(|token| matches!(token.word, Word::Dollar))
+}
+
+/// The name of the macro whose rules begin here.
+fn rules_at(tokens: &[Token]) -> Option<&str> {
+    match tokens {
+        [first, _, name, ..] if matches!(first.word, Word::Rules) => Some(name.text.as_str()),
+        _ => None,
     }
 }
 
@@ -65,6 +116,10 @@ impl<'a> ByHand<'a> {
         }
         for file in files {
             by_hand.add_impls(&file.tokens)?;
+        }
+        for file in files {
+            by_hand.written.add_calls(&file.tokens)?;
+            by_hand.read.add_calls(&file.tokens)?;
         }
         Ok(by_hand)
     }
@@ -89,12 +144,14 @@ impl<'a> ByHand<'a> {
 
     /// Adds the types among these tokens.
     fn add_impls(&mut self, tokens: &'a [Token]) -> Result<(), AllocError> {
+        let mut rules = "";
         let mut rest = tokens;
         for _ in 0..tokens.len() {
+            rules = rules_at(rest).unwrap_or(rules);
             if matches!(front(rest), Word::Impl) {
                 let (words, _) = type_up_to(behind_first(rest), &["{", ";"]);
-                self.written.add_impl(words)?;
-                self.read.add_impl(words)?;
+                self.written.add_impl(words, rules)?;
+                self.read.add_impl(words, rules)?;
             }
             rest = behind_first(rest);
         }
