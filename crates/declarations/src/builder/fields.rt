@@ -2,7 +2,9 @@
 use super::{Builder, DEEPEST, NOWHERE};
 use crate::Names;
 use crate::known::varint_type;
+use declaration_parser::attributes::last_word;
 use declaration_parser::declaration::{Body, Declaration, Field, Fields, Form, Layout, VariantOf};
+use declaration_parser::tokens::is_among;
 use schema_table::Node;
 
 /// What is said of a field that `with` lays out, and whose type it isn't for.
@@ -110,11 +112,12 @@ impl<'a> Builder<'a, '_> {
         if let [token, ..] = field.of {
             self.words.line = token.line;
         }
-        self.laid_out(place, field.layout)
+        let is_of_device = is_among(last_word(field.of), &["isize", "usize"]);
+        self.laid_out(place, field.layout, is_of_device)
     }
 
-    /// The place of a type whose bytes an attribute lays out otherwise.
-    fn laid_out(&mut self, place: usize, layout: Layout) -> usize {
+    /// The place of a type whose bytes an attribute lays out otherwise; one of devices is an integer as wide as their addresses.
+    fn laid_out(&mut self, place: usize, layout: Layout, is_of_device: bool) -> usize {
         let roots = roots_of(layout);
         for root in roots {
             if !self.names.is_foreign(self.here, root, roots) {
@@ -122,7 +125,12 @@ impl<'a> Builder<'a, '_> {
             }
         }
         let node = self.nodes.get(place);
-        match (layout, varint_type(node), node) {
+        let of = if is_of_device {
+            None
+        } else {
+            varint_type(node)
+        };
+        match (layout, of, node) {
             (Layout::Little, Some(of), _) => self.add(Node::LE(of), Names::Nothing),
             (Layout::Big, Some(of), _) => self.add(Node::BE(of), Names::Nothing),
             (Layout::Little | Layout::Big, ..) => self.wrong(&[NO_FIXINT]),
