@@ -140,11 +140,12 @@ pub const OF_SERDE: &[(&str, &str)] = &[
 
 /// Attributes of declarations that change no byte: those of the language, and helpers of derives that are often met.
 pub const OF_ITEMS: &str = "
-    allow arbitrary archive archive_attr arg automatically_derived backtrace br brw builder bw
-    cbor cfg clap clippy command defmt deku deny deprecated deref derivative derive diagnostic
-    display doc educe error expect facet forbid from garde get getset into max_size must_use n
-    non_exhaustive num_enum postcard proptest repr rkyv rustfmt schema schemars set source
-    specta strum strum_discriminants ts tsify typeshare validate value warn zeroize
+    allow arbitrary archive archive_attr arg automatically_derived backtrace bincode bits borsh
+    br brw builder bw cbor cfg clap clippy command defmt deku deny deprecated deref derivative
+    derive diagnostic display doc educe enumset error expect facet forbid from garde get getset
+    into max_size must_use n non_exhaustive num_enum packed_struct postcard proptest repr rkyv
+    rustfmt schema schemars set snafu source specta strum strum_discriminants try_into ts tsify
+    typeshare validate value warn zeroize
 ";
 
 /// Names that are brought in beside the types.

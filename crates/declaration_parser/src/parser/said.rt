@@ -29,6 +29,14 @@ pub(super) struct Said {
     pub(super) layout: Layout,
 }
 
+/// Derives that send a text.
+const OF_TEXTS: &[&str] = &[
+    "DeserializeFromStr",
+    "Deserialize_enum_str",
+    "SerializeDisplay",
+    "Serialize_enum_str",
+];
+
 /// How the bytes of a field are arranged, by the way that `with` names.
 fn layout_of(way: &str) -> Option<Layout> {
     match way {
@@ -110,7 +118,8 @@ impl<'a> Parser<'a> {
         match name {
             "serde" => self.read_serde(held(words), at, is_other, said),
             "serde_as" | "serde_with" if last_word(words) == "serde_as" => {}
-            "with" => self.read_way(words, at, said),
+            // that of a derive has parentheses
+            "with" if held(words).is_empty() => self.read_way(words, at, said),
             _ if name.starts_with("serde") || !is_free => self.at.refuse(name, UNKNOWN),
             "cfg" | "cfg_attr" if !is_item => self.at.refuse(name, ON_SOME_DEVICES),
             "derive" => self.read_derive(held(words)),
@@ -139,7 +148,7 @@ impl<'a> Parser<'a> {
             if is_among(name, &["Serialize_repr", "Deserialize_repr"]) {
                 self.at.refuse(name, REPR);
             }
-            if is_among(name, &["SerializeDisplay", "DeserializeFromStr"]) {
+            if is_among(name, OF_TEXTS) {
                 self.at.refuse(name, "` sends a text: where it is a field, write `String`");
             }
             rest = behind;
