@@ -182,9 +182,16 @@ impl<'a> Scopes<'a> {
             || (self.files.len() == 1 && !is_in_src(folder))
     }
 
-    /// The root of a crate that a scope is in: the one whose modules lead to it, or else the only one above its folder.
+    /// The root of a crate that a scope is in: the one whose modules lead to it, or else the only one above its folder. Words in no
+    /// file are taken as those of the only file.
     pub(super) fn root_of(&self, scope: usize) -> Option<usize> {
         let mut own = self.scope(scope).file;
+        if own >= self.files.len() {
+            if self.files.len() != 1 {
+                return None;
+            }
+            own = 0;
+        }
         for _ in 0..self.files.len() {
             if self.is_top_file(own) {
                 return Some(own);

@@ -562,12 +562,13 @@ impl<'a> Scopes<'a> {
     pub fn find_asked(&self, path: Path<'a>, name: &'a str) -> Found<'a>
         ensures only { IsOnlyOfAStep self.now name.now space.Asked result }
     {
-        let step = if path.count > 0 {
-            Step::Module(path.before)
+        // A path leads into no body.
+        let (first, second) = if path.count > 0 {
+            (Step::Module(path.before), Step::Module(path.before))
         } else {
-            Step::All
+            (Step::All, Step::Bodies)
         };
-        for step in [step, Step::Bodies] {
+        for step in [first, second] {
             match self.only(step, name, Space::Asked) {
                 Only::Nothing => {}
                 Only::One(item) => return self.found_as(item),
