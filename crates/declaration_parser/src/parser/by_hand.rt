@@ -1,6 +1,6 @@
 //! Types that are written by hand where they aren't derived: on one side, or under a condition.
 use super::Parser;
-use crate::attributes::{behind_first, front, group, plain_name, type_up_to};
+use crate::attributes::{behind_first, front, group, plain_name, type_up_to, up_to};
 use crate::tokens::{Read, Token, Word, is_among};
 use crate::words::{BY_HAND, MACROS_BY_HAND};
 use std::alloc::{AllocError, Global};
@@ -57,10 +57,47 @@ impl<'a> Implemented<'a> {
             if is_name && !is_next {
                 break;
             }
-            if is_name && self.types.insert(token.text.as_str(), ()).is_err() {
-                return Err(AllocError);
+            if is_name {
+                self.add(token)?;
             }
             is_next = !is_name;
+        }
+        Ok(())
+    }
+
+    /// Adds the name of a type.
+    fn add(&mut self, token: &'a Token) -> Result<(), AllocError> {
+        match self.types.insert(plain_name(token.text.as_str()), ()) {
+            Ok(_) => Ok(()),
+            Err(_) => Err(AllocError),
+        }
+    }
+
+    /// Whether a type of this name was found.
+    fn has(&self, token: &Token) -> bool {
+        self.types.contains_key(plain_name(token.text.as_str()))
+    }
+
+    /// Adds the types to which a `use` or an alias gives a name that was found.
+    fn add_renamed(&mut self, tokens: &'a [Token]) -> Result<(), AllocError> {
+        let mut rest = tokens;
+        for _ in 0..tokens.len() {
+            if let [own, by, name, ..] = rest
+                && matches!(by.word, Word::As)
+                && self.has(name)
+            {
+                self.add(own)?;
+            }
+            if let [of, name, behind @ ..] = rest
+                && matches!(of.word, Word::Alias)
+                && self.has(name)
+            {
+                let (words, _) = up_to(behind, &[";"]);
+                for token in words {
+                    self.add(token)?;
+                }
+            }
+            rest = behind_first(rest);
         }
         Ok(())
     }
@@ -80,9 +117,7 @@ impl<'a> Implemented<'a> {
                     self.macros.push(rules)?;
                 }
                 for token in inside {
-                    if self.types.insert(plain_name(token.text.as_str()), ()).is_err() {
-                        return Err(AllocError);
-                    }
+                    self.add(token)?;
                 }
             }
             rest = behind_first(rest);
@@ -120,6 +155,10 @@ impl<'a> ByHand<'a> {
         for file in files {
             by_hand.written.add_calls(&file.tokens)?;
             by_hand.read.add_calls(&file.tokens)?;
+        }
+        for file in files {
+            by_hand.written.add_renamed(&file.tokens)?;
+            by_hand.read.add_renamed(&file.tokens)?;
         }
         Ok(by_hand)
     }
