@@ -1,5 +1,6 @@
 //! Groups, parts and attributes, as slices of tokens.
 use crate::tokens::{Token, Word, is_among, is_name};
+use crate::words::NOT_OF_SERDE;
 
 /// Names that mark if they are in a derive, or before a name there; and `self`, which a `use` may have for one.
 const RENAMED: &[&str] = &["Deserialize", "Serialize", "self", "serde", "serde_derive"];
@@ -203,11 +204,19 @@ pub fn is_derived(words: &[Token], name: &str) -> bool {
 
 /// Another name of serde or of a derive of it, which a `use` brings in and a derive has.
 pub fn renamed_derive(tokens: &[Token]) -> Option<&Token> {
+    // The first word of the `use` that is gone over.
+    let mut root = "";
     let mut rest = tokens;
     for _ in 0..tokens.len() {
+        root = match rest {
+            [of, first, ..] if matches!(of.word, Word::Import) => first.text.as_str(),
+            [end, ..] if matches!(end.word, Word::End) => "",
+            _ => root,
+        };
         if let [own, by, name, ..] = rest
             && matches!(by.word, Word::As)
             && is_among(own.text.as_str(), RENAMED)
+            && (own.text.as_str() == "self" || !is_among(root, NOT_OF_SERDE))
             && is_derived(tokens, name.text.as_str())
         {
             return Some(name);

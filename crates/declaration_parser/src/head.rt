@@ -6,10 +6,7 @@ use crate::attributes::{
 };
 use crate::declaration::Marks;
 use crate::tokens::{Token, Word, is_among};
-use crate::words::{HAS_BY_ITSELF, NO_MARK};
-
-/// Crates that have derives of their own called as serde's are.
-const NOT_OF_SERDE: &[&str] = &["miniserde", "rkyv"];
+use crate::words::{HAS_BY_ITSELF, NO_MARK, NOT_OF_SERDE};
 
 /// Nothing is marked.
 const UNMARKED: Marks = Marks {

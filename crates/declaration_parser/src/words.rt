@@ -40,6 +40,9 @@ pub const IN_WORDS: &str =
 pub const BY_HAND: &str =
     "` is implemented by hand, so the bytes may be others than those of the fields: declare what is on the wire";
 
+/// Crates that have derives of their own called as serde's are.
+pub const NOT_OF_SERDE: &[&str] = &["miniserde", "rkyv"];
+
 /// Macros of other crates that implement one of serde's traits for what they are handed: the trait, and the macro.
 pub const MACROS_BY_HAND: &[(&str, &str)] = &[
     ("Serialize", "derive_serialize_from_display"),
