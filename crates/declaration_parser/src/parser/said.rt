@@ -46,6 +46,7 @@ fn layout_of(way: &str) -> Option<Layout> {
         "\"BigArray\"" | "\"serde_big_array::BigArray\"" | "\"serde_arrays\"" => Some(
             Layout::Array,
         ),
+        "\"::serde_big_array::BigArray\"" | "\"::serde_arrays\"" => Some(Layout::Array),
         _ => None,
     }
 }
