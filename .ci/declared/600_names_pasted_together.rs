@@ -50,3 +50,17 @@ pub mod v2 {
 
 #[derive(Serialize, Deserialize)]
 pub struct Both(pub GetLed, pub v2::GetLed);
+
+pub mod v3 {
+    pub use super::v1::*;
+
+    command!(Set, Led, u64);
+}
+
+pub mod user {
+    use super::v3::*;
+    use serde::{Deserialize, Serialize};
+
+    #[derive(Serialize, Deserialize)]
+    pub struct Held(pub SetLed);
+}

@@ -346,7 +346,18 @@ impl<'a> Scopes<'a> {
                 return self.is_handed_beside(step, there, name);
             }
         }
-        !self.is_reached(Step::Scope(module), there, name) || self.is_handed_unknown(name, space)
+        !self.is_reached(Step::Scope(module), there, name)
+            || self.is_handed_unknown(name, space)
+            || self.is_star_pasted(module, name)
+    }
+
+    /// Whether a `*` of a module leads to where a macro may make this name of others.
+    fn is_star_pasted(&self, module: usize, name: &str) -> bool {
+        self.imports.iter().any(|it| {
+            it.is_glob
+                && it.scope == module
+                && matches!(it.lead, Lead::In(step) if self.is_pasted(step, name))
+        })
     }
 
     /// What a name stands for by a step, or by all files, or if it is known.
