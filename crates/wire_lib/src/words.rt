@@ -75,9 +75,6 @@ pub struct WrongWord<'a> {
 /// The error for an argument that a mode hasn't.
 const NO_WORD: &str = "isn't an argument of this mode";
 
-/// The error for a wrong value after `=`.
-const NO_VALUE: &str = "has an invalid value";
-
 /// The error for `raw` with arguments about frames.
 const NO_FRAMES: &str =
     "means that there are no frames, so `sentinel` and `from` can't be combined with it";
@@ -149,6 +146,19 @@ fn name_of(word: &str) -> &str {
     }
 }
 
+/// The error for an argument of this name with a wrong value after `=`.
+fn why_wrong(name: &str) -> &'static str {
+    match name {
+        "sentinel" => "has an invalid value: write two hexadecimal digits, such as `sentinel=0a`",
+        "from" => "has an invalid value: write a number of bytes, such as `from=120`",
+        "bytes" => "has an invalid value: write `bytes=hex`",
+        "depth" => "has an invalid value: write a number from 1 to 1000, such as `depth=100`",
+        "empty" => "has an invalid value: write a number of elements, such as `empty=100`",
+        "only" => "has no value: write the name of a variant after it, as in `only=NAME`",
+        _ => "has a value, and takes none",
+    }
+}
+
 /// Whether a mode has an argument of this name.
 fn has_word(mode: Action, name: &str) -> bool {
     match name {
@@ -175,7 +185,7 @@ pub fn options_of<'a>(mode: Action, words: &'a [String]) -> Result<Options<'a>, 
         let Some(with) = with_word(options, word) else {
             return Err(WrongWord {
                 word,
-                why: NO_VALUE,
+                why: why_wrong(name_of(word)),
             });
         };
         options = with;
