@@ -19,7 +19,12 @@ fn is_dumb(rt: &HostRuntime) -> bool {
     }
 }
 
+/// Whether standard output is a terminal that can move its cursor: its `TERM` isn't `dumb`.
+pub fn moves_cursor(rt: &HostRuntime) -> bool {
+    rt.stdout().is_terminal() && !is_dumb(rt)
+}
+
 /// Whether what goes to standard output may have colours: it is a terminal, `TERM` isn't `dumb`, and `NO_COLOR` is missing or empty.
 pub fn wants_colour(rt: &HostRuntime) -> bool {
-    rt.stdout().is_terminal() && !is_dumb(rt) && is_unset(rt, "NO_COLOR")
+    moves_cursor(rt) && is_unset(rt, "NO_COLOR")
 }

@@ -8,7 +8,7 @@ ghost use Rattle.help.specs.Words.{help_word, version_word};
 mod colours;
 mod progress;
 
-pub use colours::wants_colour;
+pub use colours::{moves_cursor, wants_colour};
 pub use progress::Progress;
 use std::io::{self, Write};
 

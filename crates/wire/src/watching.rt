@@ -1,9 +1,8 @@
 //! The mode `watch`: on a terminal pictures, each drawn over the last; elsewhere lines.
 use crate::devices::{read_some, say};
 use crate::failure::{CLOCK_FAULT, Failure};
-use help::wants_colour;
+use help::{moves_cursor, wants_colour};
 use std::env;
-use std::io::IsTerminal;
 use std::thread::sleep;
 use std::time::{Duration, Instant};
 use wire_lib::receive::Reading;
@@ -30,6 +29,7 @@ struct Showing {
     begin: Instant,
     /// When the last picture was drawn, in milliseconds.
     drawn: u64,
+    /// Whether pictures are drawn.
     is_terminal: bool,
     /// Whether damage is red.
     colour: bool,
@@ -40,10 +40,13 @@ struct Showing {
 }
 
 // std can tell whether standard output is a terminal, but not its size.
-/// The number in a variable of the environment, or `otherwise`.
+/// The number in a variable of the environment, or `otherwise`; also if it is 0, as where a terminal doesn't know its size.
 fn number_of(rt: &HostRuntime, name: &str, otherwise: usize) -> usize {
     match env::var(rt, name) {
-        Ok(digits) => digits.as_str().parse::<usize>().unwrap_or(otherwise),
+        Ok(digits) => match digits.as_str().parse::<usize>() {
+            Ok(number) if number > 0 => number,
+            _ => otherwise,
+        },
         Err(_) => otherwise,
     }
 }
@@ -59,7 +62,7 @@ impl Showing {
         Ok(Showing {
             begin,
             drawn: 0,
-            is_terminal: rt.stdout().is_terminal(),
+            is_terminal: moves_cursor(rt),
             colour: wants_colour(rt),
             screen: Screen::new(),
             view: View {
