@@ -106,6 +106,9 @@ pub fn sources_of(rt: &HostRuntime, word: &str) -> Result<Vec<Source>, Failure> 
             add(rt, path, &mut files)?;
         }
     }
+    if files.is_empty() {
+        return Err(no_file(rt, word, "has no file whose name ends in `.rs`"));
+    }
     files.sort()?;
     let mut sources = Vec::new(rt.alloc());
     let mut met = BTreeMap::new(rt.alloc());
