@@ -1,6 +1,7 @@
 //! The mode `write`: lines as frames or messages.
 use crate::devices::{ROOM, read_some, read_whole, say, say_wrongs};
-use crate::failure::{Failure, wrong};
+use crate::failure::{Failure, of_read, wrong};
+use std::io::BufRead;
 use wire_lib::raw::message_of;
 use wire_lib::send::{FramesOfLines, Sending};
 use wire_lib::words::Options;
@@ -63,10 +64,10 @@ fn write_message(
     sending: Sending<'_>,
     hex: bool,
     number: u64,
-    line: &str,
+    line: &[u8],
 ) -> Result<bool, Failure> {
     let mut wrongs = String::new(rt.alloc());
-    match message_of(sending, line.as_bytes()) {
+    match message_of(sending, line) {
         Ok(mut message) => {
             put(rt, hex, &mut message)?;
             if hex {
@@ -83,25 +84,60 @@ fn write_message(
     }
 }
 
-/// Writes a message for each line; without `hex` only one line is allowed.
-fn write_messages(rt: &HostRuntime, sending: Sending<'_>, hex: bool) -> Result<bool, Failure> {
+/// A line without the line feed that ends it.
+fn without_feed(line: &[u8]) -> &[u8] {
+    match line {
+        [front @ .., b'\n'] => front,
+        _ => line,
+    }
+}
+
+/// A line without the carriage return that ends it.
+fn without_return(line: &[u8]) -> &[u8] {
+    match line {
+        [front @ .., b'\r'] => front,
+        _ => line,
+    }
+}
+
+/// Writes a line of digits for the message of each line as it comes, and returns whether all were values.
+fn write_lines(rt: &HostRuntime, sending: Sending<'_>) -> Result<bool, Failure> {
+    let mut input = rt.reader();
+    let mut line = Vec::new(rt.alloc());
+    let mut is_good = true;
+    let mut number: u64 = 0;
+    for _ in 0..u64::MAX {
+        line.clear();
+        if input.read_until(b'\n', &mut line).map_err(of_read)? == 0 {
+            break;
+        }
+        number = number.saturating_add(1);
+        let text = without_return(without_feed(&line));
+        is_good &= write_message(rt, sending, true, number, text)?;
+    }
+    Ok(is_good)
+}
+
+/// Writes the message of the only line of standard input, and returns whether it was a value.
+fn write_one(rt: &HostRuntime, sending: Sending<'_>) -> Result<bool, Failure> {
     let whole = read_whole(rt)?;
-    let Ok(text) = str::from_utf8(&whole) else {
-        return Err(wrong(rt, &["standard input isn't UTF-8\n"]));
-    };
-    if !hex && text.lines().count() != 1 {
+    if let Ok(text) = str::from_utf8(&whole)
+        && text.lines().count() != 1
+    {
         return Err(wrong(
             rt,
             &["`raw` without `hex` makes one message: standard input has to be one line\n"],
         ));
     }
-    let mut is_good = true;
-    let mut number: u64 = 0;
-    for line in text.lines() {
-        number = number.saturating_add(1);
-        is_good &= write_message(rt, sending, hex, number, line)?;
+    write_message(rt, sending, false, 1, without_return(without_feed(&whole)))
+}
+
+/// Writes a message for each line; without `hex` only one line is allowed.
+fn write_messages(rt: &HostRuntime, sending: Sending<'_>, hex: bool) -> Result<bool, Failure> {
+    if hex {
+        return write_lines(rt, sending);
     }
-    Ok(is_good)
+    write_one(rt, sending)
 }
 
 /// Writes a frame or a message for each line, and returns whether all were values.
