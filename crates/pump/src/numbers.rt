@@ -63,6 +63,10 @@ fn held(file: &File) -> Result<u64, NumbersError> {
     if n == 0 {
         return Ok(1);
     }
+    // there may be more, so it isn't known which number that is
+    if n >= room.len() {
+        return Err(NumbersError::NoNumber);
+    }
     match std::str::from_utf8(&room[..n]) {
         Ok(text) => text.trim_end().parse().ok().ok_or(NumbersError::NoNumber),
         Err(_) => Err(NumbersError::NoNumber),

@@ -3,6 +3,7 @@ use crate::about::{CONSOLE, DEVICE, PUMP};
 use crate::console::call_by;
 use crate::serving::serve;
 use help::{About, answer};
+use std::io::ErrorKind;
 use std::{env, io};
 
 // Writes how it is called. Returns the status.
@@ -72,8 +73,12 @@ fn words_of(rt: &HostRuntime) -> io::Result<Vec<String>> {
 fn run_or_say(rt: &HostRuntime) -> io::Result<u8> {
     match words_of(rt) {
         Ok(words) => run_by(rt, &words),
+        Err(error) if error.kind() == ErrorKind::InvalidData => {
+            eprintln!(rt; "pump: an argument isn't UTF-8")?;
+            say_usage(rt, PUMP)
+        }
         Err(error) => {
-            eprintln!(rt; "pump: the words can't be read, as where one isn't UTF-8: {error}")?;
+            eprintln!(rt; "pump: the arguments can't be read: {error}")?;
             say_usage(rt, PUMP)
         }
     }
