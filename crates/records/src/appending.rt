@@ -2,7 +2,8 @@
 
 use crate::checking::Printer;
 use crate::entries::{
-    Entry, INPUT, MOST, OUTPUT, open_file, say_error, say_failed, say_no_memory, sync_folder,
+    Entry, INPUT, MOST, OUTPUT, open_file, say_error, say_failed, say_line, say_no_memory,
+    sync_folder,
 };
 use crate::naming::{Identity, MOVED};
 use crate::settling::{Group, Settled};
@@ -45,10 +46,9 @@ fn print_numbers(rt: &HostRuntime, settled: &Settled) -> io::Result<u8> {
     Ok(0)
 }
 
-// Writes that a line is longer than a record can hold. Returns the status.
-fn say_too_long(rt: &HostRuntime) -> u8 {
-    say_failed(rt, INPUT, &"a line is too long: up to 992 bytes always fit");
-    1
+// Writes that a line is longer than a record can hold. Lines are counted from 1.
+fn say_too_long(rt: &HostRuntime, line: u64) {
+    say_line(rt, line, "is too long: up to 992 bytes always fit");
 }
 
 // The log that is appended to: its name, and the file that was opened by it.
@@ -152,12 +152,19 @@ fn read_line<R: BufRead>(alloc: Global, input: &mut R) -> io::Result<Option<Line
     Ok(Some(Line::Read(line)))
 }
 
-// The next line of text, or `Some(None)` if it is too long; nothing at the end of the input; the status at an error.
-fn next_text<R: BufRead>(rt: &HostRuntime, input: &mut R) -> Result<Option<Option<String>>, u8> {
+// The next line of text, which has this number, or `Some(None)` if it is too long; nothing at the end of the input; the status at an error.
+fn next_text<R: BufRead>(
+    rt: &HostRuntime,
+    input: &mut R,
+    number: u64,
+) -> Result<Option<Option<String>>, u8> {
     match read_line(rt.alloc(), input) {
         Ok(Some(Line::Read(line))) => match String::from_utf8(line) {
             Ok(text) => Ok(Some(Some(text))),
-            Err(_) => Err(say_failed(rt, INPUT, &"a line isn't UTF-8")),
+            Err(_) => {
+                say_line(rt, number, "isn't UTF-8: it isn't appended, nor what follows it");
+                Err(3)
+            }
         },
         Ok(Some(Line::TooLong)) => Ok(Some(None)),
         Ok(None) => Ok(None),
@@ -181,29 +188,31 @@ fn append_text(
     journal: &mut Journal<Log, MOST>,
     group: &mut Group,
     text: String,
+    line: u64,
 ) -> Next {
     let entry = Sealed((journal.next(), text));
     match group.append(journal, &entry) {
         Ok(()) => Next::Appended,
         Err(AppendError::Refused(_)) => {
-            say_too_long(to.rt);
+            say_too_long(to.rt, line);
             Next::LeftOut
         }
         Err(e) => Next::Failed(say_failed(to.rt, to.path, &e)),
     }
 }
 
-// Appends the next line of the input.
+// Appends the next line of the input, which has this number.
 fn append_next<R: BufRead>(
     to: Target<'_>,
     input: &mut R,
     journal: &mut Journal<Log, MOST>,
     group: &mut Group,
+    line: u64,
 ) -> Next {
-    match next_text(to.rt, input) {
-        Ok(Some(Some(text))) => append_text(to, journal, group, text),
+    match next_text(to.rt, input, line) {
+        Ok(Some(Some(text))) => append_text(to, journal, group, text, line),
         Ok(Some(None)) => {
-            say_too_long(to.rt);
+            say_too_long(to.rt, line);
             Next::LeftOut
         }
         Ok(None) => Next::Ended,
@@ -220,8 +229,10 @@ fn append_lines(to: Target<'_>, journal: Journal<Log, MOST>) -> io::Result<u8> {
     let mut journal = journal;
     let mut group = Group::new(&journal);
     let mut status = 0u8;
+    let mut line = 0u64;
     for _ in 0..u64::MAX {
-        match append_next(to, &mut input, &mut journal, &mut group) {
+        line = line.saturating_add(1);
+        match append_next(to, &mut input, &mut journal, &mut group, line) {
             Next::Appended => {}
             Next::LeftOut => status = 1,
             Next::Ended => return settle_last(to, journal, group, status),

@@ -81,6 +81,12 @@ pub fn say_failed<W: Display>(rt: &HostRuntime, file: &str, what: &W) -> u8 {
     3
 }
 
+/// Writes what is wrong with the line of standard input that has this number.
+pub fn say_line(rt: &HostRuntime, line: u64, what: &str) {
+    // if this fails, the status is the same
+    let _ = eprintln!(rt; "records: {INPUT}: line {line} {what}");
+}
+
 /// Writes that an allocation failed, and returns the status 4.
 pub fn say_no_memory(rt: &HostRuntime, file: &str) -> u8 {
     say_failed(rt, file, &"out of memory");

@@ -34,7 +34,7 @@ use crate::following::follow;
 use crate::showing::show;
 use crate::words::{NO_OPTION, TOO_MANY, Wanted, WrongArgument, wanted_by};
 use help::answer;
-use std::io::IsTerminal;
+use std::io::{ErrorKind, IsTerminal};
 use std::process::ExitCode;
 use std::{env, io};
 
@@ -135,7 +135,11 @@ fn run(rt: &HostRuntime) -> io::Result<u8> {
     };
     let words = match words_of(rt) {
         Ok(words) => words,
-        Err(e) => return Ok(say_error(rt, "its words", &e)),
+        Err(e) if e.kind() == ErrorKind::InvalidData => {
+            eprintln!(rt; "records: an argument isn't UTF-8")?;
+            return Ok(2);
+        }
+        Err(e) => return Ok(say_error(rt, "the arguments", &e)),
     };
     match answer(&mut rt.stdout(), ABOUT, &words) {
         Some(Ok(())) => Ok(0),
