@@ -62,13 +62,16 @@ pub fn checked_of(rt: &HostRuntime, files: &str) -> Result<Checked, Failure> {
     }
 }
 
-/// Prints the maximum size of a declared type, or that it can't be read.
+/// Prints the maximum size of a declared type, or that it can't be read; nothing of a mark before what is no declaration.
 pub fn say_type(
     rt: &HostRuntime,
     name: &str,
     is_readable: bool,
     size: Option<u64>,
 ) -> Result<(), Failure> {
+    if name.is_empty() {
+        return Ok(());
+    }
     let said = match size {
         _ if !is_readable => println!(rt; "{name}: can't be read"),
         Some(size) => println!(rt; "{name}: {size} bytes at most"),
