@@ -46,10 +46,20 @@ pub fn sync_folder(rt: &HostRuntime, path: &str) -> u8 {
     match open_folder(rt, path) {
         Ok(opened) => match opened.sync_all() {
             Ok(()) => 0,
-            Err(e) => say_error(rt, path, &e),
+            Err(e) => say_unsynced(rt, path, &e),
         },
-        Err(e) => say_error(rt, path, &e),
+        Err(e) => say_unsynced(rt, path, &e),
     }
+}
+
+// Writes why the folder of a file isn't synced, and returns the status.
+fn say_unsynced(rt: &HostRuntime, path: &str, e: &io::Error) -> u8 {
+    if e.kind() == ErrorKind::OutOfMemory {
+        return say_no_memory(rt, path);
+    }
+    // if this fails too, the status is the same
+    let _ = eprintln!(rt; "records: {path}: its folder isn't synced: {e}");
+    3
 }
 
 /// The null device.
