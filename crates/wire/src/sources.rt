@@ -30,6 +30,15 @@ fn is_made(name: &str) -> bool {
     name.starts_with('.') || name == "target"
 }
 
+/// Why a folder can't be listed.
+fn why_unlisted(error: &io::Error) -> &'static str {
+    match error.kind() {
+        ErrorKind::PermissionDenied => "can't be listed: permission denied",
+        ErrorKind::InvalidFilename => "can't be listed: a name in it isn't UTF-8",
+        _ => "can't be listed",
+    }
+}
+
 /// Adds a folder's own files to `files`, and its folders to `folders`.
 fn add_entries(
     rt: &HostRuntime,
@@ -37,12 +46,14 @@ fn add_entries(
     folders: &mut Vec<String>,
     files: &mut Vec<String>,
 ) -> Result<(), Failure> {
-    let Ok(entries) = fs::read_dir(rt, folder) else {
-        return Err(no_file(rt, folder, "can't be listed"));
+    let entries = match fs::read_dir(rt, folder) {
+        Ok(entries) => entries,
+        Err(error) => return Err(no_file(rt, folder, why_unlisted(&error))),
     };
     for entry in entries {
-        let Ok(entry) = entry else {
-            return Err(no_file(rt, folder, "can't be listed"));
+        let entry = match entry {
+            Ok(entry) => entry,
+            Err(error) => return Err(no_file(rt, folder, why_unlisted(&error))),
         };
         let path = String::from_str(rt.alloc(), entry.path().path_text())?;
         if is_made(entry.file_name()) {
