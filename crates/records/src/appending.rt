@@ -162,7 +162,11 @@ fn next_text<R: BufRead>(
         Ok(Some(Line::Read(line))) => match String::from_utf8(line) {
             Ok(text) => Ok(Some(Some(text))),
             Err(_) => {
-                say_line(rt, number, "isn't UTF-8: it isn't appended, nor what follows it");
+                say_line(
+                    rt,
+                    number,
+                    "isn't UTF-8: it isn't appended, nor what follows it",
+                );
                 Err(3)
             }
         },
