@@ -144,7 +144,14 @@ pub fn watch(rt: &HostRuntime, reading: Reading<'_>) -> Result<bool, Failure> {
     let mut shown = Showing::new(rt)?;
     let mut room = [0u8; ROOM];
     for _ in 0..u64::MAX {
-        let count = read_some(rt, &mut room)?;
+        let count = match read_some(rt, &mut room) {
+            Ok(count) => count,
+            Err(failure) => {
+                // as of a port that was unplugged: what came before is shown
+                shown.end(rt, &viewer.table)?;
+                return Err(failure);
+            }
+        };
         if count == 0 {
             break;
         }
