@@ -59,7 +59,13 @@ fn add_entries(
         if is_made(entry.file_name()) {
             continue;
         }
-        if matches!(entry.file_type(), Ok(kind) if kind.is_dir()) {
+        let is_folder = match entry.file_type() {
+            Ok(kind) => kind.is_dir(),
+            // it was removed meanwhile
+            Err(error) if error.kind() == ErrorKind::NotFound => false,
+            Err(error) => return Err(no_file(rt, path.as_str(), why_not(&error))),
+        };
+        if is_folder {
             folders.push(path)?;
         } else if path.ends_with(ENDING) && !is_endless(rt, path.as_str()) {
             files.push(path)?;
