@@ -40,10 +40,12 @@ fn console_by(rt: &HostRuntime, words: &[String]) -> io::Result<u8> {
     if let Some(status) = answered(rt, CONSOLE, words)? {
         return Ok(status);
     }
-    match call_by(rt, words)? {
-        Some(status) => Ok(status),
-        None => say_usage(rt, CONSOLE),
+    if let Some(status) = call_by(rt, words)? {
+        return Ok(status);
     }
+    let status = say_usage(rt, CONSOLE)?;
+    eprintln!(rt; "       NUMBER and TIMES are whole numbers below 2^64, MILLILITRES below 2^32")?;
+    Ok(status)
 }
 
 // Runs the mode that the arguments name.
