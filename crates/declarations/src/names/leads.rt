@@ -488,9 +488,12 @@ impl<'a> Scopes<'a> {
 
     /// Whether a step has a `use` of this name.
     pub(super) fn is_imported(&self, step: Step<'a>, name: &str) -> bool {
-        self.imports
-            .iter()
-            .any(|it| it.name == name && self.is_in(it.scope, step))
+        for it in &self.imports {
+            if it.name == name && self.is_in(it.scope, step) {
+                return true;
+            }
+        }
+        false
     }
 
     /// Whether a first name leads out of the files: to the crate of that name, or to what a `use` brings in from one of these.

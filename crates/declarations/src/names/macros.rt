@@ -146,7 +146,9 @@ impl<'a> Scopes<'a> {
 
     /// Whether words may call a macro whose rules make names of others.
     fn calls_paste(&self, words: &[Token]) -> bool {
-        self.rules.iter().any(|it| are_pasted(it.inside) && has_word(words, it.name))
+        self.rules
+            .iter()
+            .any(|it| are_pasted(it.inside) && has_word(words, it.name))
     }
 
     /// Reads what the rules of a macro make by themselves where it is called, unless they are there.

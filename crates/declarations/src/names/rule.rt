@@ -353,11 +353,16 @@ impl<'a> Scopes<'a> {
 
     /// Whether a `*` of a module leads to where a macro may make this name of others.
     fn is_star_pasted(&self, module: usize, name: &str) -> bool {
-        self.imports.iter().any(|it| {
-            it.is_glob
+        for it in &self.imports {
+            if it.is_glob
                 && it.scope == module
-                && matches!(it.lead, Lead::In(step) if self.is_pasted(step, name))
-        })
+                && let Lead::In(step) = it.lead
+                && self.is_pasted(step, name)
+            {
+                return true;
+            }
+        }
+        false
     }
 
     /// What a name stands for by a step, or by all files, or if it is known.
