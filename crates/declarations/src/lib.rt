@@ -13,5 +13,7 @@ mod numbers;
 mod paths;
 mod read;
 
-pub use read::{Checked, Error, Source, check_sources, read_schema, read_sources, read_type};
+pub use read::{
+    CheckedSources, Error, Source, check_sources, read_schema, read_sources, read_type,
+};
 pub use schema_table::{Named, Names, Schema};

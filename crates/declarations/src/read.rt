@@ -42,7 +42,7 @@ impl From<AllocError> for Error {
 
 /// What files declare, and whether it can be read.
 #[derive(Drop)]
-pub struct Checked {
+pub struct CheckedSources {
     /// One table of all types. It begins with those that are declared without parameters.
     pub schema: Schema,
     /// Of each node whether it can be read.
@@ -242,14 +242,14 @@ fn readable_of(alloc: Global, nodes: &[Node]) -> Result<Vec<bool>, AllocError> {
 /// # Errors
 /// - `Wrong`: no file is given.
 /// - `OutOfMemory`.
-pub fn check_sources(alloc: Global, sources: &[Source]) -> Result<Checked, Error>
+pub fn check_sources(alloc: Global, sources: &[Source]) -> Result<CheckedSources, Error>
     ensures named { IfOk result (λ c. length c.schema.names.items ≡ length c.schema.nodes.items) }
     ensures declared { IfOk result (λ c. length c.schema.types.items ≤ length c.schema.nodes.items) }
 {
     let files = tokens_in(alloc, sources)?;
     let (schema, wrong) = table_of(alloc, &files)?;
     let readable = readable_of(alloc, &schema.nodes)?;
-    Ok(Checked {
+    Ok(CheckedSources {
         schema,
         readable,
         wrong,

@@ -23,7 +23,7 @@ use crate::reading::read;
 use crate::types::{checked_of, say_type, schema_of, type_of};
 use crate::watching::watch;
 use crate::writing::write;
-use declarations::{Checked, Schema};
+use declarations::{CheckedSources, Schema};
 use help::answer;
 use std::alloc::{AllocError, Global};
 use std::env;
@@ -48,7 +48,7 @@ const USAGE: &str =
 
 /// Lists the types of files, and reports why some can't be read.
 fn list_types(rt: &HostRuntime, files: &str) -> Ran {
-    let Checked {
+    let CheckedSources {
         schema,
         readable,
         wrong,

@@ -1,7 +1,7 @@
 //! The types that files declare.
 use crate::failure::{Failure, WRITE_FAULT};
 use crate::sources::sources_of;
-use declarations::{Checked, Error, Schema, Source, check_sources, read_sources, read_type};
+use declarations::{CheckedSources, Error, Schema, Source, check_sources, read_sources, read_type};
 
 /// The failure for an error in declarations.
 fn failure_of(error: Error) -> Failure {
@@ -54,7 +54,7 @@ pub fn type_of(rt: &HostRuntime, files: &str, words: &str) -> Result<(Schema, us
 }
 
 /// Returns what these files declare.
-pub fn checked_of(rt: &HostRuntime, files: &str) -> Result<Checked, Failure> {
+pub fn checked_of(rt: &HostRuntime, files: &str) -> Result<CheckedSources, Failure> {
     let sources = sources_of(rt, files)?;
     match check_sources(rt.alloc(), &sources) {
         Ok(checked) => Ok(checked),
