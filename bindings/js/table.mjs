@@ -1,6 +1,8 @@
 // Values of message types by the table that `wire check FILES json` prints: bytes of postcard as JSON, and JSON as bytes. What it prints and
 // refuses is what the program `wire` does. It is tested against the vectors of `wire` and not proved; see README.md.
 
+const TOO_DEEP = "the value is nested too deeply: `depth=` sets the limit";
+
 /** Why a line of JSON isn't a value of the type: `why`, and the way to it, as `history[3].light.Lit`. */
 export class Wrong extends Error {
   constructor(why, path = "") {
@@ -197,7 +199,7 @@ export function parseJson(text, depth = 2 * GREATEST_DEPTH) {
     return read;
   };
   const value = (left) => {
-    if (left === 0) fail();
+    if (left === 0) throw new Wrong(TOO_DEEP);
     blank();
     if (text[at] === "[") return { items: sequence("]", () => value(left - 1)) };
     if (text[at] === "{") {
@@ -428,7 +430,7 @@ export class Table {
     return Uint8Array.from(out);
   }
   #put(out, place, json, depth) {
-    if (depth === 0) throw new Wrong("the value is nested too deeply: `depth=` sets the limit");
+    if (depth === 0) throw new Wrong(TOO_DEEP);
     const node = this.nodes[place];
     switch (node.kind) {
       case "bool": if (json.truth === undefined) throw new Wrong("expected true or false"); out.push(json.truth ? 1 : 0); break;
@@ -522,7 +524,7 @@ export class Table {
     const [key, held] = this.nodes[pair].nodes;
     for (const [name, json] of members) {
       inside(name, () => {
-        if (depth === 0) throw new Wrong("the value is nested too deeply: `depth=` sets the limit");
+        if (depth === 0) throw new Wrong(TOO_DEEP);
         this.#putKey(out, key, name, depth - 1);
         this.#put(out, held, json, depth - 1);
       });
@@ -530,7 +532,7 @@ export class Table {
     return members.length;
   }
   #putKey(out, place, name, depth) {
-    if (depth === 0) throw new Wrong("the value is nested too deeply: `depth=` sets the limit");
+    if (depth === 0) throw new Wrong(TOO_DEEP);
     const node = this.nodes[place];
     if (node.kind === "newtype") return this.#putKey(out, node.node, name, depth - 1);
     if (node.kind === "bool") {
@@ -584,7 +586,7 @@ export class Table {
       if (!held && !isEmpty) throw new Wrong("the variant has fields: expected an object with its name as the key");
       if (held && isEmpty && !held.null) throw new Wrong("the variant has no fields: expected its name alone");
       if (!isEmpty) this.#put(out, place, held, depth);
-      else if (depth === 0) throw new Wrong("the value is nested too deeply: `depth=` sets the limit");
+      else if (depth === 0) throw new Wrong(TOO_DEEP);
     });
   }
 }
