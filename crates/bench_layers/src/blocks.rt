@@ -147,15 +147,14 @@ pub extern "C" fn cobs_c_decode_in_place_with_sentinel(buf: &mut [u8], sentinel:
     }
 }
 
-/// As `cobs::encode_in_place`.
+/// As `cobs::encode_in_place`, in an array, whose address isn't tested, as that of C's slices is.
 #[unsafe(no_mangle)]
-pub extern "C" fn cobs_c_encode_in_place(buffer: &mut [u8], n: usize, sentinel: u8) -> usize
-    requires few { n ≤ 254 }
-    requires room { n < length buffer.old }
+pub extern "C" fn cobs_c_encode_in_place(buffer: &mut [u8; 255], n: usize, sentinel: u8) -> usize
+    requires { n ≤ 254 }
     ensures length { result ≡ length (shortest_frame (take n (drop 1 buffer.old))) }
     ensures frame { take result buffer.new ≡ frame_for sentinel (take n (drop 1 buffer.old)) }
 {
-    cobs::encode_in_place(buffer, n, sentinel)
+    cobs::encode_in_place(&mut buffer[..], n, sentinel)
 }
 
 /// As `cobs::encoded_length`.

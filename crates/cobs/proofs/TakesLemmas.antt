@@ -1,5 +1,5 @@
 -- What the streaming decoders do with a byte and with a piece.
-use Rattle.std.proofs.Common.{◌≡◌, ℕ, suc, ◌+◌, ◌-◌, ◌^◌, ◌<◌, ◌≤◌, min, false, true, List, [], ◌∷◌, ◌++◌, length, take, drop, append_assoc, length-append, length-take, length-drop, get_or, Option, Some, None, Result, Ok, Err, inl, inr, refl, ap, sym, ◌∙◌, subst, arith}
+use Rattle.std.proofs.Common.{◌≡◌, ℕ, suc, ◌+◌, ◌^◌, ◌<◌, ◌≤◌, min, false, List, [], ◌∷◌, ◌++◌, length, take, drop, append_assoc, length-append, length-take, length-drop, get_or, Option, Some, None, Result, Ok, Err, inl, inr, refl, ap, sym, ◌∙◌, subst, arith}
 use Rattle.std.proofs.lemmas.List.{append-nil, take-take, drop_more}
 use Rattle.std.specs.Prelude.{bit_xor, IfOk, IfSome, IsNone}
 use Rattle.cobs.specs.Frames.{NoZero, part, part_from, after}
@@ -9,7 +9,6 @@ use Rattle.cobs.specs.Pieces.{frame_met}
 use Rattle.cobs.specs.Reports.{parsed_size, frame_size}
 use Rattle.cobs.specs.Sentinel.{masked}
 use Rattle.cobs.specs.Streaming.{HasStreamed}
-use Rattle.cobs.specs.Clear.{TakesClear}
 use Rattle.cobs.specs.Taking.{FeedsByte, StoresByte, TakesPiece, TakesFront, Owes}
 use Rattle.std.proofs.lemmas.Bool.{ne_eqb}
 use Rattle.cobs.specs.declared.dec.state.DecoderState.TheVariants.{Idle, GrabChain}
@@ -21,7 +20,7 @@ use Rattle.cobs.proofs.FeedsLemmas.{frame_byte, answer_byte, part_told}
 use Rattle.cobs.proofs.MaskingLemmas.{masked_zero, masked_length, masked_get}
 use Rattle.cobs.proofs.MessagesLemmas.{decoded_next, decoded_left, placed_zero, length-placed, message_here, message_met}
 use Rattle.cobs.proofs.PassingLemmas.{all_placed}
-use Rattle.cobs.proofs.TurnsLemmas.{Came, Turn, turn_end, turn_front}
+use Rattle.cobs.proofs.TurnsLemmas.{Came}
 use Rattle.cobs.proofs.WindowsLemmas.{placed_written}
 use Rattle.cobs.proofs.WithinLemmas.{placed_front, cases_zero}
 use Rattle.cobs.proofs.WrittenLemmas.{front_then}
@@ -213,34 +212,3 @@ front_byte key read bytes p old new d l f =
     let one : bit_xor key (get_or bytes read 0) ∷ [] ≡ take 1 (drop read m) =
     ap (λ b. b ∷ []) (sym (masked_get key bytes read l)) ∙ sym (ap (take 1) (drop_more m read 0 (omega (arith, l, masked_length key bytes)))) in
     front_longer p (bit_xor key (get_or bytes read 0) ∷ []) (drop read m) old new 1 1 d one f
-
--- all of a piece was taken
-pub front_piece : (key : ℕ) (d : Progress) (old piece : List ℕ) (d' : Progress) (new : List ℕ) → ((p : List ℕ) → HasStreamed d p → TakesFront p (masked key piece) old (length piece) d' new) → length new ≡ length old
-    → TakesPiece d old (masked key piece) (Ok None) d' new
-front_piece key d old piece d' new f same =
-    let m = masked key piece in
-    takes_piece d old m (Ok None) d' new
-    (λ p s.
-    let none : Turn p m old 0 old d = record { now = p; stands = s; rest = λ answer left last o. o } in
-    let t = turn_front p m old 0 (length piece) old new d d' none refl (f p s) in
-    record { left = t.now; outcome = turn_end p m old (0 + length piece) new d' t (omega (arith, masked_length key piece)); stands = t.stands })
-    tt same
-
--- the same where all of it certainly fits
-pub takes_clear : (key : ℕ) (d : Progress) (old piece : List ℕ) (d' : Progress) (new : List ℕ) → length old < 2 ^ 63 → length piece ≤ length old - d.len
-    → ((p : List ℕ) → HasStreamed d p → TakesFront p (masked key piece) old (length piece) d' new) → length new ≡ length old → TakesClear d old (masked key piece) true d' new
-takes_clear key d old piece d' new small room f same = record {
-  fits = λ p s. (λ t. omega (arith, s.len, small, room, masked_length key piece), λ l. refl);
-  takes = λ t. front_piece key d old piece d' new f same;
-  same = λ e. absurd (cc);
-  room = same;
-}
-
--- nothing is taken where some may not fit
-pub takes_none_clear : (key : ℕ) (d : Progress) (old piece : List ℕ) → length old < 2 ^ 63 → length old - d.len < length piece → TakesClear d old (masked key piece) false d old
-takes_none_clear key d old piece small over = record {
-  fits = λ p s. (λ t. absurd (cc), λ l. absurd (omega (arith, l, s.len, small, over, masked_length key piece)));
-  takes = λ t. absurd (cc);
-  same = λ e. (refl, refl);
-  room = refl;
-}

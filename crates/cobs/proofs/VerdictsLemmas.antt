@@ -10,10 +10,7 @@ use Rattle.cobs.specs.InPlace.{stretch, in_place, overwritten}
 use Rattle.cobs.specs.Pieces.{first_answer}
 use Rattle.cobs.specs.Reports.{report, frame_size}
 use Rattle.cobs.specs.Sentinel.{masked}
-use Rattle.cobs.specs.Streaming.{HasStreamed}
-use Rattle.cobs.specs.Taking.{DecodesWhole}
 use Rattle.cobs.specs.Whole.{unpadded, frame_in, decoded_from, decoded_into, reported, message_of_stretch, message_of_frame, RefusesWhole}
-use Rattle.cobs.specs.declared.dec.progress.Progress.{Progress}
 use Rattle.cobs.specs.declared.dec.report.DecodeError.{DecodeError}
 use Rattle.cobs.specs.declared.dec.report.DecodeError.TheVariants.{EmptyFrame, InvalidFrame, TargetBufTooSmall}
 use Rattle.cobs.specs.declared.dec.report.DecodeReport.{DecodeReport}
@@ -80,7 +77,7 @@ module _ (p old : List ℕ) where
         absurd (cc)
   ]
 
-  into_within : (r : Result ℕ DecodeError) → r ≡ decoded_into (length old) p → IfOk r (λ n. n ≤ length old)
+  pub into_within : (r : Result ℕ DecodeError) → r ≡ decoded_into (length old) p → IfOk r (λ n. n ≤ length old)
   into_within (Ok n) a = elim (eqb_tells (missing p) 0) [
     | inl t ↦ elim (cases_lt (length old) (length (part p))) [
       | inl l ↦
@@ -96,18 +93,6 @@ module _ (p old : List ℕ) where
         absurd (cc)
   ]
   into_within (Err x) a = tt
-
-  -- a frame that lies whole
-  pub decodes_whole : (r : Result ℕ DecodeError) (behind : Progress) (new : List ℕ) → Stretch p → r ≡ decoded_into (length old) p → new ≡ overwritten (part p) old → length new ≡ length old → HasStreamed behind [] → DecodesWhole old p r behind new
-  decodes_whole r behind new s a h room idle = record {
-    answer = a;
-    message = into_frame r new s a h;
-    no_frame = into_no_frame r a;
-    buffer = h;
-    within = subst (λ n. IfOk r (λ k. k ≤ n)) (sym room) (into_within r a);
-    room = room;
-    idle = idle;
-  }
 
 -- what decoding in place answers, by frames, and what it leaves
 shorter_stretch : (bytes : List ℕ) → length (stretch bytes) ≤ length bytes

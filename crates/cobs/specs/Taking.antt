@@ -1,7 +1,7 @@
 -- What the streaming decoders do with what they are given, each byte XORed with the sentinel: what each keeps, and its buffer,
 -- before and afterwards.
-use Rattle.std.specs.Prelude.{◌≡◌, ◌≢◌, ℕ, ◌+◌, ◌-◌, ◌==◌, if◌then◌else◌, ◌<◌, ◌≤◌, false, List, [], ◌∷◌, ◌++◌, length, take, drop, Option, None, Result, Ok, Err, IfOk, OnErr, IfSome, IsNone}
-use Rattle.cobs.specs.Frames.{Frame, NoZero, part, part_from, after}
+use Rattle.std.specs.Prelude.{◌≡◌, ℕ, ◌+◌, ◌-◌, ◌==◌, if◌then◌else◌, ◌<◌, ◌≤◌, false, List, [], ◌∷◌, ◌++◌, length, take, drop, Option, None, Result, Ok, Err, IfOk, IfSome, IsNone}
+use Rattle.cobs.specs.Frames.{NoZero, part, part_from, after}
 use Rattle.cobs.specs.Feeding.{answer_of, at_byte, frame_after, placed, by_code, told_by, fed, next}
 use Rattle.cobs.specs.InPlace.{overwritten, written_over}
 use Rattle.cobs.specs.Pieces.{first_answer, frame_left, frame_met, buffer_left}
@@ -66,25 +66,6 @@ pub record TakesPiece (before : Progress) (old piece : List ℕ)
       (λ o. IfSome o (λ r. (parsed_size r ≤ length piece) × (frame_size r ≤ length new)))
   -- The buffer's length is unchanged.
   pub room : length new ≡ length old
-
--- A frame that is complete, without the zero after it, is decoded: the result, also by frames; the buffer; and nothing was
--- taken of a frame afterwards.
-pub record DecodesWhole (old frame : List ℕ) (result : Result ℕ DecodeError)
-    (behind : Progress) (new : List ℕ) : Type 0 where
-  -- The result by the bytes of the frame and the length of the buffer.
-  pub answer : result ≡ decoded_into (length old) frame
-  -- A length that is returned is that of the frame's message, which is at the start of the buffer.
-  pub message : IfOk result (λ n. frame ≢ [] → Frame frame (take n new))
-  -- At an error the bytes are no frame, or its message is longer than the buffer.
-  pub no_frame : OnErr result ((m : List ℕ) → Frame frame m → length old < length m)
-  -- The buffer begins with what the bytes determine of a message, as far as it fits.
-  pub buffer : new ≡ overwritten (part frame) old
-  -- A length that is returned is within the buffer.
-  pub within : IfOk result (λ n. n ≤ length new)
-  -- The buffer's length is unchanged.
-  pub room : length new ≡ length old
-  -- No frame has begun afterwards.
-  pub idle : HasStreamed behind []
 
 -- The first n bytes of a chunk are taken at once (private contracts alone): none is zero, and all that they determine fits, if
 -- there are any.

@@ -22,4 +22,4 @@ pub use owned::CobsDecoderOwned;
 pub use report::{DecodeError, DecodeReport, DecodeVecError, DecodingResult};
 pub use state::{DecodeResult, DecoderState};
 pub use vectors::{decode_vec, decode_vec_with_sentinel};
-pub use whole::{decode, decode_with_sentinel};
+pub use whole::{decode, decode_clear, decode_with_sentinel};

@@ -112,9 +112,19 @@ pub(crate) fn zero_over(buffer: &mut [u8], place: usize, n: usize)
     row_of_64(buffer, place + (n - 64), 0);
 }
 
-// Copies any number of bytes over a buffer, from a position on.
+/// Copies bytes over those of a buffer, from a position on, each XORed with a sentinel: for zero as they are.
+///
+/// # Requires
+/// They fit.
+///
+/// # Example
+/// ```rust
+/// let mut buffer = [7; 4];
+/// copy_over(&[10, 11], &mut buffer, 1, 10);
+/// check(&rt, are_equal(&buffer, &[7, 0, 1, 7]));
+/// ```
 #[inline(always)]
-pub(crate) fn copy_over(bytes: &[u8], buffer: &mut [u8], place: usize, sentinel: u8)
+pub fn copy_over(bytes: &[u8], buffer: &mut [u8], place: usize, sentinel: u8)
     requires room { place + length bytes.now ≤ length buffer.old }
     ensures { buffer.new ≡ written_over place (masked sentinel bytes.now) buffer.old }
 {

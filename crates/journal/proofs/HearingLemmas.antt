@@ -6,7 +6,7 @@ use Rattle.std.proofs.lemmas.Bool.{lt-ltb, le-ltb, cases_lt}
 use Rattle.std.proofs.lemmas.List.{append-nil, take-append-le, take_all, take_more, length-take, length-append}
 use Rattle.std.proofs.Math.Seq.{take-add}
 use Rattle.postcard_tree.specs.Tree.{Tree}
-use Rattle.cobs.specs.declared.dec.heapless.CobsDecoderHeapless.{CobsDecoderHeapless}
+use Rattle.link.specs.declared.decoding.ArrayBuffer.{ArrayBuffer}
 use Rattle.link.specs.Decoding.{in_array}
 use Rattle.link.specs.Lemmas.Givens.{kept_given}
 use Rattle.link.specs.Receivers.{IsBehind}
@@ -203,7 +203,7 @@ module _ {V : Type 0} (holds : List ℕ → Tree → Type 0) (reads : Tree → �
   read_on laws answers more c later stretch heard (Err x) old mid new before g h st some fits e k = absurd k
 
 -- nothing was heard yet
-pub heard_none : {S V : Type 0} {N : ℕ} {took : S → List (Answer (ℕ × V)) → S → Type 0} {holds : List ℕ → Tree → Type 0} {reads : Tree → ℕ × V → Type 0} → VisitorLaws took → (first : ℕ) (visitor : S) (receiver : Reception (CobsDecoderHeapless N)) (answers : List (Answer (ℕ × V))) (count : Count) (stream : List ℕ)
+pub heard_none : {S V : Type 0} {N : ℕ} {took : S → List (Answer (ℕ × V)) → S → Type 0} {holds : List ℕ → Tree → Type 0} {reads : Tree → ℕ × V → Type 0} → VisitorLaws took → (first : ℕ) (visitor : S) (receiver : Reception (ArrayBuffer N)) (answers : List (Answer (ℕ × V))) (count : Count) (stream : List ℕ)
     → HearsLog holds reads first receiver answers count stream → HearsMore took holds reads first visitor visitor receiver answers count (stream ++ [])
 heard_none {holds} {reads} laws first visitor receiver answers count stream h = record {
   more = [];
@@ -212,7 +212,7 @@ heard_none {holds} {reads} laws first visitor receiver answers count stream h = 
 }
 
 -- at the start of a log
-pub heard_first : {S V : Type 0} {N : ℕ} {took : S → List (Answer (ℕ × V)) → S → Type 0} (holds : List ℕ → Tree → Type 0) (reads : Tree → ℕ × V → Type 0) → VisitorLaws took → (first : ℕ) (visitor : S) (receiver : Reception (CobsDecoderHeapless N))
+pub heard_first : {S V : Type 0} {N : ℕ} {took : S → List (Answer (ℕ × V)) → S → Type 0} (holds : List ℕ → Tree → Type 0) (reads : Tree → ℕ × V → Type 0) → VisitorLaws took → (first : ℕ) (visitor : S) (receiver : Reception (ArrayBuffer N))
     → IsBehind in_array N 0 receiver [] → HearsMore took holds reads first visitor visitor receiver [] (record { next = first; through = 0; heard = 0 }) []
 heard_first holds reads laws first visitor receiver h = record {
   more = [];
@@ -225,7 +225,7 @@ heard_first holds reads laws first visitor receiver h = record {
 }
 
 -- more was heard behind what was
-pub then_more : {S V : Type 0} {N : ℕ} {took : S → List (Answer (ℕ × V)) → S → Type 0} {holds : List ℕ → Tree → Type 0} {reads : Tree → ℕ × V → Type 0} → VisitorLaws took → (first : ℕ) (old mid new : S) (receiver : Reception (CobsDecoderHeapless N)) (answers before : List (Answer (ℕ × V))) (count : Count) (stream : List ℕ)
+pub then_more : {S V : Type 0} {N : ℕ} {took : S → List (Answer (ℕ × V)) → S → Type 0} {holds : List ℕ → Tree → Type 0} {reads : Tree → ℕ × V → Type 0} → VisitorLaws took → (first : ℕ) (old mid new : S) (receiver : Reception (ArrayBuffer N)) (answers before : List (Answer (ℕ × V))) (count : Count) (stream : List ℕ)
     → took old before mid → HearsMore took holds reads first mid new receiver (answers ++ before) count stream → HearsMore took holds reads first old new receiver answers count stream
 then_more {holds} {reads} laws first old mid new receiver answers before count stream b h = record {
   more = before ++ h.more;
@@ -256,7 +256,7 @@ reads_none None P h = tt
 reads_none (Some bytes) P h = h
 
 -- what is said at a fault, of the bytes so far
-pub handed_to : {S V : Type 0} {N : ℕ} (took : S → List (Answer (ℕ × V)) → S → Type 0) (judging : Judging (ℕ × V)) (first : ℕ) (old new : S) (receiver : Reception (CobsDecoderHeapless N)) (count : Count) (held : Option (List ℕ))
+pub handed_to : {S V : Type 0} {N : ℕ} (took : S → List (Answer (ℕ × V)) → S → Type 0) (judging : Judging (ℕ × V)) (first : ℕ) (old new : S) (receiver : Reception (ArrayBuffer N)) (count : Count) (held : Option (List ℕ))
     → IfSome held (λ bytes. HearsMore took judging.holds judging.reads first old new receiver [] count (take count.heard bytes)) → IfSome held (λ bytes. IsHandedTo took judging N first old new bytes)
 handed_to took judging first old new receiver count None h = tt
 handed_to took judging first old new receiver count (Some bytes) h = record {
@@ -269,7 +269,7 @@ handed_to took judging first old new receiver count (Some bytes) h = record {
 }
 
 -- how many calls were used, by the bytes that were heard
-pub few_calls : {S V : Type 0} {N : ℕ} (took : S → List (Answer (ℕ × V)) → S → Type 0) (judging : Judging (ℕ × V)) (first : ℕ) (old new : S) (receiver : Reception (CobsDecoderHeapless N)) (count : Count) (held : Option (List ℕ)) (all left : ℕ)
+pub few_calls : {S V : Type 0} {N : ℕ} (took : S → List (Answer (ℕ × V)) → S → Type 0) (judging : Judging (ℕ × V)) (first : ℕ) (old new : S) (receiver : Reception (ArrayBuffer N)) (count : Count) (held : Option (List ℕ)) (all left : ℕ)
     → IfSome held (λ bytes. HearsMore took judging.holds judging.reads first old new receiver [] count (take count.heard bytes)) → all ≤ left + (count.heard + 1) → IfSome held (λ bytes. all ≤ left + (length bytes + 1))
 few_calls took judging first old new receiver count None all left h l = tt
 few_calls took judging first old new receiver count (Some bytes) all left h l = (let long = h.hears.heard in let part = length-take count.heard bytes in omega (arith, long, part, l))

@@ -3,7 +3,7 @@ use Rattle.std.specs.Prelude.{◌≡◌, ℕ, ◌+◌, ◌≤◌, Bool, true, Li
 use Rattle.postcard_tree.specs.Tree.{Tree}
 use Rattle.link.specs.Listening.{HasGiven}
 use Rattle.link.specs.Judged.{Judging}
-use Rattle.cobs.specs.declared.dec.heapless.CobsDecoderHeapless.{CobsDecoderHeapless}
+use Rattle.link.specs.declared.decoding.ArrayBuffer.{ArrayBuffer}
 use Rattle.link.specs.Decoding.{in_array}
 use Rattle.link.specs.Receivers.{IsBehind}
 use Rattle.link.specs.declared.receiver.Answer.{Answer}
@@ -56,7 +56,7 @@ abbrev pub numbering_of : Count → Numbering
 numbering_of count = record { next = count.next; through = count.through }
 
 -- the same, a receiver stands after these bytes, and so many they are
-pub record HearsLog {V : Type 0} {N : ℕ} (holds : List ℕ → Tree → Type 0) (reads : Tree → ℕ × V → Type 0) (first : ℕ) (receiver : Reception (CobsDecoderHeapless N)) (answers : List (Answer (ℕ × V))) (count : Count) (stream : List ℕ) : Type 0 where
+pub record HearsLog {V : Type 0} {N : ℕ} (holds : List ℕ → Tree → Type 0) (reads : Tree → ℕ × V → Type 0) (first : ℕ) (receiver : Reception (ArrayBuffer N)) (answers : List (Answer (ℕ × V))) (count : Count) (stream : List ℕ) : Type 0 where
   -- the receiver was given these bytes
   pub after : IsBehind in_array N 0 receiver stream
   -- the results so far are those of these bytes
@@ -71,7 +71,7 @@ HandsOnBelieved took (Ok (Some a)) before through old new c later = took old (be
 HandsOnBelieved took (Err e) before through old new c later = ⊥
 
 -- more results were handed on, and with those before them they are what a receiver that stands after these bytes has brought about
-pub record HearsMore {S V : Type 0} {N : ℕ} (took : S → List (Answer (ℕ × V)) → S → Type 0) (holds : List ℕ → Tree → Type 0) (reads : Tree → ℕ × V → Type 0) (first : ℕ) (old new : S) (receiver : Reception (CobsDecoderHeapless N)) (answers : List (Answer (ℕ × V))) (count : Count) (stream : List ℕ) : Type 0 where
+pub record HearsMore {S V : Type 0} {N : ℕ} (took : S → List (Answer (ℕ × V)) → S → Type 0) (holds : List ℕ → Tree → Type 0) (reads : Tree → ℕ × V → Type 0) (first : ℕ) (old new : S) (receiver : Reception (ArrayBuffer N)) (answers : List (Answer (ℕ × V))) (count : Count) (stream : List ℕ) : Type 0 where
   -- the further results
   pub more : List (Answer (ℕ × V))
   -- they were handed on

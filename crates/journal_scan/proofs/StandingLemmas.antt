@@ -5,7 +5,7 @@ use Rattle.std.proofs.lemmas.Bool.{ltb-true, ltb-false, lt-ltb}
 use Rattle.std.proofs.lemmas.List.{append-nil, length-append, length-take, take-append-le, drop-append-le, take-append-drop, length-drop, drop-drop, drop_all, nil_from_length}
 use Rattle.std.proofs.Math.Seq.{take-add}
 use Rattle.cobs.specs.Frames.{NoZero}
-use Rattle.cobs.specs.declared.dec.owned.CobsDecoderOwned.{CobsDecoderOwned}
+use Rattle.link.specs.declared.decoding.OwnedBuffer.{OwnedBuffer}
 use Rattle.postcard_tree.specs.Tree.{Tree}
 use Rattle.link.specs.Stream.{Verdict, value, too_long, Begun, kept, over, begun, ended, unfinished, IsAnswer, HoldsExactly}
 use Rattle.link.specs.Laws.{EndsBetween}
@@ -28,7 +28,7 @@ use Rattle.journal_scan.proofs.WalkingLemmas.{lt_zero, no_zero_more, alone_unfin
 abbrev begun_by : ℕ → List ℕ → Begun
 begun_by limit u = if nat_lt limit (length u) then over else kept u
 
-same_behind : (limit : ℕ) (r : Reception CobsDecoderOwned) (x y : List ℕ) → begun limit 0 x ≡ begun limit 0 y → IsBehind in_owner limit 0 r x → IsBehind in_owner limit 0 r y
+same_behind : (limit : ℕ) (r : Reception OwnedBuffer) (x y : List ℕ) → begun limit 0 x ≡ begun limit 0 y → IsBehind in_owner limit 0 r x → IsBehind in_owner limit 0 r y
 same_behind limit r x y e h = subst (IsAt in_owner limit 0 r) e h
 
 none_begun : (limit : ℕ) (x : List ℕ) → kept [] ≡ begun_by limit x → x ≡ []
@@ -52,7 +52,7 @@ moved at used unread rest bytes within e l = record {
 }
 
 -- a new one
-pub stands_new : (limit at : ℕ) (r : Reception CobsDecoderOwned) (bytes : List ℕ) → at ≤ length bytes → EndsBetween 0 (take at bytes) → IsBehind in_owner limit 0 r [] → ScanStands limit r at at false [] bytes
+pub stands_new : (limit at : ℕ) (r : Reception OwnedBuffer) (bytes : List ℕ) → at ≤ length bytes → EndsBetween 0 (take at bytes) → IsBehind in_owner limit 0 r [] → ScanStands limit r at at false [] bytes
 stands_new limit at r bytes l e h =
     let none : unfinished 0 (take at bytes) ≡ [] = none_unfinished 0 (take at bytes) e in
     record {
@@ -65,7 +65,7 @@ stands_new limit at r bytes l e h =
     }
 
 -- one that read other bytes from where it is
-pub stands_read : {limit at from : ℕ} {r : Reception CobsDecoderOwned} {past : Bool} {unread bytes : List ℕ} (now rest : List ℕ) → ScanStands limit r at from past unread bytes → drop at bytes ≡ now ++ rest → ScanStands limit r at from past now bytes
+pub stands_read : {limit at from : ℕ} {r : Reception OwnedBuffer} {past : Bool} {unread bytes : List ℕ} (now rest : List ℕ) → ScanStands limit r at from past unread bytes → drop at bytes ≡ now ++ rest → ScanStands limit r at from past now bytes
 stands_read now rest s e = record { within = s.within; rest = rest; unread_is = e; from_is = s.from_is; behind = s.behind; past_is = s.past_is }
 
 -- where the unfinished stretch begins behind what was found
@@ -74,13 +74,13 @@ next_begin from at None = from
 next_begin from at (Some s) = at
 
 -- what a push of the bytes that were read says, which leaves these of them
-abbrev pub StandsPushed : {V : Type 0} → (Tree → Type 0) → (Tree → V → Type 0) → ℕ → ℕ → ℕ → ℕ → Reception CobsDecoderOwned → List ℕ → List ℕ → Result (Option (Answer (ℕ × V))) NoMemory → Type 0
+abbrev pub StandsPushed : {V : Type 0} → (Tree → Type 0) → (Tree → V → Type 0) → ℕ → ℕ → ℕ → ℕ → Reception OwnedBuffer → List ℕ → List ℕ → Result (Option (Answer (ℕ × V))) NoMemory → Type 0
 StandsPushed takes reads limit at from used now left bytes (Ok o) =
     ScanStands limit now (at + used) (next_begin from (at + used) (ended_stretch from (at + (used - 1)) o)) (is_past o) left bytes
     × Found takes reads limit bytes at (at + used) (ended_stretch from (at + (used - 1)) o)
 StandsPushed takes reads limit at from used now left bytes (Err e) = ScanStands limit now (at + used) (at + used) false left bytes
 
-module _ {limit at from : ℕ} {r : Reception CobsDecoderOwned} {past : Bool} {unread bytes : List ℕ} (s : ScanStands limit r at from past unread bytes) where
+module _ {limit at from : ℕ} {r : Reception OwnedBuffer} {past : Bool} {unread bytes : List ℕ} (s : ScanStands limit r at from past unread bytes) where
   abbrev stream : List ℕ
   stream = take at bytes
 
@@ -117,7 +117,7 @@ module _ {limit at from : ℕ} {r : Reception CobsDecoderOwned} {past : Bool} {u
       }
 
   -- no stretch is unfinished then
-  pub stands_between : (used : ℕ) (now : Reception CobsDecoderOwned) → used ≤ length unread → unfinished 0 (u ++ take used unread) ≡ []
+  pub stands_between : (used : ℕ) (now : Reception OwnedBuffer) → used ≤ length unread → unfinished 0 (u ++ take used unread) ≡ []
       → (begun limit 0 (take (at + used) bytes) ≡ kept [] → IsBehind in_owner limit 0 now (take (at + used) bytes)) → ScanStands limit now (at + used) (at + used) false (drop used unread) bytes
   stands_between used now l e h =
       let m = moved at used unread s.rest bytes s.within s.unread_is l in
@@ -133,13 +133,13 @@ module _ {limit at from : ℕ} {r : Reception CobsDecoderOwned} {past : Bool} {u
       }
 
   -- behind a zero that ends a stretch
-  pub stands_found : (later : List ℕ) (used : ℕ) (now : Reception CobsDecoderOwned) → used ≤ length unread → take used unread ≡ later ++ 0 ∷ [] → NoZero (u ++ later)
+  pub stands_found : (later : List ℕ) (used : ℕ) (now : Reception OwnedBuffer) → used ≤ length unread → take used unread ≡ later ++ 0 ∷ [] → NoZero (u ++ later)
       → (begun limit 0 (take (at + used) bytes) ≡ kept [] → IsBehind in_owner limit 0 now (take (at + used) bytes)) → ScanStands limit now (at + used) (at + used) false (drop used unread) bytes
   stands_found later used now l are z h =
       stands_between used now l (ap (unfinished 0) (ap (λ x. u ++ x) are ∙ sym (append_assoc u later (0 ∷ []))) ∙ zero_unfinished (u ++ later) z) h
 
   -- more bytes of a stretch that goes on
-  pub stands_on : (used : ℕ) (now : Reception CobsDecoderOwned) (later : Bool) → used ≤ length unread → NoZero (u ++ take used unread) → nat_lt limit (length (u ++ take used unread)) ≡ later
+  pub stands_on : (used : ℕ) (now : Reception OwnedBuffer) (later : Bool) → used ≤ length unread → NoZero (u ++ take used unread) → nat_lt limit (length (u ++ take used unread)) ≡ later
       → IsBehind in_owner limit 0 now (take (at + used) bytes) → ScanStands limit now (at + used) from later (drop used unread) bytes × (ended 0 (take (at + used) bytes) ≡ ended 0 (take at bytes))
   stands_on used now later l z past_now h =
       let m = moved at used unread s.rest bytes s.within s.unread_is l in
@@ -185,7 +185,7 @@ module _ {limit at from : ℕ} {r : Reception CobsDecoderOwned} {past : Bool} {u
   own = same_behind limit r stream u (ap (begun_by limit) (sym (alone_unfinished u nonzero))) s.behind
 
   -- what a push of the bytes that were read says
-  module _ {V : Type 0} (takes : Tree → Type 0) (reads : Tree → V → Type 0) (used : ℕ) (now : Reception CobsDecoderOwned) (fresh : past ≡ false) (first : from ≡ at → (later : List ℕ) → unread ≡ 0 ∷ later → ⊥)
+  module _ {V : Type 0} (takes : Tree → Type 0) (reads : Tree → V → Type 0) (used : ℕ) (now : Reception OwnedBuffer) (fresh : past ≡ false) (first : from ≡ at → (later : List ℕ) → unread ≡ 0 ∷ later → ⊥)
       (some : 0 < used) (l : used ≤ length unread) (stands : (stream : List ℕ) → IsBehind in_owner limit 0 r stream → IsBehind in_owner limit 0 now (stream ++ take used unread)) where
     abbrev holds : List ℕ → Tree → Type 0
     holds = HoldsExactly (takes_record takes)
@@ -262,7 +262,7 @@ module _ {limit at from : ℕ} {r : Reception CobsDecoderOwned} {past : Bool} {u
       subst (λ to. IsNextStretch rule reads limit bytes at (at + 1) from to TooLong) zero_more f
 
   -- and the zero that ends it
-  pub stands_passed : {V : Type 0} (rule : List ℕ → Tree → Type 0) (reads : Tree → V → Type 0) (now : Reception CobsDecoderOwned) (later : List ℕ) → past ≡ true → unread ≡ 0 ∷ later → IsBehind in_owner limit 0 now []
+  pub stands_passed : {V : Type 0} (rule : List ℕ → Tree → Type 0) (reads : Tree → V → Type 0) (now : Reception OwnedBuffer) (later : List ℕ) → past ≡ true → unread ≡ 0 ∷ later → IsBehind in_owner limit 0 now []
       → ScanStands limit now (at + 1) (at + 1) false later bytes × IsNextStretch rule reads limit bytes at (at + 1) from at TooLong
   stands_passed rule reads now later e z h =
       let n : NoZero (u ++ []) = subst NoZero (sym (append-nil u)) (behind_of stream []).nonzero in
@@ -270,7 +270,7 @@ module _ {limit at from : ℕ} {r : Reception CobsDecoderOwned} {past : Bool} {u
       (subst (λ x. ScanStands limit now (at + 1) (at + 1) false x bytes) (ap (drop 1) z) t, passed_found rule reads later e z)
 
 -- of a piece that is what was read; what is left of it stands behind the bytes that were used
-pub stands_later : {V : Type 0} (takes : Tree → Type 0) (reads : Tree → V → Type 0) (room : List ℕ) (start used : ℕ) (now : Reception CobsDecoderOwned) {limit at from : ℕ} {past : Bool} {bytes : List ℕ} {r : Reception CobsDecoderOwned} → ScanStands limit r at from past (drop start room) bytes → past ≡ false
+pub stands_later : {V : Type 0} (takes : Tree → Type 0) (reads : Tree → V → Type 0) (room : List ℕ) (start used : ℕ) (now : Reception OwnedBuffer) {limit at from : ℕ} {past : Bool} {bytes : List ℕ} {r : Reception OwnedBuffer} → ScanStands limit r at from past (drop start room) bytes → past ≡ false
     → (from ≡ at → (later : List ℕ) → drop start room ≡ 0 ∷ later → ⊥) → (piece : List ℕ) → piece ≡ drop start room → 0 < used → used ≤ length piece
     → ((stream : List ℕ) → IsBehind in_owner limit 0 r stream → IsBehind in_owner limit 0 now (stream ++ take used piece))
     → (result : Result (Option (Answer (ℕ × V))) NoMemory) → ((stream : List ℕ) → IsBehind in_owner limit 0 r stream → Answered (HoldsExactly (takes_record takes)) (reads_record reads) limit 0 stream piece used result)
@@ -282,7 +282,7 @@ stands_later takes reads room start used now {limit} {at} {from} {past} {bytes} 
     (subst (λ left. StandsPushed takes reads limit at from used now left bytes result) (ap (drop used) same ∙ drop-drop used start room) (pushed here takes reads used now fresh begins some l stands result answers))
 
 -- the same by what was found, and whether the stretch is too long
-pub stands_by : {V : Type 0} (takes : Tree → Type 0) (reads : Tree → V → Type 0) (limit at from used : ℕ) (now : Reception CobsDecoderOwned) (left bytes : List ℕ) (o : Option (Answer (ℕ × V))) (past : Bool) (x : Option (Stretch V)) → past ≡ is_past o → ended_stretch from (at + (used - 1)) o ≡ x
+pub stands_by : {V : Type 0} (takes : Tree → Type 0) (reads : Tree → V → Type 0) (limit at from used : ℕ) (now : Reception OwnedBuffer) (left bytes : List ℕ) (o : Option (Answer (ℕ × V))) (past : Bool) (x : Option (Stretch V)) → past ≡ is_past o → ended_stretch from (at + (used - 1)) o ≡ x
     → StandsPushed takes reads limit at from used now left bytes (Ok o) → ScanStands limit now (at + used) (next_begin from (at + used) x) past left bytes × Found takes reads limit bytes at (at + used) x
 stands_by takes reads limit at from used now left bytes o past x e f h =
     subst (λ y. ScanStands limit now (at + used) (next_begin from (at + used) y) past left bytes × Found takes reads limit bytes at (at + used) y) f
@@ -299,7 +299,7 @@ module _ {V : Type 0} (takes : Tree → Type 0) (reads : Tree → V → Type 0) 
   found_from o (Some s) is e f = next_from e (subst (Found takes reads limit bytes old new) is f)
 
 -- in a longer log
-pub stands_longer : {limit at from : ℕ} {r : Reception CobsDecoderOwned} {past : Bool} {unread : List ℕ} (bytes more : List ℕ) → ScanStands limit r at from past unread bytes → ScanStands limit r at from past unread (bytes ++ more)
+pub stands_longer : {limit at from : ℕ} {r : Reception OwnedBuffer} {past : Bool} {unread : List ℕ} (bytes more : List ℕ) → ScanStands limit r at from past unread bytes → ScanStands limit r at from past unread (bytes ++ more)
 stands_longer {limit} {at} {from} {r} {past} {unread} bytes more s =
     let same : take at (bytes ++ more) ≡ take at bytes = take-append-le at bytes more s.within in
     record {
@@ -312,12 +312,12 @@ stands_longer {limit} {at} {from} {r} {past} {unread} bytes more s =
     }
 
 -- a scan at the end of a log stands in front of the zero that is put behind it
-pub stands_before_zero : {limit at from : ℕ} {r : Reception CobsDecoderOwned} {past : Bool} {unread bytes : List ℕ} → ScanStands limit r at from past unread bytes → at ≡ length bytes → ScanStands limit r at from past (0 ∷ []) (with_zero bytes)
+pub stands_before_zero : {limit at from : ℕ} {r : Reception OwnedBuffer} {past : Bool} {unread bytes : List ℕ} → ScanStands limit r at from past unread bytes → at ≡ length bytes → ScanStands limit r at from past (0 ∷ []) (with_zero bytes)
 stands_before_zero {at = at} {bytes = bytes} s end =
     stands_read (0 ∷ []) [] (stands_longer bytes (0 ∷ []) s) (drop-append-le at bytes (0 ∷ []) s.within ∙ ap (λ x. x ++ 0 ∷ []) (drop_all at bytes (omega (arith, end))))
 
 -- what a zero behind a log says of what a scan at its end stands in
-module _ {V : Type 0} (takes : Tree → Type 0) (reads : Tree → V → Type 0) {limit at from : ℕ} {r : Reception CobsDecoderOwned} {past : Bool} {unread bytes : List ℕ} (s : ScanStands limit r at from past unread bytes) (end : at ≡ length bytes) where
+module _ {V : Type 0} (takes : Tree → Type 0) (reads : Tree → V → Type 0) {limit at from : ℕ} {r : Reception OwnedBuffer} {past : Bool} {unread bytes : List ℕ} (s : ScanStands limit r at from past unread bytes) (end : at ≡ length bytes) where
   abbrev holds_at_end : List ℕ → Tree → Type 0
   holds_at_end = HoldsExactly (takes_record takes)
 
@@ -333,7 +333,7 @@ module _ {V : Type 0} (takes : Tree → Type 0) (reads : Tree → V → Type 0) 
   last_over e = last_is (Some (record { from = from; to = at; answer = TooLong })) (passed_found (stands_before_zero s end) holds_at_end (reads_record reads) [] e refl)
 
   -- one is that the receiver answers
-  pub pushed_last : (used : ℕ) (now : Reception CobsDecoderOwned) → past ≡ false → (from ≡ at → ⊥) → 0 < used → used ≤ 1 → ((stream : List ℕ) → IsBehind in_owner limit 0 r stream → IsBehind in_owner limit 0 now (stream ++ take used (0 ∷ [])))
+  pub pushed_last : (used : ℕ) (now : Reception OwnedBuffer) → past ≡ false → (from ≡ at → ⊥) → 0 < used → used ≤ 1 → ((stream : List ℕ) → IsBehind in_owner limit 0 r stream → IsBehind in_owner limit 0 now (stream ++ take used (0 ∷ [])))
       → (result : Result (Option (Answer (ℕ × V))) NoMemory) → ((stream : List ℕ) → IsBehind in_owner limit 0 r stream → Answered holds_at_end (reads_record reads) limit 0 stream (0 ∷ []) used result) → (o : Option (Answer (ℕ × V))) → result ≡ Ok o
       → FoundLast takes reads limit bytes (ended_stretch from at o)
   pushed_last used now fresh begun_there some l stands result answers o e =

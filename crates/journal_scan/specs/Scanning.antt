@@ -1,7 +1,7 @@
 -- Where a scan of a log stands, and what it finds.
 use Rattle.std.specs.Prelude.{◌≡◌, ℕ, ◌+◌, ◌<◌, ◌≤◌, nat_lt, Bool, List, [], ◌∷◌, ◌++◌, length, take, drop, Option, Some, None, Result, Ok, Err}
 use Rattle.cobs.specs.Frames.{NoZero}
-use Rattle.cobs.specs.declared.dec.owned.CobsDecoderOwned.{CobsDecoderOwned}
+use Rattle.link.specs.declared.decoding.OwnedBuffer.{OwnedBuffer}
 use Rattle.postcard_tree.specs.Tree.{Tree}
 use Rattle.link.specs.Stream.{Verdict, ended, unfinished, IsAnswer, HoldsExactly}
 use Rattle.link.specs.Laws.{EndsBetween}
@@ -55,7 +55,7 @@ pub record IsNextStretch {V : Type 0} (holds : List ℕ → Tree → Type 0) (re
 
 -- Where a scan stands in a log's bytes: what it read last is what stands at its offset; its receiver stands after the bytes before;
 -- and the unfinished stretch of these begins at `from`.
-pub record ScanStands (limit : ℕ) (receiver : Reception CobsDecoderOwned) (at from : ℕ) (past : Bool) (unread bytes : List ℕ) : Type 0 where
+pub record ScanStands (limit : ℕ) (receiver : Reception OwnedBuffer) (at from : ℕ) (past : Bool) (unread bytes : List ℕ) : Type 0 where
   -- the offset is in the log
   pub within : at ≤ length bytes
   -- what wasn't read yet

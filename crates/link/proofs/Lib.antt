@@ -8,3 +8,4 @@ pub mod FirstLemmas
 pub mod FetchingLemmas
 pub mod LentByLemmas
 pub mod InTurnLemmas
+pub mod BufferLemmas

@@ -1,26 +1,22 @@
--- What a receiver sees of its decoder.
-use Rattle.std.specs.Prelude.{ℕ, List}
-use Rattle.cobs.specs.Arrays.{array_progress, array_buffer, array_sentinel}
-use Rattle.cobs.specs.Owners.{owned_progress, owned_buffer, owned_sentinel}
-use Rattle.cobs.specs.declared.dec.progress.Progress.{Progress}
-use Rattle.cobs.specs.declared.dec.heapless.CobsDecoderHeapless.{CobsDecoderHeapless}
-use Rattle.cobs.specs.declared.dec.owned.CobsDecoderOwned.{CobsDecoderOwned}
+-- What a receiver sees of its buffer.
+use Rattle.std.specs.Prelude.{◌≢◌, ℕ, ◌≤◌, List, [], length, take, Option, IfSome, IfNone}
+use Rattle.cobs.specs.Frames.{Frame}
+use Rattle.link.specs.declared.decoding.ArrayBuffer.{ArrayBuffer}
+use Rattle.link.specs.declared.decoding.OwnedBuffer.{OwnedBuffer}
 
--- how far its frame was taken in, its buffer, and its sentinel
-pub record Inside : Type 0 where
-  -- how far its frame was taken
-  pub progress : Progress
-  -- its buffer, as long as the limit
-  pub buffer : List ℕ
-  -- the byte that ends its frames
-  pub sentinel : ℕ
+-- the bytes of one that is an array
+abbrev pub in_array : {N : ℕ} → ArrayBuffer N → List ℕ
+in_array b = b.bytes
 
--- of one that holds an array
-abbrev pub in_array : {N : ℕ} → CobsDecoderHeapless N → Inside
-in_array d =
-    record { progress = array_progress d; buffer = array_buffer d; sentinel = array_sentinel d }
+-- the bytes of one that is allocated
+abbrev pub in_owner : OwnedBuffer → List ℕ
+in_owner b = b.bytes.items
 
--- of one that owns its buffer
-abbrev pub in_owner : CobsDecoderOwned → Inside
-in_owner d =
-    record { progress = owned_progress d; buffer = owned_buffer d; sentinel = owned_sentinel d }
+-- The result of decoding some bytes into a buffer: the length of their message, which is then at the start, if they are a frame.
+pub record IsMessageOf (frame : List ℕ) (result : Option ℕ) (buffer : List ℕ) : Type 0 where
+  -- the message is within the buffer
+  pub within : IfSome result (λ size. size ≤ length buffer)
+  -- it is the frame's
+  pub message : IfSome result (λ size. frame ≢ [] → Frame frame (take size buffer))
+  -- without a length they aren't a frame
+  pub no_frame : IfNone result ((m : List ℕ) → Frame frame m → ⊥)

@@ -1,137 +1,147 @@
-//! What a receiver requires of its decoder, so that receiving is written once.
-ghost use Rattle.std.specs.Prelude.{◌≡◌, [], length, bit_xor};
+//! Where a receiver holds the bytes of a frame, so that receiving is written once.
+ghost use Rattle.std.specs.Prelude.{◌≡◌, ℕ, ◌+◌, ◌<◌, ◌≤◌, List, length, take};
 ghost use Rattle.cobs.specs.Frames.{NoZero};
+ghost use Rattle.cobs.specs.InPlace.{stretch, written_over};
 ghost use Rattle.cobs.specs.Sentinel.{masked};
-ghost use Rattle.cobs.specs.Streaming.{HasStreamed};
-ghost use Rattle.cobs.specs.Clear.{TakesClear};
-ghost use Rattle.cobs.specs.Taking.{FeedsByte, TakesPiece, DecodesWhole};
-ghost use Rattle.link.specs.Decoding.{Inside};
+ghost use Rattle.link.specs.Decoding.{IsMessageOf};
 
-use cobs::{CobsDecoderHeapless, CobsDecoderOwned, DecodeError, DecodeReport};
-
-/// A streaming decoder of cobs over a buffer of its own: one that holds an array, or one that owns its buffer.
+/// The buffer of a receiver: an array, or one that is allocated. The bytes of a frame are held, each XORed with the sentinel, and
+/// decoded at its end.
 ///
 /// Example: see [`Reception`].
 pub trait Decoding {
-    /// The progress of its frame, its buffer, and its sentinel.
-    ghost inside: { Self → Inside };
+    /// Its bytes.
+    ghost inside: { Self → List ℕ };
 
-    /// Takes a byte of a frame; the length of the message if it ends the frame.
-    fn feed(&mut self, byte: u8) -> Result<Option<usize>, DecodeError>
-        ensures takes { FeedsByte (inside self.old).progress (inside self.old).buffer
-            (bit_xor (inside self.old).sentinel byte) result
-            (inside self.new).progress (inside self.new).buffer }
-        ensures sentinel { (inside self.new).sentinel ≡ (inside self.old).sentinel };
-
-    /// Takes bytes of frames, up to the end of one, which it reports.
-    fn push(&mut self, bytes: &[u8]) -> Result<Option<DecodeReport>, DecodeError>
-        ensures takes { TakesPiece (inside self.old).progress (inside self.old).buffer
-            (masked (inside self.old).sentinel bytes.now) result
-            (inside self.new).progress (inside self.new).buffer }
-        ensures sentinel { (inside self.new).sentinel ≡ (inside self.old).sentinel };
-
-    /// Does what `push` does with bytes that contain no sentinel, if there is room for each of them, and returns whether it
-    /// did. If not, nothing is changed.
+    /// Copies bytes over those of the buffer, from a position on, each XORed with the sentinel.
     ///
     /// # Requires
-    /// No byte is the sentinel.
-    fn push_clear(&mut self, bytes: &[u8]) -> bool
-        requires clear { NoZero (masked (inside self.old).sentinel bytes.now) }
-        ensures takes { TakesClear (inside self.old).progress (inside self.old).buffer
-            (masked (inside self.old).sentinel bytes.now) result
-            (inside self.new).progress (inside self.new).buffer }
-        ensures sentinel { (inside self.new).sentinel ≡ (inside self.old).sentinel };
+    /// They fit.
+    fn hold(&mut self, place: usize, bytes: &[u8], sentinel: u8)
+        requires room { place + length bytes.now ≤ length (inside self.old) }
+        ensures { inside self.new
+            ≡ written_over place (masked sentinel bytes.now) (inside self.old) };
 
-    /// Decodes a complete frame, without its sentinel, and drops what was taken of another; returns the message's length.
+    /// Decodes the first bytes of the buffer in place, up to a zero or all, and returns the length of the message, which is then at the
+    /// start; `None` if they aren't a frame.
     ///
     /// # Requires
-    /// No byte of the frame is the sentinel.
-    fn decode_whole(&mut self, frame: &[u8]) -> Result<usize, DecodeError>
-        requires clear { NoZero (masked (inside self.old).sentinel frame.now) }
-        ensures decodes { DecodesWhole (inside self.old).buffer
-            (masked (inside self.old).sentinel frame.now) result
-            (inside self.new).progress (inside self.new).buffer }
-        ensures sentinel { (inside self.new).sentinel ≡ (inside self.old).sentinel };
+    /// The buffer has so many bytes.
+    fn decode_held(&mut self, count: usize) -> Option<usize>
+        requires within { count ≤ length (inside self.old) }
+        ensures message { IsMessageOf (stretch (take count (inside self.old))) result
+            (inside self.new) }
+        ensures room { length (inside self.new) ≡ length (inside self.old) };
 
-    /// Drops what was taken of a frame.
-    fn reset(&mut self)
-        ensures idle { HasStreamed (inside self.new).progress [] }
-        ensures buffer { (inside self.new).buffer ≡ (inside self.old).buffer }
-        ensures sentinel { (inside self.new).sentinel ≡ (inside self.old).sentinel };
+    /// Decodes a complete frame, without its sentinel, into the buffer, and returns the length of the message; `None` if it isn't a
+    /// frame.
+    ///
+    /// # Requires
+    /// No byte of the frame is the sentinel, and it is no longer than the buffer.
+    fn decode_whole(&mut self, frame: &[u8], sentinel: u8) -> Option<usize>
+        requires clear { NoZero (masked sentinel frame.now) }
+        requires within { length frame.now ≤ length (inside self.old) }
+        ensures message { IsMessageOf (masked sentinel frame.now) result (inside self.new) }
+        ensures room { length (inside self.new) ≡ length (inside self.old) };
 
     /// The buffer.
     fn dest(&self) -> &[u8]
-        ensures { result.now ≡ (inside self.now).buffer };
-
-    /// The byte that ends its frames.
-    fn sentinel(&self) -> u8
-        ensures { result ≡ (inside self.now).sentinel };
+        ensures { result.now ≡ inside self.now };
 }
 
-impl<const N: usize> Decoding for CobsDecoderHeapless<N> {
+/// The buffer of a receiver, of N bytes, in the receiver itself.
+///
+/// # Example
+/// ```rust
+/// pub type LinkDecoder<T, const N: usize> = AnswerDecoder<T, Ordinary<OfType>, ArrayBuffer<N>>;
+/// ```
+#[derive(Drop)]
+pub struct ArrayBuffer<const N: usize> {
+    pub(crate) bytes: [u8; N],
+}
+
+/// The buffer of a receiver, allocated.
+///
+/// # Example
+/// ```rust
+/// pub type OwnedLinkDecoder<T> = AnswerDecoder<T, Ordinary<OfType>, OwnedBuffer>;
+/// ```
+#[derive(Drop)]
+pub struct OwnedBuffer {
+    pub(crate) bytes: Vec<u8>,
+}
+
+// Decodes the first bytes in place.
+#[inline(always)]
+fn decode_front(buffer: &mut [u8], count: usize) -> Option<usize>
+    requires { count ≤ length buffer.old }
+    ensures message { IsMessageOf (stretch (take count buffer.old)) result buffer.new }
+    ensures room { length buffer.new ≡ length buffer.old }
+{
+    cobs::laws::shorter();
+    // the form that is compiled into its caller
+    match cobs::decode_in_place_report_with_sentinel(&mut buffer[..count], 0) {
+        Ok(report) => Some(report.frame_size()),
+        Err(_) => None,
+    }
+}
+
+// Decodes a complete frame, without its sentinel.
+#[inline(always)]
+fn decode_into(buffer: &mut [u8], frame: &[u8], sentinel: u8) -> Option<usize>
+    requires clear { NoZero (masked sentinel frame.now) }
+    requires within { length frame.now ≤ length buffer.old }
+    ensures message { IsMessageOf (masked sentinel frame.now) result buffer.new }
+    ensures room { length buffer.new ≡ length buffer.old }
+{
+    cobs::laws::message_of_a_frame();
+    cobs::laws::shorter();
+    match cobs::decode_clear(frame, buffer, sentinel) {
+        Ok(size) => Some(size),
+        Err(_) => None,
+    }
+}
+
+impl<const N: usize> Decoding for ArrayBuffer<N> {
     ghost use Rattle.link.specs.Decoding.{in_array};
 
     ghost inside = { in_array };
 
-    fn feed(&mut self, byte: u8) -> Result<Option<usize>, DecodeError> {
-        self.feed(byte)
+    fn hold(&mut self, place: usize, bytes: &[u8], sentinel: u8) {
+        cobs::copy_over(bytes, &mut self.bytes[..], place, sentinel);
     }
 
-    fn push(&mut self, bytes: &[u8]) -> Result<Option<DecodeReport>, DecodeError> {
-        self.push(bytes)
+    fn decode_held(&mut self, count: usize) -> Option<usize> {
+        decode_front(&mut self.bytes[..], count)
     }
 
-    fn push_clear(&mut self, bytes: &[u8]) -> bool {
-        self.push_clear(bytes)
-    }
-
-    fn decode_whole(&mut self, frame: &[u8]) -> Result<usize, DecodeError> {
-        self.decode_whole(frame)
-    }
-
-    fn reset(&mut self) {
-        self.reset();
+    fn decode_whole(&mut self, frame: &[u8], sentinel: u8) -> Option<usize> {
+        decode_into(&mut self.bytes[..], frame, sentinel)
     }
 
     fn dest(&self) -> &[u8] {
-        self.dest()
-    }
-
-    fn sentinel(&self) -> u8 {
-        self.sentinel()
+        &self.bytes[..]
     }
 }
 
-impl Decoding for CobsDecoderOwned {
+impl Decoding for OwnedBuffer {
     ghost use Rattle.link.specs.Decoding.{in_owner};
 
     ghost inside = { in_owner };
 
-    fn feed(&mut self, byte: u8) -> Result<Option<usize>, DecodeError> {
-        self.feed(byte)
+    fn hold(&mut self, place: usize, bytes: &[u8], sentinel: u8) {
+        cobs::copy_over(bytes, self.bytes.as_mut_slice(), place, sentinel);
     }
 
-    fn push(&mut self, bytes: &[u8]) -> Result<Option<DecodeReport>, DecodeError> {
-        self.push(bytes)
+    fn decode_held(&mut self, count: usize) -> Option<usize> {
+        decode_front(self.bytes.as_mut_slice(), count)
     }
 
-    fn push_clear(&mut self, bytes: &[u8]) -> bool {
-        self.push_clear(bytes)
-    }
-
-    fn decode_whole(&mut self, frame: &[u8]) -> Result<usize, DecodeError> {
-        self.decode_whole(frame)
-    }
-
-    fn reset(&mut self) {
-        self.reset();
+    fn decode_whole(&mut self, frame: &[u8], sentinel: u8) -> Option<usize> {
+        decode_into(self.bytes.as_mut_slice(), frame, sentinel)
     }
 
     fn dest(&self) -> &[u8] {
-        self.dest()
-    }
-
-    fn sentinel(&self) -> u8 {
-        self.sentinel()
+        self.bytes.as_slice()
     }
 }

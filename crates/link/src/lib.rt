@@ -60,7 +60,7 @@ mod sender;
 mod session;
 mod writing;
 
-pub use decoding::Decoding;
+pub use decoding::{ArrayBuffer, Decoding, OwnedBuffer};
 pub use each::Hearer;
 pub use framed::{Framed, frame_into, frame_into_with_sentinel};
 pub use gathering::{Gathered, receive_by_accumulator, receive_by_accumulator_with_sentinel};

@@ -1,9 +1,9 @@
 //! The receiver whose limit is set at run time.
 ghost use Rattle.std.specs.Prelude.{◌≡◌, ◌≤◌, ℕ, List, [], IsOk, IfOk, OnOk, OnErr};
 
+use crate::decoding::OwnedBuffer;
 use crate::receiver::NoMemory;
 use crate::reception::Reception;
-use cobs::CobsDecoderOwned;
 use std::alloc::Global;
 
 /// A receiver whose limit is set at run time, and can be changed between stretches. A limit of 0 is allowed.
@@ -20,9 +20,9 @@ use std::alloc::Global;
 /// let passed = is_lent(&lent, 5, &"hi");
 /// check(&rt, passed && receiver.is_between());
 /// ```
-pub type OwnedReceiver = Reception<CobsDecoderOwned>;
+pub type OwnedReceiver = Reception<OwnedBuffer>;
 
-impl Reception<CobsDecoderOwned> {
+impl Reception<OwnedBuffer> {
     ghost use Rattle.link.specs.Decoding.{in_owner};
     ghost use Rattle.link.specs.Receivers.{IsBehind, IsBetween, limit_of, sentinel_of};
 
@@ -38,9 +38,9 @@ impl Reception<CobsDecoderOwned> {
         ensures limit { IfOk result (λ r. limit_of in_owner r ≡ limit) }
         ensures sentinel { IfOk result (λ r. sentinel_of r ≡ sentinel) }
     {
-        match CobsDecoderOwned::new_with_sentinel(alloc, limit, sentinel) {
-            Ok(decoder) => Ok(Reception {
-                decoder,
+        match vec![in alloc; 0; limit] {
+            Ok(bytes) => Ok(Reception {
+                buffer: OwnedBuffer { bytes },
                 count: 0,
                 past: false,
                 sentinel,
@@ -76,9 +76,7 @@ impl Reception<CobsDecoderOwned> {
         ensures between { IsBetween self.new }
         ensures sentinel { sentinel_of self.new ≡ sentinel_of self.old }
     {
-        // nothing of a stretch is forgotten, since none is begun
-        self.decoder.reset();
-        match self.decoder.resize(limit) {
+        match self.buffer.bytes.resize(limit, 0) {
             Ok(()) => Ok(()),
             Err(_) => Err(NoMemory),
         }

@@ -1,8 +1,8 @@
 //! The results of receivers, and the receiver whose limit is part of its type.
 ghost use Rattle.std.specs.Prelude.{◌≡◌, []};
 
+use crate::decoding::ArrayBuffer;
 use crate::reception::Reception;
-use cobs::CobsDecoderHeapless;
 use thiserror::Error;
 
 /// What a receiver reports of the bytes between two sentinels.
@@ -57,9 +57,9 @@ pub struct Pushed<T> {
 /// check(&rt, matches!(&ended.answer, Ok(None)));
 /// check(&rt, receiver.is_between());
 /// ```
-pub type Receiver<const N: usize> = Reception<CobsDecoderHeapless<N>>;
+pub type Receiver<const N: usize> = Reception<ArrayBuffer<N>>;
 
-impl<const N: usize> Reception<CobsDecoderHeapless<N>> {
+impl<const N: usize> Reception<ArrayBuffer<N>> {
     ghost use Rattle.link.specs.Decoding.{in_array};
     ghost use Rattle.link.specs.Receivers.{IsBehind, limit_of, sentinel_of};
 
@@ -79,7 +79,7 @@ impl<const N: usize> Reception<CobsDecoderHeapless<N>> {
         ensures sentinel { sentinel_of result ≡ sentinel }
     {
         Reception {
-            decoder: CobsDecoderHeapless::new_with_sentinel(sentinel),
+            buffer: ArrayBuffer { bytes: [0; N] },
             count: 0,
             past: false,
             sentinel,

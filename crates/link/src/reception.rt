@@ -1,5 +1,5 @@
 //! Receiving values from a stream that comes in chunks.
-ghost use Rattle.std.specs.Prelude.{◌≡◌, ◌≢◌, ℕ, ◌<◌, ◌≤◌, ◌↔◌, length, slice_index, List, [], take, drop, true, OnErr, IsTrue, IfSome, MatchOption};
+ghost use Rattle.std.specs.Prelude.{◌≡◌, ◌≢◌, ℕ, min, ◌<◌, ◌≤◌, ◌↔◌, length, slice_index, List, [], take, drop, true, OnErr, IsTrue, IfSome, MatchOption};
 ghost use Rattle.postcard.specs.Frames.{Holds};
 ghost use Rattle.cobs.specs.Frames.{NoZero};
 ghost use Rattle.cobs.specs.Sentinel.{masked};
@@ -53,10 +53,12 @@ pub(crate) struct Taken<M> {
 /// ```
 #[derive(Drop)]
 pub struct Reception<D> {
-    // Any decoder, not a type for each: so each contract, also that of `push_ref` by hand, is proved once. Its sentinel is the
-    // receiver's; its buffer has as many bytes as the limit.
-    pub(crate) decoder: D,
+    // Any buffer, not a type for each: so each contract, also that of `push_ref` by hand, is proved once. It has as many bytes as
+    // the limit.
+    pub(crate) buffer: D,
+    // how many bytes of a stretch it holds, each XORed with the sentinel
     pub(crate) count: usize,
+    // whether the stretch went past the limit
     pub(crate) past: bool,
     pub(crate) sentinel: u8,
 }
@@ -105,7 +107,7 @@ impl<D: Decoding> Reception<D> {
     pub fn limit(&self) -> usize
         ensures { result ≡ limit_of D.inside self.now }
     {
-        self.decoder.dest().len()
+        self.buffer.dest().len()
     }
 
     /// The byte that ends a stretch.
@@ -113,6 +115,14 @@ impl<D: Decoding> Reception<D> {
         ensures { result ≡ sentinel_of self.now }
     {
         self.sentinel
+    }
+
+    // How many bytes of a stretch it holds: all, since that many fit.
+    #[inline(always)]
+    fn held(&self) -> usize
+        ensures { result ≡ min self.now.count (limit_of D.inside self.now) }
+    {
+        self.count.min(self.limit())
     }
 
     // Ends a stretch.
@@ -124,14 +134,11 @@ impl<D: Decoding> Reception<D> {
         ensures within { IsWithin (length (buffer_in D.inside self.new)) result }
         ensures same { SameTerms D.inside self.old self.new }
     {
-        cobs::laws::message_of_a_frame();
-        cobs::laws::shorter();
-        cobs::laws::answers();
+        let count = self.held();
         self.count = 0;
-        match self.decoder.feed(self.sentinel) {
-            Ok(Some(size)) => Found::Whole(size),
-            Ok(None) => Found::Nothing,
-            Err(_) => Found::Damaged,
+        match self.buffer.decode_held(count) {
+            Some(size) => Found::Whole(size),
+            None => Found::Damaged,
         }
     }
 
@@ -154,11 +161,9 @@ impl<D: Decoding> Reception<D> {
         self.close()
     }
 
-    // Takes a run without sentinels. If it exceeds the limit: how many of its bytes were used, with the one past the limit. It is
-    // compiled once for each number: one that is called once goes into its caller.
+    // Takes a run without sentinels. If it exceeds the limit: how many of its bytes were used, with the one past the limit.
     #[inline(always)]
-    fn take_run<const COPY: usize>(&mut self, run: &[u8]) -> Option<usize>
-        requires { NoZero (masked (D.inside self.old.decoder).sentinel run.now) }
+    fn take_run(&mut self, run: &[u8]) -> Option<usize>
         ensures runs { (limit s : ℕ) (b : Begun) → NoZero (masked s run.now)
             → IsAt D.inside limit s self.old b
             → MatchOption result (RunsOn limit s b run.now (IsAt D.inside limit s self.new))
@@ -166,37 +171,35 @@ impl<D: Decoding> Reception<D> {
         ensures within { IfSome result (λ used. (0 < used) × (used ≤ length run.now)) }
         ensures same { SameTerms D.inside self.old self.new }
     {
-        cobs::laws::shorter();
         if self.past {
             return None;
         }
-        let left = self.limit().saturating_sub(self.count);
+        let held = self.held();
+        let left = self.limit() - held;
         if run.len() > left {
             self.past = true;
             self.count = 0;
-            self.decoder.reset();
             return Some(left + 1);
         }
-        self.count += run.len();
-        let _ = self.decoder.push_clear(run);
+        self.count = held + run.len();
+        self.buffer.hold(held, run, self.sentinel);
         None
     }
 
     // Takes a complete stretch within the limit, without its sentinel; none was begun.
     #[inline(always)]
     fn take_whole(&mut self, stretch: &[u8]) -> Found<usize>
-        requires { NoZero (masked (D.inside self.old.decoder).sentinel stretch.now) }
+        requires clear { NoZero (masked self.old.sentinel stretch.now) }
+        requires within { length stretch.now ≤ limit_of D.inside self.old }
         ensures found { (limit s : ℕ) → IsAt D.inside limit s self.old (kept [])
-            → 0 < length stretch.now → length stretch.now ≤ limit
+            → 0 < length stretch.now
             → IsAt D.inside limit s self.new (kept [])
             × Finds (front_of (buffer_in D.inside self.new)) (Event.ended (masked s stretch.now))
             result }
         ensures within { IsWithin (length (buffer_in D.inside self.new)) result }
         ensures same { SameTerms D.inside self.old self.new }
     {
-        cobs::laws::message_of_a_frame();
-        cobs::laws::shorter();
-        let Ok(size) = self.decoder.decode_whole(stretch) else {
+        let Some(size) = self.buffer.decode_whole(stretch, self.sentinel) else {
             return Found::Damaged;
         };
         Found::Whole(size)
@@ -206,7 +209,7 @@ impl<D: Decoding> Reception<D> {
     #[inline(always)]
     fn take_one(&mut self, byte: &[u8]) -> Taken<usize>
         requires one { length byte.now ≡ 1 }
-        requires other { slice_index byte.now 0 ≢ (D.inside self.old.decoder).sentinel }
+        requires other { slice_index byte.now 0 ≢ self.old.sentinel }
         ensures at { (limit s : ℕ) (b : Begun) → IsAt D.inside limit s self.old b
             → IsAt D.inside limit s self.new (course_of limit s b byte.now).begun }
         ensures taken { (limit s : ℕ) (b : Begun) → IsAt D.inside limit s self.old b
@@ -216,7 +219,7 @@ impl<D: Decoding> Reception<D> {
         ensures used { result.used ≡ 1 }
         ensures same { SameTerms D.inside self.old self.new }
     {
-        match self.take_run::<0>(byte) {
+        match self.take_run(byte) {
             Some(used) => {
                 let stretch = self.limit();
                 Taken {
@@ -234,9 +237,7 @@ impl<D: Decoding> Reception<D> {
     }
 
     // Takes bytes through the first sentinel, or up to the byte past the limit. Whole runs are taken, and skipped past the limit, which
-    // is several times as fast as byte by byte. A stretch that is complete there is decoded at once, which drops earlier state: one
-    // search, one copy. Another one is searched once more by the streaming decoder: to search it in `push` would rescan a long frame
-    // for each chunk.
+    // is several times as fast as byte by byte. A stretch that is complete there is decoded from the chunk: one search, one copy.
     #[inline(always)]
     fn take_next(&mut self, bytes: &[u8]) -> Taken<usize>
         ensures brings { (limit s : ℕ) (b : Begun) → IsAt D.inside limit s self.old b
@@ -247,7 +248,7 @@ impl<D: Decoding> Reception<D> {
         ensures forward { 0 < length bytes.now → 0 < result.used }
         ensures same { SameTerms D.inside self.old self.new }
     {
-        let sentinel = self.decoder.sentinel();
+        let sentinel = self.sentinel;
         let between = self.is_between();
         if between {
             let idle = idle_bytes(bytes, sentinel);
@@ -268,7 +269,7 @@ impl<D: Decoding> Reception<D> {
                 found: self.take_whole(run),
             };
         }
-        match self.take_run::<1>(run) {
+        match self.take_run(run) {
             Some(used) => {
                 return Taken {
                     used,
@@ -346,7 +347,7 @@ impl<D: Decoding> Reception<D> {
         ensures forward { 0 < length piece.now → 0 < result.used }
         ensures same { SameTerms D.inside self.old self.new }
     {
-        if piece.len() == 1 && piece[0] != self.decoder.sentinel() {
+        if piece.len() == 1 && piece[0] != self.sentinel {
             return self.take_one(piece);
         }
         self.take_many(piece)
@@ -367,7 +368,7 @@ impl<D: Decoding> Reception<D> {
                 Found::Nothing => Found::Nothing,
                 Found::Damaged => Found::Damaged,
                 Found::TooLong => Found::TooLong,
-                Found::Whole(size) => Found::Whole(&self.decoder.dest()[..size]),
+                Found::Whole(size) => Found::Whole(&self.buffer.dest()[..size]),
             },
         }
     }
@@ -526,7 +527,6 @@ impl<D: Decoding> Reception<D> {
         let answer = self.ending();
         self.past = false;
         self.count = 0;
-        self.decoder.reset();
         answer
     }
 }

@@ -3,8 +3,7 @@ ghost use Rattle.std.specs.Prelude.{[], IfOk};
 
 use crate::by_type::ByType;
 use crate::decoder::AnswerDecoder;
-use cobs::CobsDecoderOwned;
-use link::{NoMemory, OfType, Ordinary, OwnedReceiver, Strict};
+use link::{NoMemory, OfType, Ordinary, OwnedBuffer, OwnedReceiver, Strict};
 use std::alloc::Global;
 
 /// A decoder with the results of `push` of an `OwnedReceiver`.
@@ -17,7 +16,7 @@ use std::alloc::Global;
 /// };
 /// let answers = FramedRead::new(rt.alloc(), stream, decoder)?;
 /// ```
-pub type OwnedLinkDecoder<T> = AnswerDecoder<T, Ordinary<OfType>, CobsDecoderOwned>;
+pub type OwnedLinkDecoder<T> = AnswerDecoder<T, Ordinary<OfType>, OwnedBuffer>;
 
 /// As `OwnedLinkDecoder`, with the results of `push_strict`: a value only for exactly the frame that sending it writes.
 ///
@@ -28,9 +27,9 @@ pub type OwnedLinkDecoder<T> = AnswerDecoder<T, Ordinary<OfType>, CobsDecoderOwn
 ///     Err(_) => None,
 /// }
 /// ```
-pub type StrictOwnedLinkDecoder<T> = AnswerDecoder<T, Strict<OfType>, CobsDecoderOwned>;
+pub type StrictOwnedLinkDecoder<T> = AnswerDecoder<T, Strict<OfType>, OwnedBuffer>;
 
-impl<T, M: ByType> AnswerDecoder<T, M, CobsDecoderOwned> {
+impl<T, M: ByType> AnswerDecoder<T, M, OwnedBuffer> {
     ghost use Rattle.link_codec.specs.Decoders.{IsGiven};
 
     /// A decoder that was given nothing, with this limit and sentinel.
@@ -44,7 +43,7 @@ impl<T, M: ByType> AnswerDecoder<T, M, CobsDecoderOwned> {
         alloc: Global,
         limit: usize,
         sentinel: u8,
-    ) -> Result<AnswerDecoder<T, M, CobsDecoderOwned>, NoMemory>
+    ) -> Result<AnswerDecoder<T, M, OwnedBuffer>, NoMemory>
         ensures { IfOk result (λ d. IsGiven limit sentinel d []) }
     {
         let receiver = OwnedReceiver::new(alloc, limit, sentinel)?;

@@ -1,7 +1,7 @@
 //! `cobs`: decoders over a borrowed buffer, an array and a vector, also for any sentinel.
 use crate::checks::{all_true, are_equal, check, check_all, fails, gives, goes_on, takes};
 use arrayvec::ArrayVec;
-use cobs::{CobsDecoder, CobsDecoderHeapless, CobsDecoderOwned, DecodeError};
+use cobs::{CobsDecoder, CobsDecoderHeapless, CobsDecoderOwned, DecodeError, decode_clear};
 
 // 10, 11, 0, 12 as a frame for the sentinel 10
 const FRAME: [u8; 5] = [9, 0, 1, 8, 6];
@@ -92,18 +92,40 @@ fn arrays(rt: HostRuntime) {
     );
 }
 
-// A frame that is whole is decoded at once, whatever was taken in before it; and one after a reset.
+// A frame that was cut out before: of a sentinel; one that doesn't fit; one that ends inside a block; and a long one.
+#[test]
+fn frames_without_sentinels(rt: HostRuntime) {
+    let mut room = [0; 4];
+    let mut long = [2; 300];
+    long[0] = 255;
+    let mut message = [0; 300];
+    check_all(
+        &rt,
+        [
+            gives(decode_clear(&[8, 8, 8, 15], &mut room, 10), 3),
+            are_equal(&room, &[2, 0, 5, 0]),
+            fails(
+                decode_clear(&[3, 1, 1, 3, 1, 1], &mut room, 0),
+                DecodeError::TargetBufTooSmall,
+            ),
+            fails(
+                decode_clear(&[3, 1], &mut room, 0),
+                DecodeError::InvalidFrame { decoded_bytes: 1 },
+            ),
+            fails(
+                decode_clear(&long[..254], &mut message, 0),
+                DecodeError::InvalidFrame { decoded_bytes: 253 },
+            ),
+            gives(decode_clear(&long[..255], &mut message, 0), 254),
+        ],
+    );
+}
+
+// A decoder of a sentinel, and after a reset.
 #[test]
 fn array_of_another_sentinel(rt: HostRuntime) {
     let mut decoder = CobsDecoderHeapless::<4>::new_with_sentinel(10);
-    let at_once = all_true([
-        decoder.sentinel() == 10,
-        goes_on(decoder.feed(9)),
-        gives(decoder.decode_whole(&[8, 8, 8, 15]), 3),
-        are_equal(decoder.dest(), &[2, 0, 5, 0]),
-        goes_on(decoder.feed(10)),
-        decoder.push_clear(&[9, 0, 1]),
-    ]);
+    let at_once = all_true([decoder.sentinel() == 10, goes_on(decoder.push(&[9, 0, 1]))]);
     decoder.reset();
     check_all(
         &rt,
@@ -187,11 +209,9 @@ fn vectors(rt: HostRuntime) {
             are_equal(decoder.dest(), &[0, 0, 0]),
             decoder.sentinel() == 0,
             goes_on(decoder.feed(3)),
-            decoder.push_clear(&[9, 9]),
-            !decoder.push_clear(&[9, 9]),
-            gives(decoder.decode_whole(&[2, 7]), 1),
-            are_equal(decoder.dest(), &[7, 9, 0]),
-            goes_on(decoder.feed(0)),
+            goes_on(decoder.push(&[9, 9])),
+            gives(decoder.feed(0), Some(2)),
+            are_equal(decoder.dest(), &[9, 9, 0]),
             takes_all(&mut decoder),
         ]),
         Err(_) => false,

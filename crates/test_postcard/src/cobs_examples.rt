@@ -74,7 +74,12 @@ fn decoded_in_chunks(rt: HostRuntime) {
     check(&rt, are_equal(decoder.dest(), &[10, 11, 0, 12]));
     let mut decoder = CobsDecoderHeapless::<4>::new();
     check(&rt, takes(decoder.push(&[3, 10, 11, 2, 12, 0]), 6, 4));
-    check(&rt, gives(decoder.decode_whole(&[2, 7]), 1));
+    let mut message = [0; 4];
+    check(&rt, gives(decode_clear(&[2, 7], &mut message, 0), 1));
+    check(&rt, message[0] == 7);
+    let mut buffer = [7; 4];
+    copy_over(&[10, 11], &mut buffer, 1, 10);
+    check(&rt, are_equal(&buffer, &[7, 0, 1, 7]));
     let is_decoded = match CobsDecoderOwned::new(rt.alloc(), 4) {
         Ok(mut decoder) => takes(decoder.push(&[3, 10, 11, 2, 12, 0]), 6, 4),
         Err(_) => false,

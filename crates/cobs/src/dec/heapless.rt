@@ -1,7 +1,6 @@
 //! The streaming decoder over an array of its own.
 ghost use Rattle.std.specs.Prelude.{bit_xor, ◌≡◌, ◌+◌, ◌-◌, ◌≤◌, [], ◌++◌, length, replicate};
 ghost use Rattle.std.specs.Borrow.{sem};
-ghost use Rattle.cobs.specs.Frames.{NoZero};
 ghost use Rattle.cobs.specs.InPlace.{written_over};
 ghost use Rattle.cobs.specs.Sentinel.{masked};
 
@@ -16,7 +15,6 @@ use arrayvec::ArrayVec;
 /// ```rust
 /// let mut decoder = CobsDecoderHeapless::<4>::new();
 /// check(&rt, takes(decoder.push(&[3, 10, 11, 2, 12, 0]), 6, 4));
-/// check(&rt, gives(decoder.decode_whole(&[2, 7]), 1));
 /// ```
 #[derive(Drop)]
 pub struct CobsDecoderHeapless<const N: usize> {
@@ -27,8 +25,7 @@ pub struct CobsDecoderHeapless<const N: usize> {
 
 impl<const N: usize> CobsDecoderHeapless<N> {
     ghost use Rattle.cobs.specs.Arrays.{ArrayHas, array_progress, array_buffer, array_sentinel, LendsArrayBuffer};
-    ghost use Rattle.cobs.specs.Clear.{TakesClear};
-    ghost use Rattle.cobs.specs.Taking.{FeedsByte, TakesPiece, DecodesWhole};
+    ghost use Rattle.cobs.specs.Taking.{FeedsByte, TakesPiece};
 
     /// An idle decoder of frames that end with a zero, over a buffer of zeros.
     pub fn new() -> CobsDecoderHeapless<N>
@@ -107,43 +104,6 @@ impl<const N: usize> CobsDecoderHeapless<N> {
     {
         self.progress
             .push(self.array.as_mut_slice(), data, self.sentinel)
-    }
-
-    /// Does what `push` does with bytes that contain no sentinel, if there is room for each of them after the message so
-    /// far. They aren't searched. Returns whether they were taken: if not, nothing is changed.
-    ///
-    /// # Requires
-    /// No byte is the sentinel.
-    pub fn push_clear(&mut self, data: &[u8]) -> bool
-        requires { NoZero (masked (array_sentinel self.old) «data».now) }
-        ensures takes { TakesClear (array_progress self.old) (array_buffer self.old)
-            (masked (array_sentinel self.old) «data».now) result
-            (array_progress self.new) (array_buffer self.new) }
-        ensures sentinel { array_sentinel self.new ≡ array_sentinel self.old }
-    {
-        self.progress
-            .push_clear(self.array.as_mut_slice(), data, self.sentinel)
-    }
-
-    /// Decodes a complete frame, without its sentinel, and returns the message's length n: the message is
-    /// `dest()[..n]`.
-    ///
-    /// An unfinished frame is dropped, and the decoder is idle afterwards.
-    ///
-    /// # Errors
-    /// Those of [`decode_with_sentinel`](crate::decode_with_sentinel), with the same buffer.
-    ///
-    /// # Requires
-    /// No byte of the frame is the sentinel.
-    pub fn decode_whole(&mut self, frame: &[u8]) -> Result<usize, DecodeError>
-        requires { NoZero (masked (array_sentinel self.old) frame.now) }
-        ensures decodes { DecodesWhole (array_buffer self.old)
-            (masked (array_sentinel self.old) frame.now) result
-            (array_progress self.new) (array_buffer self.new) }
-        ensures sentinel { array_sentinel self.new ≡ array_sentinel self.old }
-    {
-        self.progress
-            .decode(self.array.as_mut_slice(), frame, self.sentinel)
     }
 
     /// Makes the decoder idle. An unfinished frame is dropped; the sentinel stays.

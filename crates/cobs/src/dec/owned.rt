@@ -1,7 +1,6 @@
 //! The streaming decoder over a vector of its own.
 ghost use Rattle.std.specs.Prelude.{bit_xor, ◌≡◌, ℕ, ◌+◌, ◌-◌, ◌≤◌, List, [], ◌++◌, length, take, replicate, ◌↔◌, IsTrue, IsOk, IfOk, OnOk, OnErr};
 ghost use Rattle.std.specs.Borrow.{sem};
-ghost use Rattle.cobs.specs.Frames.{NoZero};
 ghost use Rattle.cobs.specs.InPlace.{written_over};
 ghost use Rattle.cobs.specs.Sentinel.{masked};
 
@@ -28,8 +27,7 @@ pub struct CobsDecoderOwned {
 
 impl CobsDecoderOwned {
     ghost use Rattle.cobs.specs.Owners.{OwnedHas, owned_progress, owned_buffer, owned_sentinel, LendsOwnedBuffer};
-    ghost use Rattle.cobs.specs.Clear.{TakesClear};
-    ghost use Rattle.cobs.specs.Taking.{FeedsByte, TakesPiece, DecodesWhole};
+    ghost use Rattle.cobs.specs.Taking.{FeedsByte, TakesPiece};
 
     /// An idle decoder of frames that end with a zero, over a buffer of `size` zeros.
     ///
@@ -98,41 +96,6 @@ impl CobsDecoderOwned {
     {
         self.progress
             .push(self.buffer.as_mut_slice(), data, self.sentinel)
-    }
-
-    /// Does what `push` does with bytes that contain no sentinel, if there is room for each of them after the message so
-    /// far. They aren't searched. Returns whether they were taken: if not, nothing is changed.
-    ///
-    /// # Requires
-    /// No byte is the sentinel.
-    pub fn push_clear(&mut self, data: &[u8]) -> bool
-        requires { NoZero (masked (owned_sentinel self.old) «data».now) }
-        ensures takes { TakesClear (owned_progress self.old) (owned_buffer self.old)
-            (masked (owned_sentinel self.old) «data».now) result
-            (owned_progress self.new) (owned_buffer self.new) }
-        ensures sentinel { owned_sentinel self.new ≡ owned_sentinel self.old }
-    {
-        self.progress
-            .push_clear(self.buffer.as_mut_slice(), data, self.sentinel)
-    }
-
-    /// Decodes a complete frame, without its sentinel, and returns the message's length n: the message is
-    /// `dest()[..n]`. An unfinished frame is dropped, and the decoder is idle afterwards.
-    ///
-    /// # Errors
-    /// Those of [`decode_with_sentinel`](crate::decode_with_sentinel), with the same buffer.
-    ///
-    /// # Requires
-    /// No byte of the frame is the sentinel.
-    pub fn decode_whole(&mut self, frame: &[u8]) -> Result<usize, DecodeError>
-        requires { NoZero (masked (owned_sentinel self.old) frame.now) }
-        ensures decodes { DecodesWhole (owned_buffer self.old)
-            (masked (owned_sentinel self.old) frame.now) result
-            (owned_progress self.new) (owned_buffer self.new) }
-        ensures sentinel { owned_sentinel self.new ≡ owned_sentinel self.old }
-    {
-        self.progress
-            .decode(self.buffer.as_mut_slice(), frame, self.sentinel)
     }
 
     /// Makes the decoder idle. An unfinished frame is dropped; the sentinel stays.

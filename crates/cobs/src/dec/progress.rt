@@ -6,13 +6,11 @@
 //! bound an index.
 ghost use Rattle.std.specs.Prelude.{bit_xor, ◌≡◌, ◌≢◌, ◌^◌, ℕ, ◌+◌, ◌-◌, ◌<◌, ◌≤◌, List, [], ◌∷◌, ◌++◌, length, take, drop, slice_index, ◌↔◌, IsTrue, IfOk, IfSome, IsNone};
 ghost use Rattle.cobs.specs.Feeding.{placed};
-ghost use Rattle.cobs.specs.Frames.{NoZero};
 ghost use Rattle.cobs.specs.Sentinel.{masked};
 ghost use Rattle.cobs.specs.Streaming.{HasStreamed};
 
 use super::report::{DecodeError, DecodeReport};
 use super::state::{DecoderState, by_code};
-use super::whole::decode_clear;
 use super::window::{FEW, ROW, WINDOW, copy_until, decode_at_once, put_zeros, same_by_64};
 use crate::finding::before_sentinel;
 use crate::moves::{copy_block, copy_over, move_down, zero_over};
@@ -26,8 +24,7 @@ pub(crate) struct Progress {
 
 impl Progress {
     ghost use Rattle.cobs.specs.Feeding.{at_zero, at_byte};
-    ghost use Rattle.cobs.specs.Clear.{TakesClear};
-    ghost use Rattle.cobs.specs.Taking.{FeedsByte, StoresByte, TakesPiece, TakesFront, DecodesWhole, Owes, left_in};
+    ghost use Rattle.cobs.specs.Taking.{FeedsByte, StoresByte, TakesPiece, TakesFront, Owes, left_in};
 
     pub(crate) fn new() -> Progress
         ensures { HasStreamed result [] }
@@ -345,66 +342,6 @@ impl Progress {
         self.take_code(buffer, byte)
     }
 
-    // Takes a byte that fits, not the zero after a frame.
-    #[inline(always)]
-    fn take_byte(&mut self, buffer: &mut [u8], byte: u8)
-        requires some { 0 < byte }
-        requires room { self.old.len < length buffer.old }
-        ensures len { self.new.len ≤ self.old.len + 1 }
-        ensures front { (p : List ℕ) → HasStreamed self.old p
-            → TakesFront p (byte ∷ []) buffer.old 1 self.new buffer.new }
-    {
-        let place = self.len;
-        let state = self.state;
-        if 0 < state.left() {
-            self.state = state.behind(1);
-            buffer[place] = byte;
-            self.len = place + 1;
-            return;
-        }
-        self.state = by_code(byte);
-        match state {
-            DecoderState::Idle => {}
-            DecoderState::GrabChain(_) => {}
-            DecoderState::Grab(_) => {
-                buffer[place] = 0;
-                self.len = place + 1;
-            }
-        }
-    }
-
-    // Takes bytes that fit, one by one: none of them is the sentinel.
-    #[inline(always)]
-    fn take_each(&mut self, buffer: &mut [u8], bytes: &[u8], sentinel: u8)
-        requires room { 0 < length bytes.now → self.old.len + length bytes.now ≤ length buffer.old }
-        requires clear { (k : ℕ) → k < length bytes.now → slice_index bytes.now k ≢ sentinel }
-        ensures { (p : List ℕ) → HasStreamed self.old p → TakesFront p (masked sentinel bytes.now)
-            buffer.old (length bytes.now) self.new buffer.new }
-    {
-        let mut read: usize = 0;
-        while read < bytes.len() {
-            self.take_byte(buffer, sentinel ^ bytes[read]);
-            read += 1;
-        }
-    }
-
-    // The same: a few one by one, others at once. What is kept stays in registers meanwhile.
-    #[inline(never)]
-    fn take_fitting(&mut self, buffer: &mut [u8], bytes: &[u8], sentinel: u8)
-        requires room { 0 < length bytes.now → self.old.len + length bytes.now ≤ length buffer.old }
-        requires clear { (k : ℕ) → k < length bytes.now → slice_index bytes.now k ≢ sentinel }
-        ensures { (p : List ℕ) → HasStreamed self.old p → TakesFront p (masked sentinel bytes.now)
-            buffer.old (length bytes.now) self.new buffer.new }
-    {
-        let mut now = *self;
-        if bytes.len() < FEW {
-            now.take_each(buffer, bytes, sentinel);
-        } else {
-            now.take_all::<4>(buffer, bytes, sentinel);
-        }
-        *self = now;
-    }
-
     // Takes bytes before a sentinel, at most a window, if the next code stands for a zero: they are searched as they are copied.
     // All fit. Returns how many.
     #[inline(always)]
@@ -531,39 +468,6 @@ impl Progress {
             Ok(Some(decoded)) => Ok(Some(DecodeReport { parsed: 1, decoded })),
             Err(e) => Err(e),
         }
-    }
-
-    // Takes bytes without a sentinel, without a search, if they certainly fit. Of one byte no call is made.
-    #[inline(always)]
-    pub(crate) fn push_clear(&mut self, buffer: &mut [u8], piece: &[u8], sentinel: u8) -> bool
-        requires { NoZero (masked sentinel piece.now) }
-        ensures { TakesClear self.old buffer.old
-            (masked sentinel piece.now) result self.new buffer.new }
-    {
-        if buffer.len().saturating_sub(self.len) < piece.len() {
-            return false;
-        }
-        if piece.len() == 1 {
-            self.take_each(buffer, piece, sentinel);
-            return true;
-        }
-        self.take_fitting(buffer, piece, sentinel);
-        true
-    }
-
-    // Decodes a frame that is complete, each byte of it XORed with the sentinel. What was taken of another is dropped.
-    #[inline(always)]
-    pub(crate) fn decode(
-        &mut self,
-        buffer: &mut [u8],
-        frame: &[u8],
-        sentinel: u8,
-    ) -> Result<usize, DecodeError>
-        requires { NoZero (masked sentinel frame.now) }
-        ensures { DecodesWhole buffer.old (masked sentinel frame.now) result self.new buffer.new }
-    {
-        self.reset();
-        decode_clear(frame, buffer, sentinel)
     }
 
     // Takes a chunk up to the first result. The call gets a copy of what is kept, so that this can stay in registers elsewhere.

@@ -287,17 +287,33 @@ pub fn decode_with_sentinel(
     decode_before::<2, 1>(source, dest, sentinel)
 }
 
-// Decodes bytes that contain no sentinel, each XORed with it. Short frames are decoded at once, without a second
-// search, and compiled into each path of a receiver.
+/// Decodes a complete frame, without its sentinel, each byte XORed with it, and returns the message's length.
+///
+/// The result and `dest` are those of [`decode_with_sentinel`], but a short frame isn't searched for its end.
+///
+/// # Errors
+/// Those of [`decode_with_sentinel`].
+///
+/// # Requires
+/// No byte of the frame is the sentinel.
+///
+/// # Example
+/// ```rust
+/// let mut message = [0; 4];
+/// check(&rt, gives(decode_clear(&[2, 7], &mut message, 0), 1));
+/// check(&rt, message[0] == 7);
+/// ```
+// It is compiled into each path of a receiver.
 #[inline(always)]
-pub(crate) fn decode_clear(
-    frame: &[u8],
-    dest: &mut [u8],
-    sentinel: u8,
-) -> Result<usize, DecodeError>
+pub fn decode_clear(frame: &[u8], dest: &mut [u8], sentinel: u8) -> Result<usize, DecodeError>
     requires { NoZero (masked sentinel frame.now) }
     ensures answer { result ≡ decoded_into (length dest.old) (masked sentinel frame.now) }
+    ensures frame { let p = masked sentinel frame.now in
+        IfOk result (λ n. p ≢ [] → Frame p (take n dest.new)) }
+    ensures no_frame { OnErr result ((m : List ℕ) → Frame (masked sentinel frame.now) m
+        → length dest.old < length m) }
     ensures dest { dest.new ≡ overwritten (part (masked sentinel frame.now)) dest.old }
+    ensures within { IfOk result (λ n. n ≤ length dest.old) }
 {
     if has_room(frame, dest.len()) && is_short(frame, sentinel) {
         return decode_short(frame, dest, sentinel);

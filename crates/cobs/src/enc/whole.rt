@@ -83,9 +83,10 @@ pub fn encoded_length(source: &[u8]) -> usize
     ensures at_most { result ≤ most_length (length source.now) }
     ensures without_zero { NoZero source.now → result ≡ most_length (length source.now) }
 {
-    // One code suffices for these.
-    if source.len() <= 254 {
-        return source.len() + 1;
+    // One code suffices for up to 254 bytes.
+    let one_block = source.len() + 1;
+    if one_block <= 255 {
+        return one_block;
     }
     length_of_blocks(source)
 }

@@ -1,4 +1,4 @@
-use Rattle.std.proofs.Common.{◌++◌, ap, sym, subst, append_assoc}
+use Rattle.std.proofs.Common.{◌++◌, subst, append_assoc}
 use Rattle.link.specs.Listening.{IsKeptDue}
 use Rattle.link.proofs.FirstLemmas.{received, lost_value, early_of}
 use Rattle.link.proofs.HandingLemmas.{stands_by, still_asked}

@@ -1,8 +1,8 @@
-use Rattle.std.proofs.Common.{◌≡◌, ◌+◌, ◌-◌, ◌<◌, ◌≤◌, length, refl, ap, ◌∙◌, arith}
-use Rattle.cobs.specs.Frames.{part}
+use Rattle.std.proofs.Common.{◌≡◌, ◌+◌, ◌-◌, ◌<◌, ◌≤◌, length, refl, ◌∙◌, subst, arith}
+use Rattle.cobs.specs.InPlace.{written_over}
 use Rattle.cobs.specs.Sentinel.{masked}
 use Rattle.link.specs.Lemmas.MaskLaws.{masked_length}
-use Rattle.link.proofs.ReceivingLemmas.{kept_is, has_nothing, runs_over, has_run, nonzero_bytes}
+use Rattle.link.proofs.ReceivingLemmas.{kept_is, has_nothing, has_run, held_count, runs_over}
 use Rattle.link.specs.Lemmas.RunLaws.{runs_on, runs_past}
 use Rattle.link.proofs.reception.Reception.take_run.Goals as goal
 
@@ -12,31 +12,29 @@ returns-then-self-clause-runs g c limit s b z i = runs_over limit s _ c.args.sel
 pub returns-then-run-left-clause-runs : goal.returns-then-run-left-clause-runs
 returns-then-run-left-clause-runs g c limit s b z i =
     let k = kept_is limit s _ c.args.self.now.count c.args.self.now.past b c.if-self.false i.state in
+    let n = held_count limit s _ _ _ _ k.0 k.2 c.held-held.ensures refl in
     let own = c.limit.ensures ∙ k.2.room in
-    let far : limit < length k.0 + length c.args.run.now = omega (arith, c.if-run-left.true, c.saturating_sub-left.ensures, k.2.counted, k.2.within, own) in
-    let used : c.saturating_sub-left.result + 1 ≡ (limit - length k.0) + 1 = omega (arith, c.saturating_sub-left.ensures, k.2.counted, own) in
+    let far : limit < length k.0 + length c.args.run.now = omega (arith, c.if-run-left.true, n, k.2.counted, k.2.within, own) in
+    let used : c.limit.result - c.held-held.result + 1 ≡ (limit - length k.0) + 1 = omega (arith, n, k.2.counted, own) in
     runs_past limit s b k.0 c.args.run.now _ _ k.1 z k.2.within far used record {
       sentinel_is = i.sentinel_is;
-      state = (
-        refl,
-        has_nothing limit s _ (ap length c.reset.ensures.buffer ∙ k.2.room) (c.reset.ensures.sentinel ∙ k.2.sentinel) k.2.byte c.reset.ensures.idle,
-      );
+      state = (refl, has_nothing limit s _ 0 refl k.2.room);
     }
 
 pub returns-clause-runs : goal.returns-clause-runs
 returns-clause-runs g c limit s b z i =
     let k = kept_is limit s _ c.args.self.now.count c.args.self.now.past b c.if-self.false i.state in
-    let inside = g.D.Decoding.inside c.args.self.now.decoder in
-    let run = c.args.run.now in
+    let n = held_count limit s _ _ _ _ k.0 k.2 c.held-held.ensures refl in
     let own = c.limit.ensures ∙ k.2.room in
-    let near : length k.0 + length run ≤ limit = omega (arith, c.if-run-left.false, c.saturating_sub-left.ensures, k.2.counted, k.2.within, own) in
-    let count : c.args.self.now.count + length run ≤ limit = omega (arith, near, k.2.counted) in
-    let room : length (masked inside.sentinel run) ≤ length inside.buffer - length (part k.0) = omega (arith, near, k.2.room, c.shorter.ensures k.0, masked_length inside.sentinel run) in
-    let t = c.push_clear.ensures.takes in
-    runs_on limit s b k.0 run _ k.1 z near record {
+    let near : length k.0 + length c.args.run.now ≤ limit = omega (arith, c.if-run-left.false, n, k.2.counted, k.2.within, own) in
+    let x = masked s c.args.run.now in
+    let long = masked_length s c.args.run.now in
+    let wrote : g.D.Decoding.inside c.hold.new.self ≡ written_over c.held-held.result x (g.D.Decoding.inside c.args.self.now.buffer) =
+    subst (λ m. g.D.Decoding.inside c.hold.new.self ≡ written_over c.held-held.result (masked m c.args.run.now) (g.D.Decoding.inside c.args.self.now.buffer)) i.sentinel_is c.hold.ensures in
+    runs_on limit s b k.0 c.args.run.now _ k.1 z near record {
       sentinel_is = i.sentinel_is;
       state = (
         c.if-self.false,
-        has_run limit s _ _ _ k.0 run _ k.2 c.shorter.ensures z (nonzero_bytes s run k.2.byte z (λ n. (c.type_inv.run n).fits)) count (t.takes ((t.fits k.0 k.2.taken).1 room)) c.push_clear.ensures.sentinel,
+        has_run limit s _ _ c.args.self.now.count c.held-held.result (c.held-held.result + length c.args.run.now) k.0 x k.2 n (omega (arith, long)) z (omega (arith, near, long, k.2.counted)) wrote,
       );
     }

@@ -1,6 +1,6 @@
 use Rattle.std.proofs.Common.{arith}
 use Rattle.std.proofs.lemmas.Grind.{common_steps}
-use Rattle.link.proofs.receiver.Reception+CobsDecoderHeapless+N.new_with_sentinel.Goals as goal
+use Rattle.link.proofs.receiver.Reception+ArrayBuffer+N.new_with_sentinel.Goals as goal
 
 pub returns-clause-after : goal.returns-clause-after
 returns-clause-after g c = grind (arith, common_steps)
