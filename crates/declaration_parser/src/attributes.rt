@@ -2,9 +2,6 @@
 use crate::tokens::{Token, Word, is_among, is_name};
 use crate::words::NOT_OF_SERDE;
 
-/// Names that mark if they are in a derive, or before a name there; and `self`, which a `use` may have for one.
-const RENAMED: &[&str] = &["Deserialize", "Serialize", "self", "serde", "serde_derive"];
-
 /// The text of the first of these tokens; nothing if there is none.
 pub fn first_word(tokens: &[Token]) -> &str {
     match tokens {
@@ -125,16 +122,6 @@ pub fn attribute(tokens: &[Token]) -> Option<(&[Token], &[Token])> {
     }
 }
 
-/// What follows an attribute, or a comment, at the start; a mark counts if it is wanted.
-pub fn behind_attribute(tokens: &[Token], with_marks: bool) -> Option<&[Token]> {
-    match (attribute(tokens), front(tokens)) {
-        (Some((_, behind)), _) => Some(behind),
-        (None, Word::Comment) => Some(behind_first(tokens)),
-        (None, Word::Mark) if with_marks => Some(behind_first(tokens)),
-        _ => None,
-    }
-}
-
 /// What a call of a macro, or an attribute of all that a file has, holds at the start, and what follows it. The words before
 /// what it holds have no brackets.
 pub fn passed_over(tokens: &[Token]) -> Option<(&[Token], &[Token])> {
@@ -148,42 +135,75 @@ pub fn passed_over(tokens: &[Token]) -> Option<(&[Token], &[Token])> {
     }
 }
 
-/// The content of the parentheses after the first word.
+/// The content of the marks after the first word. Between which they are is one to serde.
 pub fn held(words: &[Token]) -> &[Token] {
-    let rest = behind_first(words);
-    match (front(rest), group(rest)) {
-        (Word::Paren, Some((inside, _))) => inside,
-        _ => &[],
+    match group(behind_first(words)) {
+        Some((inside, _)) => inside,
+        None => &[],
     }
 }
 
-/// Whether an attribute of these words has this name, or one that it becomes under a condition.
-pub fn is_attribute(words: &[Token], name: &str) -> bool {
-    let mut rest = words;
-    for _ in 0..words.len() {
-        let (part, behind) = first_part(rest);
-        if first_word(part) == name {
-            return true;
+/// An attribute: its words, and the condition under which it is there; empty if there is none.
+#[derive(Clone, Copy, Drop)]
+pub struct ConditionedAttribute<'a> {
+    pub words: &'a [Token],
+    pub condition: &'a [Token],
+}
+
+/// Goes over attributes, of which those in a `cfg_attr` are by themselves.
+#[derive(Clone, Copy, Drop)]
+pub struct AttributeWalk<'a> {
+    rest: &'a [Token],
+    parts: &'a [Token],
+    condition: &'a [Token],
+}
+
+impl<'a> AttributeWalk<'a> {
+    /// Those among these tokens.
+    pub fn of(rest: &'a [Token]) -> AttributeWalk<'a> {
+        AttributeWalk {
+            rest,
+            parts: &[],
+            condition: &[],
         }
-        // The condition and the attributes are read as parts too.
-        rest = match first_word(part) {
-            "cfg_attr" => behind_first(behind_first(rest)),
-            _ => behind,
-        };
     }
-    false
+
+    /// The next attribute.
+    pub fn next(&mut self) -> Option<ConditionedAttribute<'a>> {
+        for _ in 0..=self.rest.len() {
+            if !self.parts.is_empty() {
+                let (words, behind) = first_part(self.parts);
+                self.parts = behind;
+                let condition = self.condition;
+                return Some(ConditionedAttribute { words, condition });
+            }
+            let Some((words, behind)) = attribute(self.rest) else {
+                let [_, behind @ ..] = self.rest else {
+                    break;
+                };
+                self.rest = behind;
+                continue;
+            };
+            self.rest = behind;
+            if first_word(words) != "cfg_attr" {
+                let condition: &[Token] = &[];
+                return Some(ConditionedAttribute { words, condition });
+            }
+            let (condition, parts) = first_part(held(words));
+            self.condition = condition;
+            self.parts = parts;
+        }
+        None
+    }
 }
 
 /// Whether these are the same words.
 pub fn same_words(first: &[Token], second: &[Token]) -> bool {
-    let mut rest = second;
-    for token in first {
-        match rest {
-            [other, behind @ ..] if other.text.as_str() == token.text.as_str() => rest = behind,
-            _ => return false,
-        }
-    }
-    rest.is_empty()
+    first.len() == second.len()
+        && first
+            .iter()
+            .zip(second)
+            .all(|(one, other)| one.text.as_str() == other.text.as_str())
 }
 
 /// Whether a derive among these words has this name.
@@ -202,21 +222,21 @@ pub fn is_derived(words: &[Token], name: &str) -> bool {
     false
 }
 
-/// Another name of serde or of a derive of it, which a `use` brings in and a derive has.
+/// Another name of a derive of serde's, or of a crate that has others, which a `use` brings in and a derive has.
 pub fn renamed_derive(tokens: &[Token]) -> Option<&Token> {
-    // The first word of the `use` that is gone over.
-    let mut root = "";
+    // Whether the `use` that is gone over is of another crate that has such derives.
+    let mut is_other = false;
     let mut rest = tokens;
     for _ in 0..tokens.len() {
-        root = match rest {
-            [of, first, ..] if matches!(of.word, Word::Import) => first.text.as_str(),
-            [end, ..] if matches!(end.word, Word::End) => "",
-            _ => root,
-        };
+        if let [of, first, ..] = rest
+            && matches!(of.word, Word::Import)
+        {
+            is_other = is_among(first.text.as_str(), NOT_OF_SERDE);
+        }
         if let [own, by, name, ..] = rest
             && matches!(by.word, Word::As)
-            && is_among(own.text.as_str(), RENAMED)
-            && (own.text.as_str() == "self" || !is_among(root, NOT_OF_SERDE))
+            && (is_among(own.text.as_str(), NOT_OF_SERDE)
+                || (!is_other && matches!(own.word, Word::Serialize | Word::Deserialize)))
             && is_derived(tokens, name.text.as_str())
         {
             return Some(name);

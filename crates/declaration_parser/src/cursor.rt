@@ -20,9 +20,8 @@ pub struct Cursor<'a> {
     pub is_without_line: bool,
     /// What is wrong, a line each.
     pub faults: Faults<'a>,
-    /// Whether something is wrong, and the tokens that it hides.
+    /// Whether something is wrong.
     pub is_wrong: bool,
-    hidden: &'a [Token],
 }
 
 impl<'a> Cursor<'a> {
@@ -37,7 +36,6 @@ impl<'a> Cursor<'a> {
             is_without_line: false,
             faults: Faults::new(alloc),
             is_wrong: false,
-            hidden: &[],
         }
     }
 
@@ -84,7 +82,6 @@ impl<'a> Cursor<'a> {
         self.faults.put_all(pieces);
         self.faults.put("\n");
         self.is_wrong = true;
-        self.hidden = self.rest;
         self.rest = &[];
     }
 
@@ -122,15 +119,6 @@ impl<'a> Cursor<'a> {
     pub fn keep<T: Drop>(&mut self, list: &mut Vec<T>, item: T) {
         if !self.is_wrong {
             self.push(list, item);
-        }
-    }
-
-    /// The tokens that weren't read, also if something is wrong.
-    pub fn left(&self) -> &'a [Token] {
-        if self.is_wrong {
-            self.hidden
-        } else {
-            self.rest
         }
     }
 }

@@ -1,18 +1,10 @@
 //! What precedes a declaration: attributes, and comments that mark.
 ghost use Rattle.std.specs.Prelude.{◌≡◌, ◌++◌};
 
-use crate::attributes::{
-    attribute, first_part, first_word, front, held, is_attribute, last_word, same_words,
-};
+use crate::attributes::{AttributeWalk, first_part, first_word, front, held, same_words};
 use crate::declaration::Marks;
 use crate::tokens::{Token, Word, is_among};
-use crate::words::{HAS_BY_ITSELF, NO_MARK, NOT_OF_SERDE};
-
-/// Nothing is marked.
-const UNMARKED: Marks = Marks {
-    written: false,
-    read: false,
-};
+use crate::words::NOT_OF_SERDE;
 
 /// What marks add up to.
 #[derive(Clone, Copy, Drop)]
@@ -26,9 +18,11 @@ pub struct Marking<'a> {
     pub is_conditional: bool,
     /// Whether derives alone mark.
     pub is_derived: bool,
-    /// The line of the first thing that is wrong with comments, the word there, and what is said of it. Beside a derive that
-    /// marks a comment may be a headline.
-    pub wrong: Option<(usize, &'a str, &'a str)>,
+    /// The line of the first word in comments that marks nothing, and the word. Beside a derive that marks a comment may be a
+    /// headline.
+    pub wrong: Option<(usize, &'a str)>,
+    /// A derive that is called otherwise than serde's, and so may send other bytes.
+    pub other: Option<&'a Token>,
 }
 
 /// Comments and attributes, what they mark, and the tokens after them.
@@ -39,76 +33,44 @@ pub struct Head<'a> {
     pub marking: Marking<'a>,
 }
 
-impl Marks {
-    /// Whether something is marked.
-    fn are_some(self) -> bool {
-        self.written || self.read
+/// The last word of a derive's path, unless it is another crate's: serde's derives are passed on by others too.
+fn derive_of(path: &[Token]) -> Option<&Token> {
+    match path {
+        [name] => Some(name),
+        [.., krate, _, _, name] if !is_among(krate.text.as_str(), NOT_OF_SERDE) => Some(name),
+        _ => None,
     }
-
-    /// What is marked here or there.
-    fn and(self, others: Marks) -> Marks {
-        Marks {
-            written: self.written || others.written,
-            read: self.read || others.read,
-        }
-    }
-}
-
-/// What a derive of this name marks, by what precedes it: nothing, or any path that isn't another crate's, since serde's derives
-/// are passed on by others too.
-fn marks_of_derive(path: &[Token]) -> Marks {
-    let is_of_serde = match path {
-        [_] => true,
-        [.., krate, _, _, _] => !is_among(krate.text.as_str(), NOT_OF_SERDE),
-        _ => false,
-    };
-    let name = last_word(path);
-    Marks {
-        written: is_of_serde && matches!(name, "Serialize" | "Serialize_repr"),
-        read: is_of_serde && matches!(name, "Deserialize" | "Deserialize_repr"),
-    }
-}
-
-/// What an attribute marks, if it is a derive.
-fn derived_by(words: &[Token]) -> Marks {
-    let mut marks = UNMARKED;
-    if !matches!(front(words), Word::Derive) {
-        return marks;
-    }
-    let mut rest = held(words);
-    for _ in 0..words.len() {
-        let (path, behind) = first_part(rest);
-        marks = marks.and(marks_of_derive(path));
-        rest = behind;
-    }
-    marks
 }
 
 impl<'a> Marking<'a> {
-    /// Adds what derives mark under a condition.
-    fn add_derived(&mut self, derived: Marks, condition: &'a [Token]) {
-        if !derived.are_some() {
-            return;
+    /// Adds what derives of these paths mark under a condition: all whose names begin as those of serde's traits.
+    fn add_derived(&mut self, paths: &'a [Token], condition: &'a [Token]) {
+        let mut rest = paths;
+        for _ in 0..paths.len() {
+            let (path, behind) = first_part(rest);
+            rest = behind;
+            let Some(name) = derive_of(path) else {
+                continue;
+            };
+            let is_written = name.text.as_str().starts_with("Serialize");
+            if !is_written && !name.text.as_str().starts_with("Deserialize") {
+                continue;
+            }
+            self.marks.written = self.marks.written || is_written;
+            self.marks.read = self.marks.read || !is_written;
+            self.add_condition(condition);
+            if !matches!(name.word, Word::Serialize | Word::Deserialize) {
+                self.other = Some(name);
+            }
         }
-        self.marks = self.marks.and(derived);
+    }
+
+    /// Adds the condition of a derive that marks.
+    fn add_condition(&mut self, condition: &'a [Token]) {
         self.is_conditional = self.is_conditional || !condition.is_empty();
         match self.condition {
             Some(first) if !same_words(first, condition) => self.has_others = true,
             _ => self.condition = Some(condition),
-        }
-    }
-
-    /// Adds what an attribute marks, by its words.
-    fn add_attribute(&mut self, words: &'a [Token]) {
-        self.is_conditional = self.is_conditional || is_attribute(words, "cfg");
-        if first_word(words) != "cfg_attr" {
-            return self.add_derived(derived_by(words), &[]);
-        }
-        let (condition, mut rest) = first_part(held(words));
-        for _ in 0..words.len() {
-            let (part, behind) = first_part(rest);
-            self.add_derived(derived_by(part), condition);
-            rest = behind;
         }
     }
 
@@ -127,45 +89,44 @@ impl<'a> Marking<'a> {
 
     /// Adds what a word after `// message:` marks.
     fn add_word(&mut self, line: usize, word: &'a str) {
-        let why = match word {
-            "Serialize" => {
-                self.is_derived = false;
-                self.marks.written = true;
-                return;
-            }
-            "Deserialize" => {
-                self.is_derived = false;
-                self.marks.read = true;
-                return;
-            }
-            "MaxSize" | "MaxWritten" | "Exact" => HAS_BY_ITSELF,
-            _ => NO_MARK,
-        };
-        if self.wrong.is_none() {
-            self.wrong = Some((line, word, why));
+        match word {
+            "Serialize" => self.marks.written = true,
+            "Deserialize" => self.marks.read = true,
+            _ if self.wrong.is_none() => self.wrong = Some((line, word)),
+            _ => {}
         }
+        self.is_derived = self.is_derived && !is_among(word, &["Serialize", "Deserialize"]);
     }
 
     /// What attributes and comments mark.
     fn of(attributes: &'a [Token]) -> Marking<'a> {
         let mut marking = Marking {
-            marks: UNMARKED,
+            marks: Marks {
+                written: false,
+                read: false,
+            },
             condition: None,
             has_others: false,
             is_conditional: false,
             is_derived: true,
             wrong: None,
+            other: None,
         };
-        let mut rest = attributes;
+        for token in attributes {
+            if matches!(token.word, Word::Mark) {
+                marking.add_comment(token);
+            }
+        }
+        let mut all = AttributeWalk::of(attributes);
         for _ in 0..attributes.len() {
-            if let Some((words, behind)) = attribute(rest) {
-                marking.add_attribute(words);
-                rest = behind;
-            } else if let [token, behind @ ..] = rest {
-                if matches!(token.word, Word::Mark) {
-                    marking.add_comment(token);
-                }
-                rest = behind;
+            let Some(it) = all.next() else {
+                break;
+            };
+            // more conditions may make a `cfg`
+            let is_condition = is_among(first_word(it.words), &["cfg", "cfg_attr"]);
+            marking.is_conditional = marking.is_conditional || is_condition;
+            if matches!(front(it.words), Word::Derive) {
+                marking.add_derived(held(it.words), it.condition);
             }
         }
         if marking.condition.is_some() {
@@ -181,7 +142,7 @@ impl<'a> Marking<'a> {
 
     /// Whether a declaration is marked, or was meant to be.
     pub fn is_meant(&self) -> bool {
-        self.marks.are_some() || self.wrong.is_some()
+        self.marks.written || self.marks.read || self.wrong.is_some()
     }
 }
 

@@ -1,7 +1,7 @@
 //! The items of files, found in one pass, and the scopes that they are in.
 use crate::attributes::{
-    attribute, behind, behind_attribute, behind_first, first_word, front, group, is_attribute,
-    name_at, passed_over, type_up_to, up_to,
+    AttributeWalk, attribute, behind, behind_first, first_word, front, group, name_at, passed_over,
+    type_up_to, up_to,
 };
 use crate::tokens::{Token, Word, is_among, is_name};
 use std::alloc::Global;
@@ -66,7 +66,7 @@ pub struct Item<'a> {
     pub scope: usize,
     /// How many tokens of its file are left where it begins.
     pub left: usize,
-    /// Its attributes and comments, and whether `pub` is behind them.
+    /// Its attributes and marks, and whether `pub` is behind them.
     pub attributes: &'a [Token],
     pub is_public: bool,
     /// Its words after the one that says what it is; all of a call, and none of what declares no name.
@@ -89,16 +89,16 @@ pub struct Walk<'a> {
 }
 
 impl Item<'_> {
-    /// Whether an attribute of this name is before it, under a condition or none.
+    /// Whether an attribute of this name is before it, under a condition or none. One that more conditions make may be any.
     pub fn has(&self, name: &str) -> bool {
-        let mut rest = self.attributes;
+        let mut attributes = AttributeWalk::of(self.attributes);
         for _ in 0..self.attributes.len() {
-            if let Some((words, _)) = attribute(rest)
-                && is_attribute(words, name)
-            {
+            let Some(it) = attributes.next() else {
+                break;
+            };
+            if is_among(first_word(it.words), &[name, "cfg_attr"]) {
                 return true;
             }
-            rest = behind_first(rest);
         }
         false
     }
@@ -119,14 +119,15 @@ fn is_called(words: &[Token]) -> bool {
     matches!(front(words), Word::Hash) || (is_name(word) && !is_among(word, BEFORE_VALUE))
 }
 
-/// What follows the attributes, marks and other comments at the start.
+/// What follows the attributes and marks at the start.
 fn behind_attributes(tokens: &[Token]) -> &[Token] {
     let mut rest = tokens;
     for _ in 0..tokens.len() {
-        let Some(behind) = behind_attribute(rest, true) else {
-            break;
+        rest = match (attribute(rest), front(rest)) {
+            (Some((_, behind)), _) => behind,
+            (None, Word::Mark) => behind_first(rest),
+            _ => break,
         };
-        rest = behind;
     }
     rest
 }
@@ -360,12 +361,16 @@ impl<'a> Walk<'a> {
     }
 }
 
-/// What follows `pub`, with what it is limited to.
+/// What follows `pub`, with what it is limited to. A type in parentheses may follow it too, as in `pub (crate::Id)`.
 pub fn behind_public(tokens: &[Token]) -> &[Token] {
+    if !matches!(front(tokens), Word::Public) {
+        return tokens;
+    }
     let rest = behind_first(tokens);
-    match (front(tokens), front(rest)) {
-        (Word::Public, Word::Paren) => behind(rest),
-        (Word::Public, _) => rest,
-        _ => tokens,
+    match (front(rest), group(rest)) {
+        (Word::Paren, Some(([only], behind)))
+            if is_among(only.text.as_str(), &["crate", "super", "self"]) => behind,
+        (Word::Paren, Some((inside, behind))) if first_word(inside) == "in" => behind,
+        _ => rest,
     }
 }

@@ -14,5 +14,6 @@ pub mod items;
 mod marks;
 pub mod parser;
 pub mod reading;
+pub mod sent;
 pub mod tokens;
 mod words;

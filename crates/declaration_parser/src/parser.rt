@@ -2,24 +2,22 @@
 pub mod by_hand;
 mod said;
 
-use crate::attributes::{
-    behind_attribute, first_word, front, group, plain_name, type_up_to, up_to,
-};
+use crate::attributes::{attribute, front, group, line_at, plain_name, type_up_to, up_to};
 use crate::cursor::Cursor;
 use crate::declaration::{Body, Declaration, Field, Fields, Form, VariantOf};
 use crate::faults::Faults;
 use crate::head::{Head, Marking};
-use crate::reading::first_mark;
-use crate::tokens::{Read, Token, Word, is_among, is_lifetime, is_listed, is_name};
+use crate::items::behind_public;
+use crate::tokens::{Read, Token, Word, is_lifetime, is_listed, is_name};
 use crate::words::{
-    HIDDEN_MARK, MOST_FIELDS, OF_IMPLEMENTATIONS, OF_POSTCARD, ONLY_FIELD, TOO_MANY,
+    MOST_FIELDS, NO_MARK, OF_IMPLEMENTATIONS, ONLY_FIELD, OTHER_DERIVE, TOO_MANY, USED,
 };
 use by_hand::ByHand;
 use said::At;
 use std::alloc::Global;
 
 /// What ends the type of a field.
-const ENDS: &[&str] = &[")", "]", ">", ",", ";", "}", "="];
+const ENDS: &[&str] = &[",", ">", ";", "="];
 
 /// What declarations are read for.
 #[derive(Clone, Copy, Debug, PartialEq, Eq, Drop)]
@@ -42,16 +40,22 @@ pub struct Parser<'a> {
 }
 
 impl<'a> Parser<'a> {
-    /// A parser of the tokens after what marks a declaration.
-    pub fn new(alloc: Global, purpose: Purpose, file: &'a Read, head: &Head<'a>) -> Parser<'a> {
-        let mut at = Cursor::new(alloc, head.behind);
+    /// A parser of the words of a declaration, after what marks it.
+    pub fn new(
+        alloc: Global,
+        purpose: Purpose,
+        file: &'a Read,
+        head: &Head<'a>,
+        words: &'a [Token],
+    ) -> Parser<'a> {
+        let mut at = Cursor::new(alloc, words);
         at.faults.turn_to(file.file.as_str());
         if let [.., token] = head.attributes {
             at.line = token.line;
         }
-        if let Some((line, word, why)) = head.marking.wrong {
+        if let Some((line, word)) = head.marking.wrong {
             at.line = line;
-            at.refuse(word, why);
+            at.refuse(word, NO_MARK);
         }
         Parser {
             alloc,
@@ -62,9 +66,9 @@ impl<'a> Parser<'a> {
         }
     }
 
-    /// The tokens that weren't read, and what is wrong.
-    pub fn finished(self) -> (&'a [Token], Faults<'a>) {
-        (self.at.left(), self.at.faults)
+    /// What is wrong.
+    pub fn finished(self) -> Faults<'a> {
+        self.at.faults
     }
 
     /// Refuses a word if implementations are to be written.
@@ -84,39 +88,22 @@ impl<'a> Parser<'a> {
         word
     }
 
-    /// Takes attributes, and comments that are almost marks; gives all of them.
+    /// Takes attributes, and gives all of them.
     fn attributes(&mut self) -> &'a [Token] {
         let begun = self.at.rest;
         for _ in 0..begun.len() {
-            let Some(behind) = behind_attribute(self.at.rest, false) else {
+            let Some((words, behind)) = attribute(self.at.rest) else {
                 break;
             };
-            self.at.step();
+            self.at.line = line_at(words);
             self.at.rest = behind;
         }
         let length = begun.len().saturating_sub(self.at.rest.len());
         begun.get(..length).unwrap_or(&[])
     }
 
-    /// Takes `pub`, with what it is limited to. A type in parentheses may follow it too, as in `pub (crate::Id)`.
-    fn visibility(&mut self) {
-        if !self.at.take("pub") || !matches!(front(self.at.rest), Word::Paren) {
-            return;
-        }
-        let Some((inside, behind)) = group(self.at.rest) else {
-            return;
-        };
-        let is_limit = match inside {
-            [only] => is_among(only.text.as_str(), &["crate", "super", "self"]),
-            _ => first_word(inside) == "in",
-        };
-        if is_limit {
-            self.at.rest = behind;
-        }
-    }
-
-    /// Takes a name that may be written `r#name`.
-    fn name_of(&mut self) -> &'a str {
+    /// Takes a name that may be written `r#name`, and isn't one that the implementations use, if it can't be.
+    fn name_of(&mut self, is_free: bool) -> &'a str {
         let word = self.word();
         let name = plain_name(word);
         self.refuse_in_code(
@@ -124,21 +111,7 @@ impl<'a> Parser<'a> {
             word,
             "` is raw, and Rattle has no raw names: call it otherwise, since names aren't sent",
         );
-        name
-    }
-
-    /// Takes the name of a field, if fields have names.
-    fn field_name(&mut self, named: bool) -> &'a str {
-        if !named {
-            return "";
-        }
-        let name = self.name_of();
-        self.refuse_in_code(
-            is_among(name, &["serializer"]),
-            name,
-            "` is also a name of the calls that write: call it otherwise",
-        );
-        self.at.owe(":");
+        self.refuse_in_code(!is_free && is_listed(name, OF_IMPLEMENTATIONS), name, USED);
         name
     }
 
@@ -161,8 +134,12 @@ impl<'a> Parser<'a> {
             self.at.wrong(&[TOO_MANY]);
         }
         let attributes = self.attributes();
-        self.visibility();
-        let name = self.field_name(named);
+        self.at.rest = behind_public(self.at.rest);
+        let mut name = "";
+        if named {
+            name = self.name_of(false);
+            self.at.owe(":");
+        }
         self.at.field = Some((place, name));
         let said = self.said(attributes, At::Field);
         let is_left_out = self.is_left_out(said);
@@ -179,98 +156,94 @@ impl<'a> Parser<'a> {
         if is_left_out { None } else { Some(field) }
     }
 
-    /// Whether a list has something before the mark that closes it, and else takes the mark.
-    fn begins(&mut self, close: &str) -> bool {
-        if self.at.rest.is_empty() {
-            self.at.wrong(&["`", close, "` is missing"]);
-        }
-        !self.at.take(close)
+    /// Turns to what is in the group at the start, and gives what follows that.
+    fn enter(&mut self) -> &'a [Token] {
+        let Some((inside, behind)) = group(self.at.rest) else {
+            let word = self.at.step();
+            self.at.wrong(&[
+                "what is declared is wanted, and closed, in place of `",
+                word,
+                "`",
+            ]);
+            return &[];
+        };
+        self.at.rest = inside;
+        behind
     }
 
-    /// Whether a list goes on: takes the mark that closes it, or the comma before what is next.
-    fn goes_on(&mut self, close: &str) -> bool {
-        if self.at.take(",") {
-            return !self.at.take(close);
+    /// Turns to what follows a group that is read, unless something is wrong.
+    fn leave(&mut self, behind: &'a [Token]) {
+        if !self.at.is_wrong {
+            self.at.rest = behind;
         }
-        self.at.owe(close);
-        false
     }
 
-    /// Takes the fields up to this mark, and says how many there are with those that aren't sent.
-    fn items(&mut self, close: &str, named: bool) -> (Vec<Field<'a>>, usize) {
-        let mut items = Vec::new(self.alloc);
-        let mut count: usize = 0;
-        let mut goes_on = self.begins(close);
-        for place in 0..self.at.rest.len() {
-            if !goes_on {
-                break;
-            }
-            if let Some(item) = self.item(place, named) {
-                self.at.keep(&mut items, item);
-            }
-            count = place.saturating_add(1);
-            goes_on = self.goes_on(close);
+    /// Takes the comma before what is next in a list, if something is.
+    fn go_on(&mut self) {
+        if !self.at.rest.is_empty() {
+            self.at.owe(",");
         }
-        (items, count)
     }
 
     /// Takes fields in braces, in parentheses, or none.
     fn fields(&mut self) -> Fields<'a> {
-        let (form, (items, count)) = if self.at.take("{") {
-            (Form::Named, self.items("}", true))
-        } else if self.at.take("(") {
-            (Form::Tuple, self.items(")", false))
-        } else {
-            (Form::Unit, (Vec::new(self.alloc), 0))
+        let mut items = Vec::new(self.alloc);
+        let mut count: usize = 0;
+        let form = match front(self.at.rest) {
+            Word::Brace => Form::Named,
+            Word::Paren => Form::Tuple,
+            _ => {
+                let form = Form::Unit;
+                return Fields { form, items, count };
+            }
         };
+        let behind = self.enter();
+        for place in 0..self.at.rest.len() {
+            if self.at.rest.is_empty() {
+                break;
+            }
+            if let Some(item) = self.item(place, matches!(form, Form::Named)) {
+                self.at.keep(&mut items, item);
+            }
+            count = place.saturating_add(1);
+            self.go_on();
+        }
+        self.leave(behind);
         Fields { form, items, count }
     }
 
     /// Takes a variant of an enum.
     fn variant(&mut self) -> VariantOf<'a> {
         let attributes = self.attributes();
-        let name = self.name_of();
+        let name = self.name_of(true);
         self.at.variant = name;
         self.said(attributes, At::Variant);
         let fields = self.fields();
         if self.at.take("=") {
-            self.skip_to(&[",", "}"]);
+            let (_, rest) = up_to(self.at.rest, &[","]);
+            self.at.rest = rest;
         }
         VariantOf { name, fields }
-    }
-
-    /// Takes what precedes the first of these words that nothing encloses, and refuses a mark in it.
-    fn skip_to(&mut self, ends: &[&str]) {
-        let (skipped, rest) = up_to(self.at.rest, ends);
-        self.skip(skipped, rest);
-    }
-
-    /// Takes these words, which the rest follows, and refuses a mark in them.
-    fn skip(&mut self, skipped: &'a [Token], rest: &'a [Token]) {
-        if first_mark(skipped).is_some() {
-            return self.at.wrong(&[HIDDEN_MARK]);
-        }
-        self.at.rest = rest;
     }
 
     /// Takes the variants of an enum, which has one at least.
     fn variants(&mut self) -> Vec<VariantOf<'a>> {
         let mut variants = Vec::new(self.alloc);
-        self.at.owe("{");
-        let mut goes_on = self.begins("}");
-        if !goes_on {
+        let behind = self.enter();
+        if self.at.rest.is_empty() {
             self.at
                 .wrong(&["an enum without variants has no values: leave it out"]);
         }
         for _ in 0..self.at.rest.len() {
-            if !goes_on {
+            if self.at.rest.is_empty() {
                 break;
             }
             let variant = self.variant();
             self.at.keep(&mut variants, variant);
-            goes_on = self.goes_on("}");
+            self.go_on();
         }
         self.at.variant = "";
+        self.leave(behind);
         variants
     }
 
@@ -284,65 +257,48 @@ impl<'a> Parser<'a> {
         matches!(kind, Word::Enum)
     }
 
-    /// Takes the name of a type.
-    fn type_name(&mut self) -> &'a str {
-        let name = self.name_of();
-        self.refuse_in_code(
-            is_listed(name, OF_POSTCARD),
-            name,
-            "` is also a name of postcard's: call it otherwise",
-        );
-        self.at.name = name;
-        name
-    }
-
-    /// Takes a lifetime, a type parameter or a length, or the comma before one.
-    fn parameter(&mut self, parameters: &mut Vec<&'a str>, lengths: &mut Vec<&'a str>) {
-        if self.at.take(",") {
-            return;
-        }
+    /// Takes a lifetime, a type parameter or a length, and says whether it is a length.
+    fn parameter(&mut self) -> (&'a str, bool) {
         let is_length = self.at.take("const");
         let name = if is_lifetime(self.at.peek()) {
             self.at.step()
         } else {
-            self.name_of()
+            self.name_of(false)
         };
-        self.refuse_in_code(
-            is_among(name, OF_IMPLEMENTATIONS),
-            name,
-            "` is a parameter's name of postcard's: call it otherwise",
-        );
-        self.at.keep(parameters, name);
-        if is_length {
-            self.at.keep(lengths, name);
-        }
         let (_, rest) = type_up_to(self.at.rest, &[",", ">"]);
         self.at.rest = rest;
+        (name, is_length)
     }
 
     /// Takes the lifetimes and type parameters, and says which are lengths.
     fn parameters(&mut self) -> (Vec<&'a str>, Vec<&'a str>) {
         let mut parameters = Vec::new(self.alloc);
         let mut lengths = Vec::new(self.alloc);
-        let mut is_open = self.at.take("<") && !self.at.take(">");
+        if !self.at.take("<") {
+            return (parameters, lengths);
+        }
         for _ in 0..self.at.rest.len() {
-            if !is_open {
+            if self.at.peek() == ">" {
                 break;
             }
-            self.parameter(&mut parameters, &mut lengths);
-            is_open = !self.at.take(">");
+            let (name, is_length) = self.parameter();
+            self.at.keep(&mut parameters, name);
+            if is_length {
+                self.at.keep(&mut lengths, name);
+            }
+            if !self.at.take(",") {
+                break;
+            }
         }
-        if is_open {
-            self.at.wrong(&["`>` is missing"]);
-        }
+        self.at.owe(">");
         (parameters, lengths)
     }
 
     /// Takes `where` and its bounds, in which there may be lengths in braces, up to the fields or a semicolon.
     fn bounds(&mut self) {
         if self.at.take("where") {
-            let (bounds, rest) = type_up_to(self.at.rest, &["{", ";"]);
-            self.skip(bounds, rest);
+            let (_, rest) = type_up_to(self.at.rest, &["{", ";"]);
+            self.at.rest = rest;
         }
     }
 
@@ -369,14 +325,20 @@ impl<'a> Parser<'a> {
         attributes: &'a [Token],
         by_hand: &ByHand<'_>,
     ) -> Declaration<'a> {
-        self.visibility();
+        self.at.rest = behind_public(self.at.rest);
         let is_enum = self.is_enum();
-        let name = self.type_name();
+        let name = self.name_of(false);
+        self.at.name = name;
         let line = self.at.line;
         // What is wrong hides what follows it, and those who use the type need its parameters.
         let (parameters, lengths) = self.parameters();
         self.at.line = line;
         let said = self.said(attributes, At::Item);
+        if let Some(derive) = self.marking.other {
+            self.at.line = derive.line;
+            self.at.refuse(derive.text.as_str(), OTHER_DERIVE);
+            self.at.line = line;
+        }
         self.check_by_hand(by_hand);
         let body = self.body(is_enum);
         self.at.line = line;

@@ -4,14 +4,14 @@ ghost use Rattle.declaration_parser.specs.Marked.{NoMark};
 ghost use Rattle.declaration_parser.specs.Silent.{SaysNothing};
 ghost use Rattle.declaration_parser.specs.Standing.{Accounts, AreDeclaredIn, GoneOver, tokens_in};
 
-use crate::attributes::{first_word, front, is_derived, line_at, renamed_derive};
+use crate::attributes::{behind, first_word, is_derived, line_at, renamed_derive, type_up_to};
 use crate::declaration::Declaration;
 use crate::faults::Faults;
 use crate::head::{Head, head_of};
-use crate::items::{Item, ItemKind, Walk, behind_public};
+use crate::items::{Item, ItemKind, Walk};
 use crate::parser::by_hand::ByHand;
 use crate::parser::{Parser, Purpose};
-use crate::tokens::{Read, Token, Word, is_comment_mark};
+use crate::tokens::{Read, Token, is_comment_mark};
 use crate::words::{ALMOST, IN_MACRO, IN_WORDS, NO_MESSAGES_MARKED, RENAMES};
 use std::alloc::{AllocError, Global};
 
@@ -24,22 +24,8 @@ struct Job<'a, 'b> {
     by_hand: &'b ByHand<'a>,
 }
 
-/// Refuses comments that are almost marks, before a declaration that isn't marked.
-fn refuse_almost(head: &Head<'_>, faults: &mut Faults<'_>)
-    ensures { SaysNothing faults.new → SaysNothing faults.old }
-{
-    if !matches!(front(behind_public(head.behind)), Word::Struct | Word::Enum) {
-        return;
-    }
-    for token in head.attributes {
-        if matches!(token.word, Word::Comment) {
-            faults.refuse(token.line, token.text.as_str(), ALMOST);
-        }
-    }
-}
-
 /// The first mark among tokens.
-pub(crate) fn first_mark(tokens: &[Token]) -> Option<&Token>
+fn first_mark(tokens: &[Token]) -> Option<&Token>
     ensures { result ≡ None → NoMark tokens.now }
 {
     for token in tokens {
@@ -81,7 +67,7 @@ fn refuses_call(item: &Item<'_>, faults: &mut Faults<'_>) -> bool
 }
 
 /// Skips what isn't marked, and returns how many tokens after its attributes: those of a call.
-fn pass_over(purpose: Purpose, head: &Head<'_>, item: &Item<'_>, faults: &mut Faults<'_>) -> usize
+fn pass_over(head: &Head<'_>, item: &Item<'_>, faults: &mut Faults<'_>) -> usize
     ensures silent { SaysNothing faults.new → SaysNothing faults.old }
     ensures within { result ≤ length head.now.behind.now }
     ensures no_mark { SaysNothing faults.new
@@ -89,9 +75,6 @@ fn pass_over(purpose: Purpose, head: &Head<'_>, item: &Item<'_>, faults: &mut Fa
 {
     let length = item.passed().min(head.behind.len());
     let (passed, _) = head.behind.split_at(length);
-    if purpose == Purpose::Implementations {
-        refuse_almost(head, faults);
-    }
     refuse_mark(head.attributes, ALMOST, faults);
     if !refuses_call(item, faults) {
         refuse_mark(passed, ALMOST, faults);
@@ -121,8 +104,8 @@ fn keep<'a>(
     faults.note(found.push(declaration).is_err());
 }
 
-/// Reads what is marked, and returns how many tokens after its attributes it takes. What is wrong is kept with it, and hides
-/// the tokens after it that were not read.
+/// Reads what is marked, and returns how many tokens after its attributes it takes: those up to its body or a semicolon, and
+/// these. What is wrong is kept with it.
 fn add_declaration<'a>(
     job: Job<'a, '_>,
     head: &Head<'a>,
@@ -134,11 +117,12 @@ fn add_declaration<'a>(
     ensures stands { SaysNothing faults.new → Accounts found.old.items found.new.items
         (head.now.attributes.now ++ take result head.now.behind.now) }
 {
-    let mut parser = Parser::new(job.alloc, job.purpose, job.file, head);
-    let declaration = parser.declaration(head.attributes, job.by_hand);
-    let (left, wrong) = parser.finished();
-    let length = head.behind.len().saturating_sub(left.len());
+    let (_, body) = type_up_to(head.behind, &["{", ";"]);
+    let length = head.behind.len().saturating_sub(behind(body).len());
     let (words, _) = head.behind.split_at(length);
+    let mut parser = Parser::new(job.alloc, job.purpose, job.file, head, words);
+    let declaration = parser.declaration(head.attributes, job.by_hand);
+    let wrong = parser.finished();
     refuse_mark(words, IN_WORDS, faults);
     keep(declaration, head.attributes, words, wrong, found, faults);
     length
@@ -162,7 +146,7 @@ fn read_front<'a>(
         let (_, rest) = head.behind.split_at(taken);
         return rest;
     }
-    let passed = pass_over(job.purpose, &head, item, faults);
+    let passed = pass_over(&head, item, faults);
     let (_, rest) = head.behind.split_at(passed);
     rest
 }

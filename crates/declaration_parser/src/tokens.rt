@@ -3,18 +3,14 @@ ghost use Rattle.std.specs.Prelude.{◌≡◌};
 ghost use Rattle.declaration_parser.specs.Marked.{is_marking};
 
 use crate::faults::Faults;
-use crate::marks::{is_almost_mark, is_almost_way, is_mark, way_of};
+use crate::marks::{is_almost_way, is_mark, way_of};
 use crate::words::{ALMOST, ALMOST_WAY};
 use std::alloc::{AllocError, Global};
 use unicode_ident::is_xid_continue;
 use unicode_normalization::to_nfc;
 
 /// What is said of a mark in what is skipped.
-const INSIDE_COMMENT: &str =
-    "` stands between `/*` and `*/`, where it marks nothing: take it out\n";
-
-/// The same in a text.
-const INSIDE_TEXT: &str = "` stands in a text, where it marks nothing: write it otherwise\n";
+const INSIDE: &str = "` stands in a comment or a text, where it marks nothing: take it out\n";
 
 /// The words that are compared, and which they are.
 const WORDS: &[(&str, Word)] = &[
@@ -56,7 +52,7 @@ const WORDS: &[(&str, Word)] = &[
 ];
 
 /// Which of the words that are compared a token is.
-#[derive(Clone, Copy, Drop)]
+#[derive(Clone, Copy, PartialEq, Eq, Drop)]
 pub enum Word {
     Hash,
     Bang,
@@ -92,15 +88,13 @@ pub enum Word {
     Import,
     Deserialize,
     Serialize,
-    /// A comment that marks a declaration, and one that is almost that.
+    /// A comment that marks a declaration.
     Mark,
-    Comment,
     Other,
 }
 
 /// A word, a lifetime, a number, a text, a character or a mark, and the line where it begins. A comment `// message` is one
-/// token, and so is one that is almost that, if a declaration may follow it. One that says how a field is sent is the tokens of
-/// an attribute. A text is between `"`, whatever it was written between. A name is in Unicode's form NFC, as Rust compares names.
+/// token. One that says how a field is sent is the tokens of an attribute. A text is between `"`, whatever it was written between. A name is in Unicode's form NFC, as Rust compares names.
 #[derive(Drop)]
 pub struct Token {
     pub text: String,
@@ -119,17 +113,6 @@ pub struct Read {
     pub faults: String,
 }
 
-/// What is read to its end, over lines.
-#[derive(Clone, Copy, Drop)]
-enum Inside {
-    /// A comment between `/*` and `*/`.
-    Comment,
-    /// A text, which ends at the first `"` that isn't after `\`.
-    Text,
-    /// A text that ends at a `"` with so many `#` after it.
-    Raw(usize),
-}
-
 /// Takes tokens from the start of a text. If memory runs out, the calls go on, and [`finished`](Tokens::finished) says so at
 /// the end.
 #[derive(Drop)]
@@ -139,8 +122,6 @@ struct Tokens<'a> {
     /// The line of what is read, counted from 1, and whether code precedes it there.
     line: usize,
     is_behind_code: bool,
-    /// A comment that is almost a mark, with nothing after it yet.
-    almost: Option<(&'a str, usize)>,
     found: Vec<Token>,
     /// The places of the tokens that opened groups which aren't closed yet.
     open: Vec<usize>,
@@ -159,7 +140,6 @@ pub fn tokens_of<'a>(alloc: Global, file: &'a str, text: &'a str) -> Result<Read
         rest: text,
         line: 1,
         is_behind_code: false,
-        almost: None,
         found: Vec::new(alloc),
         open: Vec::new(alloc),
         faults: Faults::new(alloc),
@@ -196,7 +176,6 @@ fn word_of(text: &str) -> Word {
     match WORDS.iter().find(|row| row.0 == text) {
         Some(row) => row.1,
         None if is_mark(text) => Word::Mark,
-        None if text.starts_with("//") => Word::Comment,
         None => Word::Other,
     }
 }
@@ -261,6 +240,42 @@ fn first_line(text: &str) -> &str {
     }
 }
 
+/// How long the comment is that begins a text with `/*`, if a `*/` ends it.
+fn comment_length(text: &str) -> Option<usize> {
+    let mut rest = text;
+    let mut depth: usize = 0;
+    for _ in 0..text.len() {
+        if rest.starts_with("/*") {
+            depth = depth.saturating_add(1);
+        } else if rest.starts_with("*/") {
+            depth = depth.saturating_sub(1);
+        } else {
+            rest = behind_one(rest);
+            continue;
+        }
+        rest = behind(rest, 2);
+        if depth == 0 {
+            return Some(length_before(text, rest));
+        }
+    }
+    None
+}
+
+/// How long the text between `"` is, which one with so many `#` after it ends. Without a number a `\` hides what follows it.
+fn text_length(text: &str, wanted: Option<usize>) -> Option<usize> {
+    let mut rest = behind(text, 1);
+    for _ in 0..text.len() {
+        match first_letter(rest)? {
+            '\\' if wanted.is_none() => rest = behind_one(behind(rest, 1)),
+            '"' if hashes(behind(rest, 1)) >= wanted.unwrap_or(0) => {
+                return Some(length_before(text, rest).saturating_add(1));
+            }
+            _ => rest = behind_one(rest),
+        }
+    }
+    None
+}
+
 impl<'a> Tokens<'a> {
     /// Takes so many bytes.
     fn skip(&mut self, length: usize) {
@@ -286,9 +301,9 @@ impl<'a> Tokens<'a> {
         } else if self.rest.starts_with("//") {
             self.read_comment();
         } else if self.rest.starts_with("/*") {
-            self.read_inside(Inside::Comment, self.line);
+            self.take(comment_length(self.rest));
         } else if first == '"' {
-            self.read_text(Inside::Text, 0);
+            self.read_text(0, None);
         } else if first == '\'' {
             self.read_quoted();
         } else if is_of_word(first) {
@@ -298,7 +313,7 @@ impl<'a> Tokens<'a> {
         }
     }
 
-    /// Reads a comment up to the end of its line: a mark, what is almost one, or nothing.
+    /// Reads a comment up to the end of its line.
     fn read_comment(&mut self) {
         let comment = first_line(self.rest);
         let length = comment.len();
@@ -307,8 +322,6 @@ impl<'a> Tokens<'a> {
             self.read_mark(comment);
         } else if is_almost_way(comment) {
             self.read_way(comment);
-        } else if !self.is_behind_code && is_almost_mark(comment) {
-            self.almost = Some((comment, self.line));
         }
         self.skip(length);
     }
@@ -366,9 +379,9 @@ impl<'a> Tokens<'a> {
         let hashes = hashes(after);
         let is_raw = is_among(word, &["r", "br", "cr"]);
         if is_raw && behind(after, hashes).starts_with('"') {
-            self.read_text(Inside::Raw(hashes), length.saturating_add(hashes));
+            self.read_text(length.saturating_add(hashes), Some(hashes));
         } else if is_among(word, &["b", "c"]) && after.starts_with('"') {
-            self.read_text(Inside::Text, length);
+            self.read_text(length, None);
         } else if word == "b" && after.starts_with('\'') {
             self.skip(length);
             self.read_quoted();
@@ -390,114 +403,59 @@ impl<'a> Tokens<'a> {
             return self.faults.note(true);
         };
         self.skip(length);
-        self.is_behind_code = true;
-        self.put(name.as_str(), self.line);
+        self.put_code(name.as_str(), self.line);
     }
 
-    /// Reads a text, before whose `"` so many bytes stand.
-    fn read_text(&mut self, inside: Inside, before: usize) {
+    /// Reads a text, before whose `"` so many bytes stand, and which one with so many `#` ends.
+    fn read_text(&mut self, before: usize, wanted: Option<usize>) {
         let line = self.line;
         self.skip(before);
-        let whole = self.rest;
-        self.read_inside(inside, line);
-        let length = length_before(whole, self.rest);
-        let hashes = match inside {
-            Inside::Raw(hashes) => hashes,
-            _ => 0,
+        let text = self.take(text_length(self.rest, wanted));
+        self.skip(wanted.unwrap_or(0));
+        self.put_code(text, line);
+    }
+
+    /// Takes so much of a comment or a text, all if nothing ends it, and refuses a mark in it.
+    fn take(&mut self, length: Option<usize>) -> &'a str {
+        if length.is_none() {
+            self.faults.put_line_number(self.line);
+            self.faults
+                .put("a comment or a text begins here that isn't ended\n");
+        }
+        let text = match length {
+            Some(length) => self.rest.get(..length).unwrap_or(""),
+            None => self.rest,
         };
-        let text = whole.get(..length.saturating_sub(hashes)).unwrap_or("");
-        self.is_behind_code = true;
-        self.put(text, line);
-    }
-
-    /// Takes a comment or a text, which begins in that line, to its end.
-    fn read_inside(&mut self, inside: Inside, line: usize) {
-        let mut depth: usize = 0;
-        let mut is_fresh = false;
-        let is_comment = matches!(inside, Inside::Comment);
-        if !is_comment {
-            self.skip(1);
-        }
-        for _ in 0..self.rest.len() {
-            if is_fresh {
-                self.refuse_inside(is_comment);
+        self.skip(text.len());
+        for (place, line) in text.split('\n').enumerate() {
+            if place > 0 {
+                self.line = self.line.saturating_add(1);
+                self.is_behind_code = false;
             }
-            let first = first_letter(self.rest);
-            is_fresh = matches!(first, Some('\n'))
-                || (is_fresh && matches!(first, Some(' ' | '\t')));
-            if is_comment && self.rest.starts_with("/*") {
-                depth = depth.saturating_add(1);
-                self.skip(2);
-            } else if let Some(length) = self.ending(inside) {
-                self.skip(length);
-                depth = depth.saturating_sub(1);
-                if depth == 0 {
-                    return;
-                }
-            } else {
-                if matches!(inside, Inside::Text) && self.rest.starts_with('\\') {
-                    self.skip(1);
-                }
-                self.skip_one();
+            if is_mark(line.trim()) {
+                self.faults.refuse(self.line, line.trim(), INSIDE);
             }
         }
-        self.faults.put_line_number(line);
-        self.faults.put(if is_comment {
-            "a comment begins here with `/*` that no `*/` ends\n"
-        } else {
-            "a text begins here that isn't ended\n"
-        });
-    }
-
-    /// How long what ends a comment or a text is, if it is at the start.
-    fn ending(&self, inside: Inside) -> Option<usize> {
-        match inside {
-            Inside::Comment if self.rest.starts_with("*/") => Some(2),
-            Inside::Text if self.rest.starts_with('"') => Some(1),
-            Inside::Raw(wanted)
-                if self.rest.starts_with('"') && hashes(behind(self.rest, 1)) >= wanted => Some(
-                wanted.saturating_add(1),
-            ),
-            _ => None,
-        }
-    }
-
-    /// Refuses a mark at the start, inside a comment or a text.
-    fn refuse_inside(&mut self, is_comment: bool) {
-        let line = first_line(self.rest).trim_end();
-        if is_mark(line) {
-            let why = if is_comment {
-                INSIDE_COMMENT
-            } else {
-                INSIDE_TEXT
-            };
-            self.faults.refuse(self.line, line, why);
-        }
+        text
     }
 
     /// Takes so many bytes as a token.
     fn read_token(&mut self, length: usize) {
         let text = self.rest.get(..length).unwrap_or("");
         self.skip(length);
-        self.is_behind_code = true;
-        self.put(text, self.line);
+        self.put_code(text, self.line);
     }
 
-    /// Appends a token, and before it a comment that is almost a mark, if a declaration may begin with it.
-    fn put(&mut self, text: &str, line: usize) {
-        let word = word_of(text);
-        if let Some((comment, line)) = self.almost
-            && matches!(word, Word::Hash | Word::Public | Word::Struct | Word::Enum)
-        {
-            self.push(comment, Word::Comment, line);
-        }
-        self.almost = None;
-        self.count_group(word);
-        self.push(text, word, line);
+    /// Appends a token of code.
+    fn put_code(&mut self, text: &str, line: usize) {
+        self.is_behind_code = true;
+        self.put(text, line);
     }
 
     /// Appends a token.
-    fn push(&mut self, text: &str, word: Word, line: usize) {
+    fn put(&mut self, text: &str, line: usize) {
+        let word = word_of(text);
+        self.count_group(word);
         let Ok(text) = String::from_str(self.alloc, text) else {
             return self.faults.note(true);
         };

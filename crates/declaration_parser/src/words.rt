@@ -6,23 +6,17 @@ pub const MOST_FIELDS: usize = 36;
 /// What is said of more.
 pub const TOO_MANY: &str = "more than 36 fields: make some of them a struct";
 
-/// What is said of a mark for what isn't chosen.
-pub const HAS_BY_ITSELF: &str = "` is had by every type whose fields have it: leave it out";
-
 /// What is said of another word of a mark.
 pub const NO_MARK: &str =
-    "` marks nothing: a message is marked for `Serialize`, `Deserialize`, or both";
+    "` marks nothing: a message is marked for `Serialize`, `Deserialize`, or both, and has all else by itself";
 
 /// What is said of a file without marks.
 pub const NO_MESSAGES_MARKED: &str =
     "nothing is marked: write `// message` in a line of its own before a declaration\n";
 
-/// What is said of a comment that is almost a mark, before a declaration that isn't marked.
+/// What is said of a mark before what is no declaration, or after code.
 pub const ALMOST: &str =
     "` marks nothing: a line of its own does, `// message` or `// message: Serialize`\n";
-
-/// What is said of a mark among what is skipped.
-pub const HIDDEN_MARK: &str = "a mark `// message` stands in what is skipped here: take it out";
 
 /// What is said of a call of a macro that holds a mark.
 pub const IN_MACRO: &str =
@@ -42,12 +36,6 @@ pub const BY_HAND: &str =
 
 /// Crates that have derives of their own called as serde's are.
 pub const NOT_OF_SERDE: &[&str] = &["miniserde", "rkyv"];
-
-/// Macros of other crates that implement one of serde's traits for what they are handed: the trait, and the macro.
-pub const MACROS_BY_HAND: &[(&str, &str)] = &[
-    ("Serialize", "derive_serialize_from_display"),
-    ("Deserialize", "derive_deserialize_from_fromstr"),
-];
 
 /// What is said of a condition on a field or a variant.
 pub const ON_SOME_DEVICES: &str =
@@ -85,23 +73,15 @@ pub const WAY_OF_SERDE: &str =
 pub const UNKNOWN: &str =
     "` isn't known here and may change the bytes: write the declaration as it is on the wire";
 
-/// What is said of what `serde_repr` derives.
-pub const REPR: &str =
-    "` sends the number of its `repr` alone: where it is a field, write that integer's type";
-
-/// What is said of a way to send a field.
-pub const OTHER_WAY: &str =
-    "` sends the field in ways not known here: write the type that is on the wire in its place";
+/// What is said of a derive that is called otherwise than serde's.
+pub const OTHER_DERIVE: &str =
+    "` may send something else than the fields, as a number or a text: where the type is a field, write what is on the wire";
 
 /// Words of serde's attributes that change no byte.
 pub const NO_BYTES: &str = "
     alias borrow bound crate default deny_unknown_fields expecting rename rename_all
     rename_all_fields transparent
 ";
-
-/// What is said of another type's bytes.
-const OTHER_BYTES: &str =
-    "` sends another type's bytes: mark that type, and write it where this one is a field";
 
 /// Words of serde's attributes that do, and what is said of each.
 pub const OF_SERDE: &[(&str, &str)] = &[
@@ -110,16 +90,8 @@ pub const OF_SERDE: &[(&str, &str)] = &[
         "` can't be sent by postcard, which has no names: write the fields themselves",
     ),
     (
-        "tag",
-        "` can't be read by postcard: it wants a number before a variant, so the device has to leave `tag` out",
-    ),
-    (
-        "content",
-        "` can't be read by postcard: it wants a number before a variant, so the device has to leave `content` out",
-    ),
-    (
-        "untagged",
-        "` can't be read by postcard: it wants a number before a variant, so the device has to leave `untagged` out",
+        "tag content untagged",
+        "` can't be read by postcard: it wants a number before a variant, so the device has to leave the word out",
     ),
     (
         "other",
@@ -129,33 +101,38 @@ pub const OF_SERDE: &[(&str, &str)] = &[
         "skip_serializing_if",
         "` leaves out bytes that the reader wants: the device has to send the field always",
     ),
-    ("serialize_with", OTHER_WAY),
-    ("deserialize_with", OTHER_WAY),
-    ("with", OTHER_WAY),
-    ("from", OTHER_BYTES),
-    ("try_from", OTHER_BYTES),
-    ("into", OTHER_BYTES),
+    (
+        "serialize_with deserialize_with with",
+        "` sends the field in ways not known here: write the type that is on the wire in its place",
+    ),
+    (
+        "from try_from into",
+        "` sends another type's bytes: mark that type, and write it where this one is a field",
+    ),
     (
         "skip",
         "` of a variant counts it on one side alone: take the variant out where it is the last",
     ),
 ];
 
+/// What the paths of attributes begin with that change no byte.
+pub const TOOLS: &str = "clippy diagnostic rustfmt typeshare";
+
 /// Attributes of declarations that change no byte: those of the language, and helpers of derives that are often met.
 pub const OF_ITEMS: &str = "
     allow arbitrary archive archive_attr arg automatically_derived backtrace bincode bits borsh
-    br brw builder bw cbor cfg clap clippy command defmt deku deny deprecated deref derivative
-    derive diagnostic display doc educe enumset error expect facet forbid from garde get getset
+    br brw builder bw cbor cfg clap command defmt deku deny deprecated deref derivative
+    derive display doc educe enumset error expect facet forbid from garde get getset
     into max_size must_use n non_exhaustive num_enum packed_struct postcard proptest repr rkyv
-    rustfmt schema schemars set snafu source specta strum strum_discriminants try_into ts tsify
-    typeshare validate value warn zeroize
+    schema schemars set snafu source specta strum strum_discriminants try_into ts tsify
+    validate value warn zeroize
 ";
 
-/// Names that are brought in beside the types.
-pub const OF_POSTCARD: &str = "
-    AsShape Flavor Last MatchesShape Readable Serialize Serializer ShapeOf Shaped Variant
-    Variants4
+/// Names that the implementations use: those of postcard, of its parameters, and of what writes.
+pub const OF_IMPLEMENTATIONS: &str = "
+    AsShape F Flavor Last MatchesShape Readable Serialize Serializer ShapeOf Shaped Taken Variant
+    Variants4 serializer
 ";
 
-/// Names of type parameters in the implementations.
-pub const OF_IMPLEMENTATIONS: &[&str] = &["F", "Taken"];
+/// What is said of one of them.
+pub const USED: &str = "` is also a name that the implementations use: call it otherwise";

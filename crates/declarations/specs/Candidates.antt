@@ -32,7 +32,6 @@ is_module_kind kind.Impl = false
 -- whether a scope, which is at this place, is one of a step's
 abbrev pub is_of_step : Step → ℕ → Scope → Bool
 is_of_step (step.Scope own) place scope = nat_eq place own
-is_of_step (step.File file) place scope = is_module_kind scope.kind && nat_eq scope.file file
 is_of_step step.All place scope = is_module_kind scope.kind
 is_of_step (step.Module name) place scope =
     is_module_kind scope.kind && pointwise is_alike_byte scope.name.now name.now

@@ -6,11 +6,13 @@ mod fields;
 mod lengths;
 mod types;
 
+use crate::known::NOWHERE;
 use crate::names::Scopes;
 use crate::read::Declared;
 use crate::{Error, Named, Names, Schema};
+use declaration_parser::attributes::same_words;
 use declaration_parser::cursor::Cursor;
-use declaration_parser::declaration::Declaration;
+use declaration_parser::declaration::{Body, Declaration};
 use declaration_parser::tokens::{Token, is_lifetime};
 use schema_table::Node;
 use std::alloc::Global;
@@ -19,36 +21,27 @@ use std::collections::BTreeMap;
 /// How deep the words of one type may nest, as `Vec<Option<u8>>` nests three deep.
 const DEEPEST: u32 = 64;
 
-/// The place of a type that can't be read, which no table has.
-const NOWHERE: usize = usize::MAX;
-
 /// What is said of a name that is marked twice in one module.
 const TWICE: &str = "the file declares this name twice: leave out what isn't on the wire";
 
-/// What a parameter stands for.
-#[derive(Clone, Copy, PartialEq, Eq, Drop)]
-enum Given<'a> {
-    Type(usize),
-    Length(u64),
-    /// A value that no length can be.
-    Value,
-    /// A name that stands for no type that is known, for this reason.
-    Wrong(&'a str, &'a str),
-}
-
-/// A parameter, and what it stands for.
-#[derive(Clone, Copy, PartialEq, Eq, Drop)]
-struct Bound<'a> {
+/// What stands for a parameter: words, and where they are.
+#[derive(Clone, Copy, Drop)]
+struct Given<'a> {
     name: &'a str,
-    given: Given<'a>,
+    is_length: bool,
+    words: &'a [Token],
+    /// The scope that they are in, and the type whose parameters they name; nowhere if they name none.
+    here: usize,
+    own: usize,
 }
 
-/// A declared type with parameters that was made: which, of what, and at which place.
+/// A declared type that the table has: which, what stands for its parameters, its place, and how deep its words may nest.
 #[derive(Drop)]
 struct Made<'a> {
     index: usize,
-    of: Vec<Bound<'a>>,
+    of: Vec<Given<'a>>,
     place: usize,
+    depth: u32,
 }
 
 /// Makes nodes of the words of types. What is wrong is noted and hides the words after it in the same field.
@@ -57,26 +50,21 @@ pub struct Builder<'a, 'b> {
     alloc: Global,
     declared: &'b Declared<'a>,
     names: &'b Scopes<'a>,
-    /// The places of declared types without parameters, and these types in the order in which they were met.
-    places: BTreeMap<usize, usize>,
-    owed: Vec<(usize, usize)>,
-    /// Those with parameters.
-    instances: Vec<Made<'a>>,
+    /// The declared types that the table has, in the order in which they were met; each is made in its turn.
+    made: Vec<Made<'a>>,
     /// Those that are refused by their own words, which is said once.
     refused: BTreeMap<usize, ()>,
-    /// What parameters stand for: those of the type that is made follow so many.
-    bound: Vec<Bound<'a>>,
-    scope: usize,
-    /// The scope whose words are read.
+    /// The type by whose parameters words are read, and the scope that these are in.
+    own: usize,
     here: usize,
-    /// The declared type whose fields are read.
-    index: usize,
     /// The words of a type that aren't read yet, and what is wrong in those that are.
     words: Cursor<'a>,
     /// How many numbers more the length that is read may be computed of.
     left: u32,
     /// The constant that can't be one of its numbers, and why; empty if there is none.
     doubt: (&'a str, &'a str),
+    /// Whether types were said to nest too deep.
+    is_too_deep: bool,
     /// The table: the types that it is to begin with, the nodes, and what their values are called by.
     types: Vec<Named>,
     nodes: Vec<Node>,
@@ -90,6 +78,16 @@ fn has_type_parameters(it: &Declaration<'_>) -> bool {
         .any(|parameter| !is_lifetime(parameter))
 }
 
+/// Whether the same words stand for parameters.
+fn are_same(first: &[Given<'_>], second: &[Given<'_>]) -> bool {
+    for (one, other) in first.iter().zip(second) {
+        if one.here != other.here || one.own != other.own || !same_words(one.words, other.words) {
+            return false;
+        }
+    }
+    true
+}
+
 impl<'a, 'b> Builder<'a, 'b> {
     /// A table without nodes, which begins with words that are asked for.
     pub fn new(alloc: Global, declared: &'b Declared<'a>) -> Builder<'a, 'b> {
@@ -97,17 +95,14 @@ impl<'a, 'b> Builder<'a, 'b> {
             alloc,
             declared,
             names: &declared.names,
-            places: BTreeMap::new(alloc),
-            owed: Vec::new(alloc),
-            instances: Vec::new(alloc),
+            made: Vec::new(alloc),
             refused: BTreeMap::new(alloc),
-            bound: Vec::new(alloc),
-            scope: 0,
+            own: NOWHERE,
             here: declared.asked,
-            index: usize::MAX,
             words: Cursor::new(alloc, &[]),
             left: 0,
             doubt: ("", ""),
+            is_too_deep: false,
             types: Vec::new(alloc),
             nodes: Vec::new(alloc),
             called: Vec::new(alloc),
@@ -145,11 +140,6 @@ impl<'a, 'b> Builder<'a, 'b> {
         place
     }
 
-    /// Appends a node that is still to be made. Until then it is one that can't be read.
-    fn add_unmade(&mut self) -> usize {
-        self.add(Node::Option(NOWHERE), Names::Nothing)
-    }
-
     /// Puts a node at a place that the table has.
     fn put(&mut self, place: usize, node: Node, names: Names) {
         if let Some(old) = self.nodes.get_mut(place) {
@@ -178,7 +168,8 @@ impl<'a, 'b> Builder<'a, 'b> {
                 self.is_refused(index, it);
                 continue;
             }
-            self.owe_type(index);
+            let of = Vec::new(self.alloc);
+            self.owe_type(index, of, DEEPEST);
             match String::from_str(self.alloc, it.name) {
                 Ok(name) => self.words.push(
                     &mut self.types,
@@ -205,31 +196,51 @@ impl<'a, 'b> Builder<'a, 'b> {
         true
     }
 
-    /// The place of a declared type without parameters, which is made later.
-    fn owe_type(&mut self, index: usize) -> usize {
-        if let Some(place) = self.places.get(&index) {
-            return *place;
+    /// The place of a declared type, of what stands for its parameters. It is made later, and until then one that can't be read.
+    fn owe_type(&mut self, index: usize, of: Vec<Given<'a>>, depth: u32) -> usize {
+        for made in &self.made {
+            if made.index == index && are_same(&made.of, &of) {
+                return made.place;
+            }
         }
-        let place = self.add_unmade();
-        let failed = self.places.insert(index, place).is_err();
-        self.words.faults.note(failed);
-        self.words.push(&mut self.owed, (index, place));
+        let place = self.add(Node::Option(NOWHERE), Names::Nothing);
+        self.words.push(
+            &mut self.made,
+            Made {
+                index,
+                of,
+                place,
+                depth,
+            },
+        );
         place
     }
 
-    /// Makes a declared type without parameters at its place, unless it can't be read.
-    fn make(&mut self, index: usize, it: &Declaration<'a>, place: usize) {
-        self.words.is_wrong = false;
+    /// Makes a declared type at its place, unless it can't be read.
+    fn make(&mut self, own: usize, index: usize, place: usize, depth: u32) {
+        let declared = self.declared;
+        let Some(it) = declared.all.get(index) else {
+            return;
+        };
         if self.is_refused(index, it) {
             return;
         }
-        self.begin(index, it);
+        self.own = own;
+        self.turn_to(self.names.stand(index).scope);
+        self.words.is_wrong = false;
+        self.words.name = it.name;
+        self.words.variant = "";
+        self.words.field = None;
         self.words.line = it.line;
         if self.declared.twice.get(index).copied().unwrap_or(false) {
             self.wrong(&[TWICE]);
             return;
         }
-        self.fill(it, place, DEEPEST);
+        let (node, names) = match &it.body {
+            Body::Struct(fields) => self.group(fields, depth),
+            Body::Enum(variants) => self.choice(variants, depth),
+        };
+        self.put(place, node, names);
     }
 
     /// The place of the type that words say which are asked for.
@@ -240,14 +251,12 @@ impl<'a, 'b> Builder<'a, 'b> {
 
     /// Makes the types that are still to be made, and those that these need.
     fn make_owed(&mut self) {
-        let declared = self.declared;
-        for next in 0..usize::MAX {
-            let Some((index, place)) = self.owed.get(next).copied() else {
+        for own in 0..usize::MAX {
+            let Some(it) = self.made.get(own) else {
                 break;
             };
-            if let Some(it) = declared.all.get(index) {
-                self.make(index, it, place);
-            }
+            let (index, place, depth) = (it.index, it.place, it.depth);
+            self.make(own, index, place, depth);
         }
     }
 

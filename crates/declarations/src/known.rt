@@ -2,6 +2,7 @@
 ghost use Rattle.std.specs.Prelude.{IfSome};
 ghost use Rattle.declarations.specs.TypeWords.{IsWordOf};
 
+pub use declaration_parser::sent::{is_primitive, sent_as};
 use declaration_parser::tokens::{is_among, is_listed};
 use schema_table::{IntegerType, Node};
 
@@ -10,12 +11,6 @@ pub const KNOWN_CRATES: &str = "alloc arrayvec core hashbrown heapless postcard 
 
 /// Names that every file has, unless it declares them or a `use` brings others in.
 const EVERYWHERE: &[&str] = &["Box", "Option", "Result", "String", "Vec"];
-
-/// Types of the language.
-const PRIMITIVE: &[&str] = &[
-    "bool", "char", "f32", "f64", "i8", "i16", "i32", "i64", "i128", "isize", "str", "u8", "u16",
-    "u32", "u64", "u128", "usize",
-];
 
 /// What a known type makes of what is in `<` and `>` after its name: `K` and `V`, `T` or nothing, and a length.
 #[derive(Clone, Copy, PartialEq, Eq, Drop)]
@@ -43,65 +38,35 @@ pub enum KnownForm {
     Phantom,
 }
 
-/// The known types that hold others, or a length: their names, and their form.
-const ROWS: &[(&str, KnownForm)] = &[
-    ("Arc Box Cell Cow Mutex Rc RefCell", KnownForm::Inner),
-    ("Reverse RwLock Saturating Wrapping", KnownForm::Inner),
-    ("Option", KnownForm::Option),
-    ("BTreeSet LinkedList Vec VecDeque", KnownForm::List),
-    ("BinaryHeap", KnownForm::Heap),
-    ("ArrayVec Deque FnvIndexSet", KnownForm::ListUpTo),
-    ("HashSet", KnownForm::Set),
-    ("Result", KnownForm::Outcome),
-    ("BTreeMap HashMap", KnownForm::Map),
-    ("FnvIndexMap LinearMap", KnownForm::MapUpTo),
-    ("ArrayString String", KnownForm::TextUpTo),
-    ("ByteArray", KnownForm::Bytes),
-    ("LE", KnownForm::Little),
-    ("BE", KnownForm::Big),
-    ("PhantomData", KnownForm::Phantom),
-];
+/// A known type that holds others, or a length: its form, how many types it holds, and at which place a length is among what is
+/// in its brackets; at [`NOWHERE`] if there is none.
+pub type FormRow = (KnownForm, usize, usize);
 
-/// Types that aren't read, and as what they are sent.
-const SENT_AS: &[(&str, &str)] = &[
-    ("AtomicBool", "bool"),
-    ("AtomicI8 NonZeroI8", "i8"),
-    ("AtomicI16 NonZeroI16", "i16"),
-    ("AtomicI32 NonZeroI32", "i32"),
-    ("AtomicI64 NonZeroI64", "i64"),
-    ("NonZeroI128", "i128"),
-    ("AtomicU8 NonZeroU8", "u8"),
-    ("AtomicU16 NonZeroU16", "u16"),
-    ("AtomicU32 NonZeroU32", "u32"),
-    ("AtomicU64 NonZeroU64", "u64"),
-    ("NonZeroU128", "u128"),
-    ("AtomicIsize NonZeroIsize", "isize"),
-    ("AtomicUsize NonZeroUsize", "usize"),
-    ("NonZero", "the integer in it"),
+pub const NOWHERE: usize = usize::MAX;
+
+/// These, by their names. In a heap what precedes the length says which element is first.
+const ROWS: &[(&str, FormRow)] = &[
     (
-        "Bound",
-        "enum Bound<T> { Unbounded, Included(T), Excluded(T) }",
+        "Arc Box Cell Cow Mutex Rc RefCell",
+        (KnownForm::Inner, 1, NOWHERE),
     ),
-    ("CStr", "&'a [u8]"),
-    ("CString", "Vec<u8>"),
-    ("Duration SystemTime", "(u64, u32)"),
-    ("IpAddr", "enum IpAddr { V4([u8; 4]), V6([u8; 16]) }"),
-    ("Ipv4Addr", "[u8; 4]"),
-    ("Ipv6Addr", "[u8; 16]"),
     (
-        "OsString",
-        "enum OsString { Unix(Vec<u8>), Windows(Vec<u16>) }",
+        "Reverse RwLock Saturating Wrapping",
+        (KnownForm::Inner, 1, NOWHERE),
     ),
-    ("Path", "&'a str"),
-    ("PathBuf", "String"),
-    ("Range RangeInclusive", "(T, T)"),
-    ("RangeFrom RangeTo", "(T,)"),
-    (
-        "SocketAddr",
-        "enum SocketAddr { V4(([u8; 4], u16)), V6(([u8; 16], u16)) }",
-    ),
-    ("SocketAddrV4", "([u8; 4], u16)"),
-    ("SocketAddrV6", "([u8; 16], u16)"),
+    ("Option", (KnownForm::Option, 1, NOWHERE)),
+    ("BTreeSet LinkedList Vec VecDeque", (KnownForm::List, 1, 1)),
+    ("BinaryHeap", (KnownForm::Heap, 1, 2)),
+    ("ArrayVec Deque FnvIndexSet", (KnownForm::ListUpTo, 1, 1)),
+    ("HashSet", (KnownForm::Set, 1, NOWHERE)),
+    ("Result", (KnownForm::Outcome, 2, NOWHERE)),
+    ("BTreeMap HashMap", (KnownForm::Map, 2, NOWHERE)),
+    ("FnvIndexMap LinearMap", (KnownForm::MapUpTo, 2, 2)),
+    ("ArrayString String", (KnownForm::TextUpTo, 0, 0)),
+    ("ByteArray", (KnownForm::Bytes, 0, 0)),
+    ("LE", (KnownForm::Little, 1, NOWHERE)),
+    ("BE", (KnownForm::Big, 1, NOWHERE)),
+    ("PhantomData", (KnownForm::Phantom, 0, NOWHERE)),
 ];
 
 /// The node of a type that holds no other, by its word.
@@ -132,7 +97,7 @@ pub fn plain_node(word: &str) -> Option<Node>
 }
 
 /// The form of the known type of this name, if it holds others or a length.
-pub fn form_of(word: &str) -> Option<KnownForm> {
+pub fn form_of(word: &str) -> Option<FormRow> {
     let row = ROWS.iter().find(|row| is_listed(word, row.0))?;
     Some(row.1)
 }
@@ -142,20 +107,9 @@ pub fn is_everywhere(word: &str) -> bool {
     is_primitive(word) || is_among(word, EVERYWHERE)
 }
 
-/// Whether a word is a type of the language.
-pub fn is_primitive(word: &str) -> bool {
-    is_among(word, PRIMITIVE)
-}
-
 /// Whether a type of this name is known.
 pub fn is_known(word: &str) -> bool {
     form_of(word).is_some() || is_everywhere(word) || matches!(word, "ByteBuf" | "Bytes")
-}
-
-/// As what a type is sent that isn't read, if that is known.
-pub fn sent_as(word: &str) -> Option<&'static str> {
-    let row = SENT_AS.iter().find(|row| is_listed(word, row.0))?;
-    Some(row.1)
 }
 
 /// The integer type of a node that writes one as a varint.

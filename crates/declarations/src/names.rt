@@ -62,8 +62,7 @@ struct Import<'a> {
     is_crate: bool,
     is_public: bool,
     is_conditional: bool,
-    /// Whether its first name is one of these files, and where it leads; one with `*` to what it brings in.
-    is_inside: bool,
+    /// Where it leads; one with `*` to what it brings in.
     lead: Lead<'a>,
 }
 
@@ -86,11 +85,8 @@ pub struct Scopes<'a> {
     /// All names that are declared, or brought in from what isn't known; and all that a `use` or a module has.
     named: BTreeMap<&'a str, ()>,
     used: BTreeMap<&'a str, ()>,
-    /// The places of modules in others and of what stands beside them, and of those whose file has another name.
-    modules: Vec<usize>,
-    misnamed: Vec<usize>,
-    /// The module that has each file, if one of these files has it.
-    parents: Vec<Option<usize>>,
+    /// From which scope a `*` leads to which others, also by those of others.
+    ways: BTreeMap<(usize, usize), ()>,
     /// The rules of macros, and calls that may declare something.
     rules: Vec<Rules<'a>>,
     calls: Vec<Call<'a>>,
@@ -129,9 +125,7 @@ impl<'a> Scopes<'a> {
             stands: Vec::new(alloc),
             named: BTreeMap::new(alloc),
             used: BTreeMap::new(alloc),
-            modules: Vec::new(alloc),
-            misnamed: Vec::new(alloc),
-            parents: Vec::new(alloc),
+            ways: BTreeMap::new(alloc),
             rules: Vec::new(alloc),
             calls: Vec::new(alloc),
             handed: Vec::new(alloc),
@@ -139,10 +133,11 @@ impl<'a> Scopes<'a> {
             failed: walk.failed,
         };
         names.find_modules();
-        names.find_parents();
         names.read_items(&walk.items);
-        names.find_insides();
+        // at first each seems to lead out of the files
         names.find_leads();
+        names.find_leads();
+        names.find_ways();
         for (index, it) in declared.iter().enumerate() {
             names.mark(index, it);
         }
@@ -152,16 +147,10 @@ impl<'a> Scopes<'a> {
         Ok(names)
     }
 
-    /// Notes which scopes are modules in others, or stand beside such.
+    /// Notes the names of modules in others.
     fn find_modules(&mut self) {
-        for (place, it) in self.scopes.iter().enumerate() {
-            if !matches!(it.kind, Kind::File | Kind::Body | Kind::Impl) {
-                self.failed = self.modules.push(place).is_err() || self.failed;
-                self.failed = put(&mut self.used, it.name) || self.failed;
-            }
-            if it.kind == Kind::Misnamed {
-                self.failed = self.misnamed.push(place).is_err() || self.failed;
-            }
+        for it in &self.scopes {
+            self.failed = put(&mut self.used, it.name) || self.failed;
         }
     }
 
@@ -192,24 +181,18 @@ impl<'a> Scopes<'a> {
         self.name_of_file(self.scope(scope).file)
     }
 
-    /// Whether the item at a place is what a declaration says.
-    fn is_declared(&self, place: usize, it: &Declaration<'a>) -> bool {
-        match self.items.get(place) {
-            Some(item) => item.line == it.line
-                && item.name == it.name
-                && matches!(item.what, What::Unmarked)
-                && self.file_of(item.scope) == it.file.file.as_str(),
-            None => false,
-        }
-    }
-
     /// Notes which item a marked declaration is, and where it is.
     fn mark(&mut self, index: usize, it: &Declaration<'a>) {
         let mut stand = Stand { scope: 0, count: 0 };
         for place in 0..self.items.len() {
-            if self.is_declared(place, it)
-                && let Some(item) = self.items.get_mut(place)
-            {
+            let Some(item) = self.items.get(place).copied() else {
+                break;
+            };
+            let is_it = item.line == it.line
+                && item.name == it.name
+                && matches!(item.what, What::Unmarked)
+                && self.file_of(item.scope) == it.file.file.as_str();
+            if is_it && let Some(item) = self.items.get_mut(place) {
                 stand.scope = item.scope;
                 stand.count = stand.count.saturating_add(1);
                 item.what = What::Marked(index);
@@ -230,11 +213,8 @@ impl<'a> Scopes<'a> {
     pub fn add_outside(&mut self) -> usize {
         let place = self.scopes.len();
         let scope = Scope {
-            kind: Kind::File,
-            name: "",
             file: self.files.len(),
-            outer: place,
-            end: 0,
+            ..self.scope(place)
         };
         self.failed = self.scopes.push(scope).is_err() || self.failed;
         place

@@ -199,14 +199,11 @@ fn are_readable(readable: &[bool], places: &[usize]) -> bool {
         .any(|place| !readable.get(*place).copied().unwrap_or(false))
 }
 
-/// Notes that nodes can't be read whose types can't be, from the last node to the first and back; and whether there were some.
+/// Notes that nodes can't be read whose types can't be, from the last node to the first; and whether there were some.
 fn find_unreadable(nodes: &[Node], readable: &mut [bool]) -> bool {
     let mut found = false;
-    let count = nodes.len();
-    for step in 0..count.saturating_mul(2) {
-        let place = count
-            .saturating_sub(step.saturating_add(1))
-            .max(step.saturating_sub(count));
+    for behind in 0..nodes.len() {
+        let place = nodes.len().saturating_sub(behind.saturating_add(1));
         let is_right = match nodes.get(place) {
             Some(node) => are_readable(readable, parts_of(node)),
             None => true,

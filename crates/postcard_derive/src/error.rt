@@ -1,5 +1,5 @@
 //! Why the program stops early.
-use std::alloc::{AllocError, AllocFailed};
+use std::alloc::AllocError;
 use std::io::{self, ErrorKind};
 use thiserror::Error;
 
@@ -40,12 +40,6 @@ impl RunError {
 
 impl From<AllocError> for RunError {
     fn from(_: AllocError) -> RunError {
-        RunError::NoMemory
-    }
-}
-
-impl<T: Drop> From<AllocFailed<T>> for RunError {
-    fn from(_: AllocFailed<T>) -> RunError {
         RunError::NoMemory
     }
 }

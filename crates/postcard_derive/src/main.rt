@@ -43,7 +43,7 @@ fn path_of(alloc: Global, names: &[String]) -> Result<String, AllocError> {
         path.put(if place > 0 { "." } else { "" });
         path.put_all(&[name, if place > 0 { "" } else { ".specs.declared" }]);
     }
-    path.finished()
+    path.made.finished()
 }
 
 /// Writes the implementations, or what is wrong to standard error; the status.
@@ -69,7 +69,7 @@ fn run(rt: &HostRuntime, path: &str, with_schemas: bool) -> Result<u8, RunError>
 fn words_of(rt: &HostRuntime) -> Result<Vec<String>, RunError> {
     let mut words = Vec::new(rt.alloc());
     for word in env::args(rt).map_err(RunError::Arguments)?.skip(1) {
-        words.push(word)?;
+        words.push(word).map_err(|_| RunError::NoMemory)?;
     }
     Ok(words)
 }

@@ -128,8 +128,8 @@ pub fn of_postcard(alloc: Global, all: &[Declaration]) -> Result<Vec<Use<'static
     Ok(uses)
 }
 
-/// Whether a type of this name holds itself by way of others, and not itself.
-pub fn holds_itself_by_others(alloc: Global, uses: &[Use], name: &str) -> Result<bool, AllocError> {
+/// Whether a type of this name holds itself, also by way of others.
+pub fn holds_itself(alloc: Global, uses: &[Use], name: &str) -> Result<bool, AllocError> {
     let mut held = Vec::new(alloc);
     held.push(name)?;
     for place in 0..=uses.len() {
@@ -139,7 +139,7 @@ pub fn holds_itself_by_others(alloc: Global, uses: &[Use], name: &str) -> Result
         let by = *by;
         for (holder, of) in uses {
             if *holder == by && *of == name {
-                return Ok(place > 0);
+                return Ok(true);
             }
             if *holder == by {
                 put(&mut held, of)?;

@@ -24,7 +24,7 @@ impl Text {
     /// Appends the words of a type or of bounds; one that begins a path which leads from the module above is another here.
     pub fn put_words(&mut self, tokens: &[Token]) {
         let Ok(words) = words_of(self.alloc, tokens) else {
-            return self.note(true);
+            return self.made.note(true);
         };
         let mut before = "";
         for word in &words {

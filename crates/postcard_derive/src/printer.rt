@@ -204,5 +204,5 @@ pub fn implementations(
     for it in all {
         text.put_declaration(it, path, with_schemas);
     }
-    text.finished()
+    text.made.finished()
 }

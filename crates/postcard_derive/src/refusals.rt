@@ -1,9 +1,10 @@
 //! What can't be implemented of declarations, a line each. Why a thing can't be is a text, which is empty if it can.
-use crate::known::{HOLDS_ITSELF, NO_TYPE, NO_WORDS, NOT_HERE, PLAIN, no_message, said_of};
-use crate::names::{NamedField, Use, holds_itself_by_others, rows_of};
+use crate::known::{HOLDS_ITSELF, NO_TYPE, NO_WORDS, NOT_HERE, no_message, said_of};
+use crate::names::{NamedField, Use, holds_itself, rows_of};
 use crate::scope::{OF_THE_CRATE, Origins, PathWord, is_capital, is_small, is_wordy, words_of};
 use crate::text::Text;
 use declaration_parser::declaration::{Declaration, Layout};
+use declaration_parser::sent::is_primitive;
 use declaration_parser::tokens::{is_among, is_lifetime};
 use std::alloc::{AllocError, Global};
 
@@ -62,7 +63,7 @@ fn name_refusal(scope: &Origins, it: &Declaration, word: &PathWord) -> &'static 
     let name = word.text;
     let from = scope.origin(word.head);
     let is_alone = !word.is_led && !word.leads;
-    if is_alone && (is_among(name, &it.parameters) || is_among(name, PLAIN)) {
+    if is_alone && (is_among(name, &it.parameters) || is_primitive(name)) {
         ""
     } else if is_alone && is_small(name) {
         NO_TYPE
@@ -72,8 +73,6 @@ fn name_refusal(scope: &Origins, it: &Declaration, word: &PathWord) -> &'static 
         "` leads to a type of its own: write that type itself"
     } else if word.leads {
         ""
-    } else if name == it.name && (is_alone || word.head == "self") {
-        HOLDS_ITSELF
     } else if is_alone && !is_among(from, OF_THE_CRATE) {
         no_message(from, name)
     } else if !is_alone
@@ -116,8 +115,10 @@ impl Text {
 
     /// Ends what is said of a word.
     fn put_why(&mut self, word: &str, why: &str) {
-        let front = if why.starts_with('`') { "" } else { NOT_HERE };
-        self.put_all(&["`: `", word, front, why, "\n"]);
+        let is_whole = why.starts_with('`');
+        let front = if is_whole { "" } else { NOT_HERE };
+        let end = if is_whole { "" } else { "`" };
+        self.put_all(&["`: `", word, front, why, end, "\n"]);
     }
 
     /// Says what is first wrong with a field of a variant.
@@ -165,13 +166,10 @@ pub fn refused(
         for row in &rows_of(alloc, it)? {
             text.judge(scope, it, row)?;
         }
-        if holds_itself_by_others(alloc, uses, it.name)? {
+        if holds_itself(alloc, uses, it.name)? {
             text.put_line(it.line, it);
-            text.put_why(
-                it.name,
-                "` holds itself by way of others: write these by hand, as the crate `example_by_hand` shows of `Chain`",
-            );
+            text.put_why(it.name, HOLDS_ITSELF);
         }
     }
-    text.finished()
+    text.made.finished()
 }

@@ -1,14 +1,12 @@
 //! Texts that are made of pieces.
-use std::alloc::{AllocError, Global};
-use std::fmt::Write;
+use declaration_parser::faults::Faults;
+use std::alloc::Global;
 
-/// A text that is made. If memory runs out, its other calls go on, and [`finished`](Text::finished) says so at the end: so
-/// those who write it need not ask at each piece.
+/// A text that is made.
 #[derive(Drop)]
 pub struct Text {
     pub alloc: Global,
-    whole: String,
-    failed: bool,
+    pub made: Faults<'static>,
 }
 
 impl Text {
@@ -16,27 +14,18 @@ impl Text {
     pub fn new(alloc: Global) -> Text {
         Text {
             alloc,
-            whole: String::new(alloc),
-            failed: false,
+            made: Faults::new(alloc),
         }
-    }
-
-    /// Notes whether memory ran out for something that the text needs.
-    pub fn note(&mut self, failed: bool) {
-        self.failed = self.failed || failed;
     }
 
     /// Appends a piece.
     pub fn put(&mut self, piece: &str) {
-        let failed = self.whole.push_str(piece).is_err();
-        self.note(failed);
+        self.made.put(piece);
     }
 
     /// Appends these pieces.
     pub fn put_all(&mut self, pieces: &[&str]) {
-        for piece in pieces {
-            self.put(piece);
-        }
+        self.made.put_all(pieces);
     }
 
     /// Appends these with commas between them, and what opens and closes them; nothing if there are none.
@@ -61,15 +50,6 @@ impl Text {
     /// Appends a piece and a number.
     pub fn put_numbered(&mut self, piece: &str, number: usize) {
         self.put(piece);
-        let failed = write!(self.whole, "{number}").is_err();
-        self.note(failed);
-    }
-
-    /// The whole text, if there was memory for it.
-    pub fn finished(self) -> Result<String, AllocError> {
-        if self.failed {
-            return Err(AllocError);
-        }
-        Ok(self.whole)
+        self.made.put_number(number);
     }
 }

@@ -202,7 +202,7 @@ const WRONG: [Row; 9] = [
     ),
     (
         "// message\nstruct A<T>(T);\n// message\nstruct B(A<C>);",
-        "line 4: `B.0`: `C` isn't declared and marked here: name the file of its declaration too, or write the type that is on the wire\n",
+        "line 4: `A.0`: `C` isn't declared and marked here: name the file of its declaration too, or write the type that is on the wire\n",
     ),
     (
         "// message\nstruct A([u8; N]);",
@@ -218,7 +218,7 @@ const WRONG: [Row; 9] = [
     ),
     (
         "// message\nstruct A(Option);",
-        "line 2: `A.0`: `<` is wanted in place of ``\n",
+        "line 2: `A.0`: what a type holds is wanted in `<` and `>`, as `Option<u8>` and `ArrayVec<u8, 4>` have it\n",
     ),
     (
         "// message\nstruct A { #[serde(flatten)] a: u8 }",

@@ -786,15 +786,22 @@ fn json_of<'a>(
     }
 }
 
-/// How many more brackets open than close in a text. Those in strings count too.
+/// How many more brackets open than close in the beginning of a JSON text. Those in strings don't count.
 fn open_brackets(text: &str) -> usize {
     let mut open: usize = 0;
+    let mut quoted = false;
+    let mut escaped = false;
     for it in text.chars() {
-        open = match it {
-            '[' | '{' => open.saturating_add(1),
-            ']' | '}' => open.saturating_sub(1),
-            _ => open,
-        };
+        if quoted {
+            quoted = escaped || it != '"';
+            escaped = !escaped && it == '\\';
+            continue;
+        }
+        match it {
+            '[' | '{' => open = open.saturating_add(1),
+            ']' | '}' => open = open.saturating_sub(1),
+            _ => quoted = it == '"',
+        }
     }
     open
 }

@@ -1,14 +1,14 @@
 //! What attributes say of the bytes.
 use super::Parser;
 use crate::attributes::{
-    attribute, behind_first, first_part, first_word, held, is_derived, last_word, up_to,
+    AttributeWalk, attribute, behind_first, first_part, first_word, front, held, is_derived,
+    last_word, up_to,
 };
 use crate::declaration::{Body, Field, Layout};
-use crate::reading::first_mark;
-use crate::tokens::{Token, is_among, is_listed};
+use crate::tokens::{Token, Word, is_listed};
 use crate::words::{
-    ALMOST_WAY, HIDDEN_MARK, LEFT_OUT, NO_BYTES, OF_ITEMS, OF_SERDE, ON_SOME_DEVICES, ONE_SIDE,
-    OTHER_CONDITION, REPR, TRANSPARENT, UNKNOWN, WAY_OF_SERDE,
+    ALMOST_WAY, LEFT_OUT, NO_BYTES, OF_ITEMS, OF_SERDE, ON_SOME_DEVICES, ONE_SIDE, OTHER_CONDITION,
+    TOOLS, TRANSPARENT, UNKNOWN, WAY_OF_SERDE,
 };
 
 /// The position of an attribute.
@@ -29,24 +29,14 @@ pub(super) struct Said {
     pub(super) layout: Layout,
 }
 
-/// Derives that send a text.
-const OF_TEXTS: &[&str] = &[
-    "DeserializeFromStr",
-    "Deserialize_enum_str",
-    "SerializeDisplay",
-    "Serialize_enum_str",
-];
-
 /// How the bytes of a field are arranged, by the way that `with` names.
 fn layout_of(way: &str) -> Option<Layout> {
-    match way {
-        "\"postcard::fixint::le\"" | "\"::postcard::fixint::le\"" => Some(Layout::Little),
-        "\"postcard::fixint::be\"" | "\"::postcard::fixint::be\"" => Some(Layout::Big),
-        "\"serde_bytes\"" | "\"::serde_bytes\"" => Some(Layout::Buffer),
-        "\"BigArray\"" | "\"serde_big_array::BigArray\"" | "\"serde_arrays\"" => Some(
-            Layout::Array,
-        ),
-        "\"::serde_big_array::BigArray\"" | "\"::serde_arrays\"" => Some(Layout::Array),
+    let way = way.trim_matches('"');
+    match way.strip_prefix("::").unwrap_or(way) {
+        "postcard::fixint::le" => Some(Layout::Little),
+        "postcard::fixint::be" => Some(Layout::Big),
+        "serde_bytes" => Some(Layout::Buffer),
+        "BigArray" | "serde_big_array::BigArray" | "serde_arrays" => Some(Layout::Array),
         _ => None,
     }
 }
@@ -67,45 +57,24 @@ impl<'a> Parser<'a> {
             layout: Layout::Own,
         };
         let line = self.at.line;
-        let mut rest = attributes;
+        let mut all = AttributeWalk::of(attributes);
         for _ in 0..attributes.len() {
-            rest = match attribute(rest) {
-                Some((words, behind)) => {
-                    self.read_attribute(words, attributes, at, &mut said);
-                    behind
-                }
-                None => behind_first(rest),
+            let Some(it) = all.next() else {
+                break;
             };
+            if let [word, ..] = it.words {
+                self.at.line = word.line;
+            }
+            let is_other = !it.condition.is_empty() && !self.marking.is_under(it.condition);
+            self.read_attribute(it.words, attributes, at, is_other, &mut said);
         }
         self.at.line = line;
         said
     }
 
-    /// Reads an attribute, which is one of these.
-    fn read_attribute(&mut self, words: &'a [Token], all: &'a [Token], at: At, said: &mut Said) {
-        if let [word, ..] = words {
-            self.at.line = word.line;
-        }
-        if first_mark(words).is_some() {
-            self.at.wrong(&[HIDDEN_MARK]);
-        }
-        if first_word(words) != "cfg_attr" {
-            return self.read_plain(words, all, at, false, said);
-        }
-        let (condition, mut rest) = first_part(held(words));
-        let is_other = !self.marking.is_under(condition);
-        for _ in 0..words.len() {
-            let (part, behind) = first_part(rest);
-            if !part.is_empty() {
-                self.read_plain(part, all, at, is_other, said);
-            }
-            rest = behind;
-        }
-    }
-
     /// Reads an attribute, and whether it has another condition than the derives. One of a declaration has to be of the language,
     /// or the helper of a derive among these whose path begins with its name.
-    fn read_plain(
+    fn read_attribute(
         &mut self,
         words: &'a [Token],
         all: &'a [Token],
@@ -115,7 +84,10 @@ impl<'a> Parser<'a> {
     ) {
         let name = first_word(words);
         let is_item = matches!(at, At::Item);
-        let is_free = !is_item || is_listed(name, OF_ITEMS) || is_derived(all, name);
+        // a helper of a derive is one word, and a path is a macro's, which may rewrite the declaration
+        let is_path = matches!(front(behind_first(words)), Word::Colon);
+        let is_helper = is_listed(name, OF_ITEMS) || is_derived(all, name);
+        let is_free = !is_item || is_listed(name, TOOLS) || (is_helper && !is_path);
         match name {
             "serde" => self.read_serde(held(words), at, is_other, said),
             "serde_as" | "serde_with" if last_word(words) == "serde_as" => {}
@@ -123,7 +95,6 @@ impl<'a> Parser<'a> {
             "with" if held(words).is_empty() => self.read_way(words, at, said),
             _ if name.starts_with("serde") || !is_free => self.at.refuse(name, UNKNOWN),
             "cfg" | "cfg_attr" if !is_item => self.at.refuse(name, ON_SOME_DEVICES),
-            "derive" => self.read_derive(held(words)),
             _ => {}
         }
     }
@@ -137,22 +108,6 @@ impl<'a> Parser<'a> {
             [_, _] => {}
             _ if self.marking.is_derived => self.at.refuse("with", WAY_OF_SERDE),
             _ => self.read_changing("with", words, at, said),
-        }
-    }
-
-    /// Refuses what a derive makes that isn't known here.
-    fn read_derive(&mut self, names: &'a [Token]) {
-        let mut rest = names;
-        for _ in 0..names.len() {
-            let (part, behind) = first_part(rest);
-            let name = last_word(part);
-            if is_among(name, &["Serialize_repr", "Deserialize_repr"]) {
-                self.at.refuse(name, REPR);
-            }
-            if is_among(name, OF_TEXTS) {
-                self.at.refuse(name, "` sends a text: where it is a field, write `String`");
-            }
-            rest = behind;
         }
     }
 
@@ -202,7 +157,7 @@ impl<'a> Parser<'a> {
 
     /// Refuses a word of serde's, with what to write.
     fn refuse_serde(&mut self, name: &str) {
-        match OF_SERDE.iter().find(|row| row.0 == name) {
+        match OF_SERDE.iter().find(|row| is_listed(name, row.0)) {
             Some(row) => self.at.refuse(name, row.1),
             None => self.at.refuse(name, UNKNOWN),
         }
@@ -226,18 +181,15 @@ impl<'a> Parser<'a> {
 
     /// Whether a field is left out, on all sides that there are.
     pub(super) fn is_left_out(&mut self, said: Said) -> bool {
-        let not_written = self.marking.marks.written && said.not_written;
-        let not_read = self.marking.marks.read && said.not_read;
-        if !not_written && !not_read {
+        let marks = self.marking.marks;
+        if (!marks.written || !said.not_written) && (!marks.read || !said.not_read) {
             return false;
         }
-        if (self.marking.marks.written && !not_written) || (self.marking.marks.read && !not_read) {
-            let word = if not_written {
-                "skip_serializing"
-            } else {
-                "skip_deserializing"
-            };
-            self.at.refuse(word, ONE_SIDE);
+        if marks.written && !said.not_written {
+            self.at.refuse("skip_deserializing", ONE_SIDE);
+        }
+        if marks.read && !said.not_read {
+            self.at.refuse("skip_serializing", ONE_SIDE);
         }
         self.refuse_in_code(true, "skip", LEFT_OUT);
         true

@@ -4,29 +4,19 @@ ghost use Rattle.declarations.specs.KnownNodes.{IsNodeOf};
 
 use super::{Builder, NOWHERE};
 use crate::Names;
-use crate::known::{KnownForm, varint_type};
-use declaration_parser::attributes::up_to;
-use declaration_parser::tokens::{is_among, is_lifetime};
+use crate::known::{FormRow, KnownForm, varint_type};
+use declaration_parser::attributes::{behind_first, first_word, last_word, type_up_to, up_to};
+use declaration_parser::tokens::{Token, is_lifetime};
 use schema_table::{IntegerType, Node};
 use std::alloc::{AllocError, Global};
 
-/// What is said of a type that lacks a length.
-const NO_LENGTH: &str =
-    "a type and how many of it there may be are wanted, as in `ArrayVec<u8, 4>`";
+/// What is said of a type that lacks what it holds.
+const NO_ARGUMENTS: &str =
+    "what a type holds is wanted in `<` and `>`, as `Option<u8>` and `ArrayVec<u8, 4>` have it";
 
 /// What is said of a type whose bytes have no order.
 const NO_INTEGER: &str =
     "` isn't an integer of 16 to 128 bits: write one, or its bytes as an array";
-
-/// What is in the angle brackets of a known type: the places of types, and a length. The first type may be an integer that can be
-/// sent as its bytes.
-#[derive(Clone, Copy, Drop)]
-struct Held {
-    first: usize,
-    second: usize,
-    most: Option<u64>,
-    of: Option<IntegerType>,
-}
 
 /// The places of what a `Result` holds: its value's, and its error's after that. Those of a pair of a map too.
 fn payloads_of(alloc: Global, value: usize, error: usize) -> Result<Vec<usize>, AllocError>
@@ -67,71 +57,105 @@ fn node_of(
 }
 
 impl<'a> Builder<'a, '_> {
+    /// Takes what is in angle brackets, and gives the words of each argument, but for lifetimes.
+    pub(super) fn arguments(&mut self) -> Vec<&'a [Token]> {
+        let mut all = Vec::new(self.alloc);
+        if !self.words.take("<") {
+            return all;
+        }
+        for _ in 0..self.words.rest.len() {
+            let (words, rest) = type_up_to(self.words.rest, &[",", ">"]);
+            if !words.is_empty() && !is_lifetime(first_word(words)) {
+                self.words.push(&mut all, words);
+            }
+            self.words.rest = rest;
+            if !self.words.take(",") {
+                break;
+            }
+        }
+        self.words.owe(">");
+        all
+    }
+
+    /// The place of the type that is an argument, if there is one.
+    #[cycle(types)]
+    fn argument(&mut self, words: Option<&'a [Token]>, depth: u32) -> usize {
+        match words {
+            Some(words) => self.whole(words, depth),
+            None => self.wrong(&[NO_ARGUMENTS]),
+        }
+    }
+
     /// The place of a known type that holds others, or a length.
     #[cycle(types)]
-    pub(super) fn formed(&mut self, form: KnownForm, depth: u32) -> usize {
-        let (before, mut first, mut second) = (self.nodes.len(), 0, 0);
-        self.words.owe("<");
-        self.skip_lifetimes();
-        let word = self.words.peek();
-        match form {
-            KnownForm::TextUpTo | KnownForm::Bytes | KnownForm::Phantom => {}
-            KnownForm::Outcome | KnownForm::Map | KnownForm::MapUpTo => {
-                first = self.place(depth);
-                self.words.owe(",");
-                second = self.place(depth);
-            }
-            _ => first = self.place(depth),
+    pub(super) fn formed(&mut self, row: FormRow, depth: u32) -> usize {
+        let of = self.arguments();
+        let (form, types, length) = row;
+        let (mut first, mut second, mut most) = (0, 0, None);
+        if types > 0 {
+            first = self.argument(of.first().copied(), depth);
         }
-        let most = self.most_in(form);
-        self.skip_types();
-        self.words.owe(">");
-        if matches!(form, KnownForm::ListUpTo | KnownForm::MapUpTo) && most.is_none() {
-            self.wrong(&[NO_LENGTH]);
+        if types > 1 {
+            second = self.argument(of.get(1).copied(), depth);
+        }
+        if let Some(words) = of.get(length) {
+            most = Some(self.length(words));
         }
         if self.words.is_wrong {
             return NOWHERE;
         }
-        self.made_of(form, word, first, second, most, before)
+        let words = of.first().copied().unwrap_or(&[]);
+        match form {
+            KnownForm::Inner => first,
+            KnownForm::Little | KnownForm::Big => self.ordered(form, first, words),
+            _ => self.holding(form, last_word(words), first, second, most),
+        }
     }
 
-    /// The place of a known type, by the first word in its brackets, the places of types, whose nodes follow so many, and a
-    /// length.
-    fn made_of(
+    /// The place of a known type that holds these, of which the first is a type of this word, or so many.
+    fn holding(
         &mut self,
         form: KnownForm,
         word: &str,
         first: usize,
         second: usize,
         most: Option<u64>,
-        before: usize,
     ) -> usize {
-        let node = self.nodes.get(first);
-        let is_byte = word == "u8" && most.is_none() && matches!(node, Some(Node::U8));
-        let of = if is_among(word, &["isize", "usize"]) {
-            None
-        } else {
-            varint_type(node)
-        };
+        let is_byte = word == "u8" && most.is_none();
         let (form, first, names) = match form {
-            KnownForm::Inner => return first,
-            KnownForm::List | KnownForm::Heap if is_byte => (KnownForm::Bytes, 0, Names::Nothing),
+            KnownForm::List | KnownForm::Heap
+                if is_byte && matches!(self.nodes.get(first), Some(Node::U8)) => (
+                KnownForm::Bytes,
+                0,
+                Names::Nothing,
+            ),
             KnownForm::Map | KnownForm::MapUpTo => (form, self.pair(first, second), Names::Map),
             KnownForm::Outcome => (form, first, self.outcome()),
             KnownForm::Phantom => (form, first, Names::Unit),
             _ => (form, first, Names::Nothing),
         };
-        let made = node_of(self.alloc, form, first, second, most, of);
+        let made = node_of(self.alloc, form, first, second, most, None);
         self.words.faults.note(made.is_err());
-        let Some(node) = made.unwrap_or(None) else {
-            return self.wrong(&["`", word, NO_INTEGER]);
-        };
-        // the integer's own node, if it is of no other type
-        if matches!(form, KnownForm::Little | KnownForm::Big) && first >= before {
-            self.put(first, node, names);
-            return first;
+        match made {
+            Ok(Some(node)) => self.add(node, names),
+            _ => self.wrong(&[NO_ARGUMENTS]),
         }
-        self.add(node, names)
+    }
+
+    /// The place of an integer, whose type has these words, as its bytes in an order.
+    pub(super) fn ordered(&mut self, form: KnownForm, place: usize, words: &[Token]) -> usize {
+        // one of devices is as wide as their addresses
+        let of = match last_word(words) {
+            "isize" | "usize" => None,
+            _ => varint_type(self.nodes.get(place)),
+        };
+        let made = node_of(self.alloc, form, place, 0, None, of);
+        self.words.faults.note(made.is_err());
+        match made {
+            Ok(Some(node)) => self.put(place, node, Names::Nothing),
+            _ => return self.wrong(&["`", first_word(words), NO_INTEGER]),
+        }
+        place
     }
 
     /// What the variants of a `Result` are called by.
@@ -151,82 +175,34 @@ impl<'a> Builder<'a, '_> {
         self.add(Node::Struct(fields), Names::Tuple)
     }
 
-    /// Takes lifetimes before types, with the commas after them.
-    pub(super) fn skip_lifetimes(&mut self) {
-        for _ in 0..self.words.rest.len() {
-            if !is_lifetime(self.words.peek()) {
-                break;
-            }
-            self.words.step();
-            self.words.take(",");
-        }
-    }
-
-    /// Takes the length of a known type that has one, if it is there.
-    fn most_in(&mut self, form: KnownForm) -> Option<u64> {
-        match form {
-            KnownForm::TextUpTo | KnownForm::Bytes => {}
-            KnownForm::List | KnownForm::Heap | KnownForm::ListUpTo | KnownForm::MapUpTo => {
-                if !self.words.take(",") || self.words.peek() == ">" {
-                    return None;
-                }
-            }
-            _ => return None,
-        }
-        if form == KnownForm::Heap {
-            // what is between says which element is first
-            let (_, rest) = up_to(self.words.rest, &[",", ">"]);
-            self.words.rest = rest;
-            self.words.owe(",");
-        }
-        Some(self.length(&[">", ","]))
-    }
-
-    /// Takes the words up to the `>` that closes; that of an arrow doesn't.
-    fn skip_types(&mut self) {
-        let mut open: usize = 0;
-        let mut before = "";
-        for token in self.words.rest {
-            match token.text.as_str() {
-                ">" if before == "-" => {}
-                ">" if open == 0 => break,
-                ">" => open = open.saturating_sub(1),
-                "<" => open = open.saturating_add(1),
-                _ => {}
-            }
-            before = self.words.peek();
-            self.words.step();
-        }
-    }
-
-    /// After `[`: an array, or what is borrowed as a slice.
+    /// The place of what is in brackets: an array, or what is borrowed as a slice.
     #[cycle(types)]
-    pub(super) fn array(&mut self, depth: u32) -> usize {
-        let word = self.words.peek();
-        let element = self.place(depth);
-        if self.words.take("]") {
-            return self.made_of(KnownForm::List, word, element, 0, None, 0);
+    pub(super) fn array(&mut self, inside: &'a [Token], depth: u32) -> usize {
+        let (of, length) = up_to(inside, &[";"]);
+        let element = self.whole(of, depth);
+        if length.is_empty() {
+            return self.holding(KnownForm::List, last_word(of), element, 0, None);
         }
-        self.words.owe(";");
-        let count = self.length(&["]"]);
-        self.words.owe("]");
+        let count = self.length(behind_first(length));
         self.add(Node::Array(count, element), Names::Nothing)
     }
 
-    /// After `(`: a tuple, or a type in parentheses.
+    /// The place of what is in parentheses: a tuple, or a type.
     #[cycle(types)]
-    pub(super) fn tuple(&mut self, depth: u32) -> usize {
+    pub(super) fn tuple(&mut self, inside: &'a [Token], depth: u32) -> usize {
         let mut places = Vec::new(self.alloc);
-        let mut ends_in_comma = true;
-        for _ in 0..self.words.rest.len() {
-            if !ends_in_comma || self.words.peek() == ")" {
+        let mut ends_in_comma = false;
+        let mut rest = inside;
+        for _ in 0..inside.len() {
+            if rest.is_empty() {
                 break;
             }
-            let place = self.place(depth);
+            let (part, behind) = type_up_to(rest, &[","]);
+            let place = self.whole(part, depth);
             self.words.push(&mut places, place);
-            ends_in_comma = self.words.take(",");
+            ends_in_comma = !behind.is_empty();
+            rest = behind_first(behind);
         }
-        self.words.owe(")");
         match places.as_slice() {
             [] => self.add(Node::Struct(places), Names::Unit),
             [only] if !ends_in_comma => *only,

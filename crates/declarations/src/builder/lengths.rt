@@ -1,10 +1,10 @@
 //! Lengths: numbers, parameters, constants, and what is computed of these, in three levels of what binds how strongly.
-use super::{Builder, DEEPEST, Given};
+use super::{Builder, DEEPEST, NOWHERE};
 use crate::known::is_primitive;
 use crate::names::{Found, Space, What};
 use crate::numbers::{Number, computed_of, literal, operator_at, width_of};
 use crate::paths::{PathAt, path_at};
-use declaration_parser::attributes::{first_word, group, up_to};
+use declaration_parser::attributes::{first_word, group};
 use declaration_parser::tokens::Token;
 
 /// How many numbers one length may be computed of.
@@ -27,9 +27,8 @@ const LEVELS: u32 = 3;
 const GREATEST: u64 = 0xFFFF_FFFF;
 
 impl<'a> Builder<'a, '_> {
-    /// Takes a length, up to one of these words.
-    pub(super) fn length(&mut self, ends: &[&str]) -> u64 {
-        let (words, rest) = up_to(self.words.rest, ends);
+    /// The length that these words are.
+    pub(super) fn length(&mut self, words: &'a [Token]) -> u64 {
         if let [first, ..] = words {
             self.words.line = first.line;
         }
@@ -39,10 +38,7 @@ impl<'a> Builder<'a, '_> {
         let number = self.value_of(words, GREATEST, DEEPEST);
         self.words.line = line;
         match number {
-            Some(number) => {
-                self.words.rest = rest;
-                number.value
-            }
+            Some(number) => number.value,
             None => {
                 self.refuse_length(words);
                 0
@@ -137,10 +133,9 @@ impl<'a> Builder<'a, '_> {
         let at = path_at(self.words.rest);
         self.words.rest = at.rest;
         if at.path.is_empty() {
-            match self.given(at.last) {
-                Some(Given::Length(value)) => return Some(Number { value, most }),
-                Some(Given::Value) => return None,
-                _ => {}
+            if let Some(it) = self.given(at.last, true) {
+                let number = self.there_is(it.words, it.here, it.own, GREATEST, depth)?;
+                return Number { most, ..number }.within(most);
             }
         }
         let of = at.path.before;
@@ -168,20 +163,34 @@ impl<'a> Builder<'a, '_> {
         // of a type that isn't known what each has
         let (most, _) = self.width(first_word(of)).unwrap_or((127, 0));
         let most = if of.len() == 1 { most } else { 127 };
-        let (scope, here) = (self.scope, self.here);
-        self.scope = self.bound.len();
-        self.here = there;
-        let number = self.value_of(words, most, depth);
-        self.scope = scope;
+        self.there_is(words, there, NOWHERE, most, depth)?
+            .within(most)
+    }
+
+    /// The number that these words of a scope compute, which may name the parameters of a type.
+    #[cycle(lengths)]
+    fn there_is(
+        &mut self,
+        words: &'a [Token],
+        here: usize,
+        own: usize,
+        most: u64,
+        depth: u32,
+    ) -> Option<Number> {
+        let before = (self.here, self.own);
         self.here = here;
-        number?.within(most)
+        self.own = own;
+        let number = self.value_of(words, most, depth);
+        self.here = before.0;
+        self.own = before.1;
+        number
     }
 
     /// What a type of the language has under a name, if that is the same on all devices.
     fn of_language(&self, at: &PathAt<'a>) -> Option<Number> {
         let of = at.path.before;
         let is_plain = at.path.count == 1 || matches!(at.path.root, "core" | "std");
-        if !is_plain || self.given(of).is_some() {
+        if !is_plain || self.given(of, false).is_some() {
             return None;
         }
         let (greatest, bits) = self.width(of)?;

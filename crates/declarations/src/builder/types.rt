@@ -1,11 +1,11 @@
 //! The places of types, by their words.
-use super::{Bound, Builder, Given, Made, NOWHERE, has_type_parameters};
+use super::{Builder, DEEPEST, Given, NOWHERE};
 use crate::Names;
 use crate::known::{form_of, is_known, plain_node, sent_as};
 use crate::names::{Found, Space, What};
 use crate::near::put_nearest;
 use crate::paths::{PathAt, path_at};
-use declaration_parser::attributes::{first_word, group, type_up_to, up_to};
+use declaration_parser::attributes::{first_word, front, group, plain_name};
 use declaration_parser::declaration::Declaration;
 use declaration_parser::faults::Faults;
 use declaration_parser::tokens::{Token, Word, is_among, is_lifetime};
@@ -47,20 +47,11 @@ const CANNOT_BE_SENT: &str =
 
 const QUALIFIED: &str = "`<..>::` isn't followed here: write the type that it stands for";
 
-const ITSELF: &str =
-    "`Self` isn't followed in a type with parameters: write its name and what they stand for";
+const ITSELF: &str = "`Self` stands for no type here: write its name";
 
-/// Whether the value of a parameter can be no length: it is true or false, a character, or below zero.
-fn is_no_length(words: &[Token]) -> bool {
-    match words {
-        [word] => {
-            let word = word.text.as_str();
-            word.starts_with('\'') || is_among(word, &["false", "true"])
-        }
-        [minus, _] => matches!(minus.word, Word::Dash),
-        _ => false,
-    }
-}
+/// What is said of more than a type has parameters.
+const MORE: &str =
+    "` can't stand here, where lifetimes and what stands for parameters alone do: leave it out";
 
 impl<'a> Builder<'a, '_> {
     /// The place of the type at the start of the words, which are taken. It may nest in so many words.
@@ -70,29 +61,34 @@ impl<'a> Builder<'a, '_> {
             return NOWHERE;
         }
         if depth == 0 {
-            return self.wrong(&[TOO_DEEP]);
+            // parameters that grow reach this many times
+            if !self.is_too_deep {
+                self.wrong(&[TOO_DEEP]);
+            }
+            self.is_too_deep = true;
+            self.words.is_wrong = true;
+            return NOWHERE;
         }
         if self.nodes.len() > MOST_NODES {
             return self.wrong(&[TOO_MANY]);
         }
-        match self.words.peek() {
-            "&" => {
-                self.words.step();
+        match (front(self.words.rest), group(self.words.rest)) {
+            (Word::Paren, Some((inside, rest))) => {
+                self.words.rest = rest;
+                self.tuple(inside, depth - 1)
+            }
+            (Word::Bracket, Some((inside, rest))) => {
+                self.words.rest = rest;
+                self.array(inside, depth - 1)
+            }
+            (Word::Less, _) => self.wrong(&[QUALIFIED]),
+            _ if self.words.take("&") => {
                 if is_lifetime(self.words.peek()) {
                     self.words.step();
                 }
                 self.words.take("mut");
                 self.place(depth - 1)
             }
-            "(" => {
-                self.words.step();
-                self.tuple(depth - 1)
-            }
-            "[" => {
-                self.words.step();
-                self.array(depth - 1)
-            }
-            "<" => self.wrong(&[QUALIFIED]),
             _ => self.named(depth - 1),
         }
     }
@@ -109,22 +105,21 @@ impl<'a> Builder<'a, '_> {
             return self.refuse(word, UNDECLARED);
         }
         self.words.rest = at.rest;
-        let given = if at.path.is_empty() {
-            self.given(at.last)
-        } else {
-            None
-        };
-        match given {
-            Some(Given::Type(place)) => return place,
-            Some(Given::Wrong(name, why)) => return self.refuse(name, why),
-            _ => {}
-        }
-        if at.path.is_empty() && at.last == "Self" {
-            return self.itself();
+        if at.path.is_empty() {
+            if let Some(it) = self.given(at.last, false) {
+                return self.there(it.words, it.here, it.own, depth);
+            }
+            if at.last == "Self" {
+                return self.itself();
+            }
         }
         match self.found(&at) {
             Found::In(What::Marked(index), _) => self.instance(index, depth),
-            Found::In(What::Alias(words), there) => self.alias(words, there, depth),
+            Found::In(What::Alias(words), there) => {
+                let all = self.arguments();
+                self.refuse_more(&all, 0);
+                self.there(words, there, NOWHERE, depth)
+            }
             Found::Known(name) => self.known(name, depth),
             Found::Wrong(why) => self.refuse(at.last, why),
             Found::Two => self.refuse_two(at.last),
@@ -155,7 +150,7 @@ impl<'a> Builder<'a, '_> {
             return self.names.find(self.here, at.last, space);
         }
         // what belongs to a parameter isn't known here
-        if !at.path.is_absolute && self.given(at.path.root).is_some() {
+        if !at.path.is_absolute && self.given(at.path.root, false).is_some() {
             return Found::Outside;
         }
         self.names.find_by_path(self.here, at.path, at.last, space)
@@ -163,9 +158,9 @@ impl<'a> Builder<'a, '_> {
 
     /// The place of the type whose field is read.
     fn itself(&mut self) -> usize {
-        match self.places.get(&self.index).copied() {
-            Some(place) if self.names.stand(self.index).scope == self.here => place,
-            _ => self.wrong(&[ITSELF]),
+        match self.made.get(self.own) {
+            Some(made) => made.place,
+            None => self.wrong(&[ITSELF]),
         }
     }
 
@@ -214,197 +209,112 @@ impl<'a> Builder<'a, '_> {
         }
     }
 
-    /// What a parameter stands for.
-    pub(super) fn given(&self, word: &str) -> Option<Given<'a>> {
-        for it in self.bound.get(self.scope..)? {
-            if it.name == word {
-                return Some(it.given);
+    /// What stands for a parameter of this name, which is a length or a type.
+    pub(super) fn given(&self, word: &str, is_length: bool) -> Option<Given<'a>> {
+        for it in &self.made.get(self.own)?.of {
+            if it.name == word && it.is_length == is_length {
+                return Some(*it);
             }
         }
         None
     }
 
-    /// After a type without parameters: takes its lifetimes, if it has any.
-    fn lifetimes(&mut self) {
-        if !self.words.take("<") {
-            return;
-        }
-        self.skip_lifetimes();
-        let word = self.words.step();
-        if !word.is_empty() && word != ">" {
-            self.wrong(&[
-                "`",
-                word,
-                "` can't stand here, where lifetimes alone do: leave it out",
-            ]);
-        }
-    }
-
-    /// The place of the type that these words of a scope say, which are an alias.
+    /// The place of the type that these words of a scope say, which may name the parameters of a type.
     #[cycle(types)]
-    fn alias(&mut self, words: &'a [Token], there: usize, depth: u32) -> usize {
-        self.lifetimes();
-        let (scope, before) = (self.scope, self.here);
-        self.scope = self.bound.len();
-        self.turn_to(there);
+    fn there(&mut self, words: &'a [Token], here: usize, own: usize, depth: u32) -> usize {
+        let before = (self.here, self.own);
+        self.turn_to(here);
+        self.own = own;
         let place = self.whole(words, depth);
-        self.turn_to(before);
-        self.scope = scope;
+        self.turn_to(before.0);
+        self.own = before.1;
         place
     }
 
-    /// What is in angle brackets for the parameters of a type.
-    #[cycle(types)]
-    fn arguments(&mut self, it: &Declaration<'a>, depth: u32) -> Vec<Bound<'a>> {
-        let mut bound = Vec::new(self.alloc);
-        let is_open = self.words.take("<");
-        for name in &it.parameters {
-            let is_given = is_open && self.words.peek() != ">";
-            if is_lifetime(name) {
-                if is_given && is_lifetime(self.words.peek()) {
-                    self.words.step();
-                    self.words.take(",");
-                }
-            } else if is_given {
-                let given = if is_among(name, &it.lengths) {
-                    self.given_length()
-                } else {
-                    self.argument(depth)
-                };
-                if self.words.peek() != ">" {
-                    self.words.owe(",");
-                }
-                self.words.push(&mut bound, Bound { name, given });
+    /// What words are that stand for a parameter: those of the parameter that they are, if they are one.
+    fn given_by(&self, name: &'a str, is_length: bool, words: &'a [Token]) -> Given<'a> {
+        let mut own = NOWHERE;
+        for token in words {
+            let word = plain_name(token.text.as_str());
+            let of_type = self.given(word, false);
+            if let Some(it) = if is_length {
+                self.given(word, true)
             } else {
-                self.refuse(name, LEFT_OUT);
+                of_type
+            }
+                && words.len() == 1
+            {
+                return Given {
+                    name,
+                    is_length,
+                    ..it
+                };
+            }
+            if word == "Self" || of_type.is_some() || self.given(word, true).is_some() {
+                own = self.own;
             }
         }
-        self.words.take(",");
-        self.words.owe(">");
-        bound
+        Given {
+            name,
+            is_length,
+            words,
+            here: self.here,
+            own,
+        }
     }
 
-    /// What stands for a parameter that is a length, or another value, which no length can be.
-    fn given_length(&mut self) -> Given<'a> {
-        let ends: &[&str] = &[">", ","];
-        let (words, rest) = up_to(self.words.rest, ends);
-        let is_other = match group(words) {
-            Some((inside, _)) => is_no_length(inside),
-            None => is_no_length(words),
-        };
-        if is_other {
-            self.words.rest = rest;
-            return Given::Value;
-        }
-        Given::Length(self.length(ends))
-    }
-
-    /// What stands for a parameter that is a type. A name that stands for none is wrong only if the parameter is sent.
-    #[cycle(types)]
-    fn argument(&mut self, depth: u32) -> Given<'a> {
-        let word = self.words.peek();
-        if is_among(word, UNSENT) {
-            let (_, rest) = type_up_to(self.words.rest, &[",", ">"]);
-            self.words.rest = rest;
-            return Given::Wrong(word, CANNOT_BE_SENT);
-        }
-        let at = path_at(self.words.rest);
-        let is_alone = !at.last.is_empty() && is_among(first_word(at.rest), &[",", ">"]);
-        let given = if is_alone { self.unsent(&at) } else { None };
-        match given {
-            Some(given) => {
-                self.words.rest = at.rest;
-                given
+    /// Takes what is in angle brackets for the parameters of a type.
+    fn arguments_of(&mut self, it: &Declaration<'a>) -> Vec<Given<'a>> {
+        let mut given = Vec::new(self.alloc);
+        let all = self.arguments();
+        let mut count: usize = 0;
+        for name in &it.parameters {
+            if is_lifetime(name) {
+                continue;
             }
-            None => Given::Type(self.place(depth)),
+            match all.get(count) {
+                Some(words) => {
+                    let it = self.given_by(name, is_among(name, &it.lengths), words);
+                    self.words.push(&mut given, it);
+                }
+                None => {
+                    self.refuse(name, LEFT_OUT);
+                }
+            }
+            count = count.saturating_add(1);
         }
+        self.refuse_more(&all, count);
+        given
     }
 
-    /// A name that stands for no type that is known, and why.
-    fn unsent(&self, at: &PathAt<'a>) -> Option<Given<'a>> {
-        let is_path = !at.path.is_empty();
-        if !is_path && at.last == "Self" {
-            return None;
+    /// Refuses arguments after so many.
+    fn refuse_more(&mut self, all: &[&'a [Token]], count: usize) {
+        if let Some(words) = all.get(count) {
+            self.refuse(first_word(words), MORE);
         }
-        if !is_path && let Some(given) = self.given(at.last) {
-            return match given {
-                Given::Wrong(..) => Some(given),
-                _ => None,
-            };
-        }
-        let why = match self.found(at) {
-            Found::Wrong(why) => why,
-            Found::Two => TWO,
-            Found::Outside | Found::Not if is_path => UNDECLARED,
-            _ => return None,
-        };
-        Some(Given::Wrong(at.last, why))
     }
 
     /// The place of a declared type, with what is in angle brackets after it.
-    #[cycle(types)]
     fn instance(&mut self, index: usize, depth: u32) -> usize {
         let declared = self.declared;
         let Some(it) = declared.all.get(index) else {
             return NOWHERE;
         };
-        if !has_type_parameters(it) {
-            self.lifetimes();
-            return self.owe_type(index);
-        }
-        let of = self.arguments(it, depth);
+        let of = self.arguments_of(it);
         if self.words.is_wrong {
             return NOWHERE;
         }
-        for made in &self.instances {
-            if made.index == index && made.of.as_slice() == of.as_slice() {
-                return made.place;
-            }
-        }
-        if self.is_refused(index, it) {
-            self.words.is_wrong = true;
-            return NOWHERE;
-        }
-        self.made(index, it, of, depth)
-    }
-
-    /// The place of a type that is made of what stands for its parameters.
-    #[cycle(types)]
-    fn made(
-        &mut self,
-        index: usize,
-        it: &Declaration<'a>,
-        of: Vec<Bound<'a>>,
-        depth: u32,
-    ) -> usize {
-        let place = self.add_unmade();
-        let (scope, here, own) = (self.scope, self.here, self.index);
-        let (name, variant, field) = (self.words.name, self.words.variant, self.words.field);
-        self.scope = self.bound.len();
-        for bound in &of {
-            self.words.push(&mut self.bound, *bound);
-        }
-        self.words
-            .push(&mut self.instances, Made { index, of, place });
-        self.begin(index, it);
-        self.fill(it, place, depth);
-        self.bound.truncate(self.scope);
-        self.scope = scope;
-        self.turn_to(here);
-        self.index = own;
-        self.words.name = name;
-        self.words.variant = variant;
-        self.words.field = field;
-        place
+        let depth = if of.is_empty() { DEEPEST } else { depth };
+        self.owe_type(index, of, depth)
     }
 
     /// The place of a known type by its name.
     #[cycle(types)]
     fn known(&mut self, word: &'a str, depth: u32) -> usize {
-        if let Some(form) = form_of(word)
+        if let Some(row) = form_of(word)
             && (word != "String" || self.words.peek() == "<")
         {
-            return self.formed(form, depth);
+            return self.formed(row, depth);
         }
         match (word, plain_node(word)) {
             ("f32", _) => self.add(Node::LE(IntegerType::U32), Names::Float),

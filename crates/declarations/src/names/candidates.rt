@@ -21,8 +21,7 @@ pub enum Space {
 pub enum Step<'a> {
     /// One alone.
     Scope(usize),
-    /// The modules of a file, and those of all.
-    File(usize),
+    /// The modules of all files.
     All,
     /// The modules of this name.
     Module(&'a str),
@@ -80,7 +79,6 @@ pub fn is_within(scopes: &[Scope<'_>], step: Step<'_>, scope: usize) -> bool
     };
     match step {
         Step::Scope(own) => scope == own,
-        Step::File(file) => is_module(it) && it.file == file,
         Step::All => is_module(it),
         Step::Module(name) => is_module(it) && is_called(it.name, name),
         Step::Bodies => !is_module(it),

@@ -20,14 +20,6 @@ fn without_last<'f>(folder: &'f str, name: &str) -> Option<&'f str> {
     if last == name { Some(before) } else { None }
 }
 
-/// Whether a folder is in another one, or is it.
-fn is_below(folder: &str, other: &str) -> bool {
-    match folder.strip_prefix(other) {
-        Some(rest) => rest.is_empty() || other.is_empty() || rest.starts_with('/'),
-        None => false,
-    }
-}
-
 /// Whether a file of this name is the root of a crate.
 fn is_root(stem: &str) -> bool {
     matches!(stem, "lib" | "main")
@@ -104,8 +96,8 @@ impl<'a> Scopes<'a> {
         found
     }
 
-    /// The only module that has a file for one in it.
-    fn parent_among(&self, file: usize) -> Option<usize> {
+    /// The module that has a file, if one of these files has it and no other does.
+    fn parent_of(&self, file: usize) -> Option<usize> {
         let own = self.scope(file).name;
         let mut found = None;
         for it in &self.scopes {
@@ -117,22 +109,6 @@ impl<'a> Scopes<'a> {
             }
         }
         found
-    }
-
-    /// Notes the module that has each file.
-    pub(super) fn find_parents(&mut self) {
-        for file in 0..self.files.len() {
-            let parent = self.parent_among(file);
-            self.failed = self.parents.push(parent).is_err() || self.failed;
-        }
-    }
-
-    /// The module that has a file, if one of these files has it.
-    fn parent_of(&self, file: usize) -> Option<usize> {
-        match self.parents.get(file) {
-            Some(parent) => *parent,
-            None => None,
-        }
     }
 
     /// The module round another one, if these files have it.
@@ -153,21 +129,6 @@ impl<'a> Scopes<'a> {
         Some(at)
     }
 
-    /// Whether a scope is a module, or round it.
-    pub(super) fn is_round(&self, scope: usize, module: usize) -> bool {
-        let mut at = module;
-        for _ in 0..self.scopes.len() {
-            if at == scope {
-                return true;
-            }
-            match self.around_module(at) {
-                Some(outer) => at = outer,
-                None => return false,
-            }
-        }
-        false
-    }
-
     /// Whether a file is the root of a crate by its name.
     pub(super) fn is_root_file(&self, file: usize) -> bool {
         let (_, stem) = parts_of(self.name_of_file(file));
@@ -182,8 +143,7 @@ impl<'a> Scopes<'a> {
             || (self.files.len() == 1 && !is_in_src(folder))
     }
 
-    /// The root of a crate that a scope is in: the one whose modules lead to it, or else the only one above its folder. Words in no
-    /// file are taken as those of the only file.
+    /// The root of the crate whose modules lead to a scope. Words in no file are taken as those of the only file.
     pub(super) fn root_of(&self, scope: usize) -> Option<usize> {
         let mut own = self.scope(scope).file;
         if own >= self.files.len() {
@@ -198,25 +158,9 @@ impl<'a> Scopes<'a> {
             }
             match self.parent_of(own) {
                 Some(module) => own = self.scope(module).file,
-                None => break,
+                None => return None,
             }
         }
-        self.root_above(own)
-    }
-
-    /// The only root of a crate that is in the folder of a file or above it.
-    fn root_above(&self, file: usize) -> Option<usize> {
-        let (folder, _) = parts_of(self.name_of_file(file));
-        let mut found = None;
-        for (place, read) in self.files.iter().enumerate() {
-            let (other, stem) = parts_of(read.file.as_str());
-            if is_root(stem) && is_below(folder, other) {
-                if found.is_some() {
-                    return None;
-                }
-                found = Some(place);
-            }
-        }
-        found
+        None
     }
 }

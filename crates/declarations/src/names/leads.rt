@@ -75,8 +75,7 @@ impl<'a> Scopes<'a> {
         if !self.is_used(name) {
             return found;
         }
-        for place in &self.modules {
-            let it = self.scope(*place);
+        for (place, it) in self.scopes.iter().enumerate() {
             if it.outer != module || it.name != name {
                 continue;
             }
@@ -84,7 +83,7 @@ impl<'a> Scopes<'a> {
                 Kind::Module => {
                     found.are_some = true;
                     found.written = found.written.saturating_add(1);
-                    found.last = *place;
+                    found.last = place;
                 }
                 Kind::Outline | Kind::Misnamed => found.are_some = true,
                 Kind::Conditional => found.conditions = found.conditions.saturating_add(1),
@@ -96,14 +95,12 @@ impl<'a> Scopes<'a> {
 
     /// Whether a module of a step has one of this name in it, under each condition.
     fn is_child_in(&self, step: Step<'a>, name: &str) -> bool {
-        for place in &self.modules {
-            let it = self.scope(*place);
-            if it.name == name
-                && it.kind != Kind::Conditional
-                && self.is_in(it.outer, step)
-                && self.children(it.outer, name).conditions == 0
-            {
-                return true;
+        for place in 0..self.scopes.len() {
+            if self.is_in(place, step) {
+                let found = self.children(place, name);
+                if found.are_some && found.conditions == 0 {
+                    return true;
+                }
             }
         }
         false
@@ -116,9 +113,9 @@ impl<'a> Scopes<'a> {
 
     /// Whether a path may lead through a module whose file hasn't its name, which an attribute says.
     fn is_misnamed(&self, path: Path<'a>) -> bool {
-        self.misnamed.iter().any(|place| {
-            let name = self.scope(*place).name;
-            path.count > 3 || is_among(name, &[path.root, path.over, path.before])
+        self.scopes.iter().any(|it| {
+            it.kind == Kind::Misnamed
+                && (path.count > 3 || is_among(it.name, &[path.root, path.over, path.before]))
         })
     }
 
@@ -151,7 +148,7 @@ impl<'a> Scopes<'a> {
     }
 
     /// Whether the first name of a `use` is a module's own, or a crate's of these files.
-    fn begins_inside(&self, it: &Import<'a>) -> bool {
+    pub(super) fn begins_inside(&self, it: &Import<'a>) -> bool {
         let root = it.path.first(it.last);
         let is_own = !it.path.is_absolute && self.is_rooted(self.module_of(it.scope), root);
         is_own || self.has_crate(root)
@@ -161,32 +158,40 @@ impl<'a> Scopes<'a> {
     fn is_brought(&self, name: &str) -> bool {
         for it in &self.imports {
             let is_it = (it.is_glob && it.is_public) || it.name == name;
-            if is_it && (!it.is_inside || (!it.is_glob && it.last != name)) {
+            if is_it && (it.leads_out() || (!it.is_glob && it.last != name)) {
                 return true;
             }
         }
         false
     }
 
-    /// Notes of each `use` whether its first name is one of these files.
-    pub(super) fn find_insides(&mut self) {
-        for place in 0..self.imports.len() {
-            let is_inside = match self.imports.get(place) {
-                Some(it) => self.begins_inside(it),
-                None => false,
-            };
-            if let Some(it) = self.imports.get_mut(place) {
-                it.is_inside = is_inside;
+    /// Whether a `*` of a module, or of one round it, may bring in what isn't in these files.
+    fn is_open(&self, module: usize) -> bool {
+        let mut at = module;
+        for _ in 0..self.scopes.len() {
+            if self.has_star_out(at) {
+                return true;
+            }
+            match self.around_module(at) {
+                Some(outer) => at = outer,
+                None => return false,
             }
         }
+        false
+    }
+
+    /// Whether a scope has a `*` that leads out of these files.
+    fn has_star_out(&self, scope: usize) -> bool {
+        self.imports
+            .iter()
+            .any(|it| it.is_glob && it.scope == scope && it.leads_out())
     }
 
     /// Notes where each `use` leads.
     pub(super) fn find_leads(&mut self) {
         for place in 0..self.imports.len() {
             let lead = match self.imports.get(place) {
-                Some(it)
-                    if !it.path.is_absolute && self.is_of_body(it.scope, it.path.root, place) =>
+                Some(it) if !it.path.is_absolute && self.is_of_body(it.scope, it.path.root) =>
                     Lead::Doubtful,
                 Some(it) => self.lead(self.module_of(it.scope), it.path, it.last),
                 None => Lead::Outside,
@@ -197,30 +202,56 @@ impl<'a> Scopes<'a> {
         }
     }
 
-    /// Whether a module's crate calls itself by this name, and nothing else there may be called so.
-    fn is_own_crate(&self, module: usize, name: &str) -> bool {
-        let mut is_own = false;
-        if !self.is_used(name) {
-            return false;
-        }
-        for it in &self.imports {
-            if it.name == name && (it.scope == module || it.is_crate) {
-                is_own = it.is_crate && it.last == "self" && self.root_of(module) == Some(it.scope);
-                if !is_own {
-                    return false;
-                }
+    /// Notes where `*` lead, until there is nothing new.
+    pub(super) fn find_ways(&mut self) {
+        for _ in 0..self.scopes.len() {
+            let before = self.ways.len();
+            self.widen_ways();
+            if self.ways.len() == before {
+                break;
             }
         }
-        is_own && !self.is_rooted(module, name) && !(self.has_star(module) && self.has_module(name))
+    }
+
+    /// Notes of each `*` where it leads by itself and by those that are known.
+    fn widen_ways(&mut self) {
+        for index in 0..self.imports.len() {
+            let Some(it) = self.imports.get(index).copied() else {
+                break;
+            };
+            if it.is_glob
+                && let Lead::In(step) = it.lead
+            {
+                self.add_ways(it.scope, step);
+            }
+        }
+    }
+
+    /// Notes that a scope has a way to those of a step, and to where these have one.
+    fn add_ways(&mut self, from: usize, step: Step<'a>) {
+        for place in 0..self.scopes.len() {
+            if self.is_in(place, step) || self.is_led_to(step, place) {
+                let failed = self.ways.insert((from, place), ()).is_err();
+                self.failed = failed || self.failed;
+            }
+        }
+    }
+
+    /// Whether a `*` of one of a step's scopes leads to a scope, also by those of others.
+    pub(super) fn is_led_to(&self, step: Step<'a>, place: usize) -> bool {
+        if let Step::Scope(own) = step {
+            return self.ways.contains_key(&(own, place));
+        }
+        for from in 0..self.scopes.len() {
+            if self.is_in(from, step) && self.ways.contains_key(&(from, place)) {
+                return true;
+            }
+        }
+        false
     }
 
     /// Where a path of a module leads.
     pub(super) fn lead(&self, module: usize, path: Path<'a>, last: &'a str) -> Lead<'a> {
-        let path = if !path.is_absolute && self.is_own_crate(module, path.root) {
-            path.from_crate()
-        } else {
-            path
-        };
         let root = path.first(last);
         let lead = if path.is_absolute {
             self.crate_lead(root)
@@ -251,7 +282,7 @@ impl<'a> Scopes<'a> {
 
     /// Where a name leads that a `use` brings in, as the first of a path: inside only if its module is there.
     fn import_lead(&self, it: &Import<'a>) -> Lead<'a> {
-        if !it.is_inside {
+        if !self.begins_inside(it) {
             return self.crate_lead(it.path.first(it.last));
         }
         match self.place_lead(self.module_of(it.scope), it.path) {
@@ -303,23 +334,24 @@ impl<'a> Scopes<'a> {
 
     /// Where a path leads whose first name is one of these files.
     fn place_lead(&self, module: usize, path: Path<'a>) -> Lead<'a> {
-        if !matches!(path.before, "" | "self" | "crate" | "super") {
-            return self.named_lead(module, path);
-        }
-        match self.base_of(module, path) {
-            Some(scope) => Lead::In(Step::Scope(scope)),
-            None => Lead::Outside,
+        match self.start_of(module, path) {
+            Some((base, 0)) => Lead::In(Step::Scope(base)),
+            None if matches!(path.before, "" | "self" | "crate" | "super") => Lead::Outside,
+            _ => self.named_lead(module, path),
         }
     }
 
-    /// The module to which a path of no names but `crate`, `self` and `super` leads.
-    fn base_of(&self, module: usize, path: Path<'a>) -> Option<usize> {
-        match path.before {
-            "" | "self" => Some(module),
-            "crate" => self.root_of(module),
-            "super" => self.above(module, path.ups),
-            _ => None,
-        }
+    /// The module from which the names of a path go on after `crate`, `self` and each `super`, and how many they are.
+    fn start_of(&self, module: usize, path: Path<'a>) -> Option<(usize, usize)> {
+        let (base, before) = match path.root {
+            _ if path.is_absolute => return None,
+            "super" => (self.above(module, path.ups)?, path.ups),
+            _ if path.ups > 0 => return None,
+            "crate" => (self.root_of(module)?, 1),
+            "self" => (module, 1),
+            _ => (module, 0),
+        };
+        Some((base, path.count.saturating_sub(before)))
     }
 
     /// Where a path leads by the name of its last module: to its only child of that name, or to those
@@ -333,7 +365,7 @@ impl<'a> Scopes<'a> {
         let declared = match self.import_of(module, at) {
             Some(it) if is_first && !is_called(it.last, at) => return Lead::Wrong(RENAMED),
             Some(it) if is_first => self.child_lead(self.imported_from(it), it.last),
-            _ => self.child_lead(self.module_before(module, path), at),
+            _ => self.followed_lead(module, path),
         };
         if let Some(lead) = declared {
             return lead;
@@ -394,68 +426,72 @@ impl<'a> Scopes<'a> {
             .any(|it| it.name == name || (it.is_glob && it.is_public))
     }
 
-    /// The module that has the last one of a path in it, if no more than one other stands before that.
-    fn module_before(&self, module: usize, path: Path<'a>) -> Option<usize> {
-        if path.is_absolute {
-            return None;
-        }
-        let roots = path.roots()?;
-        let base = match path.root {
-            "crate" => self.root_of(module)?,
-            "super" => self.above(module, path.ups)?,
-            _ => module,
+    /// Where a path leads whose modules are declared; nothing if it isn't known which module has the last one in it, or if a `use`
+    /// may bring that in there from these files.
+    fn followed_lead(&self, module: usize, path: Path<'a>) -> Option<Lead<'a>> {
+        let (base, count) = self.start_of(module, path)?;
+        // a first name may be a crate's
+        let top = if path.root == path.top {
+            self.child_lead(Some(base), path.top)?
+        } else {
+            self.inner_lead(base, path.top)?
         };
-        match path.count.saturating_sub(roots) {
-            1 => Some(base),
-            2 if roots == 0 => self.first_module(module, path.root),
-            2 => self.child_of(base, path.over),
-            _ => None,
+        match top {
+            Lead::In(Step::Scope(outer)) if count == 2 => self.inner_lead(outer, path.before),
+            Lead::In(Step::Scope(outer)) if count > 2 => Some(self.deep_lead(outer, path)),
+            lead => Some(lead),
         }
     }
 
-    /// The module that the first name of a path is: the one that a `use` brings in, or else a module's own.
-    fn first_module(&self, module: usize, name: &'a str) -> Option<usize> {
-        match self.import_of(module, name) {
-            Some(it) => self.child_of(self.imported_from(it)?, it.last),
-            None => self.child_of(module, name),
+    /// Where the name of a module leads in another one; nothing if a `use` may bring that in there from these files.
+    fn inner_lead(&self, outer: usize, name: &str) -> Option<Lead<'a>> {
+        match self.child_lead(Some(outer), name) {
+            None if self.is_open(outer) => Some(Lead::Doubtful),
+            lead => lead,
         }
+    }
+
+    /// Where a longer path leads by its last two modules, if these are in the first one.
+    fn deep_lead(&self, outer: usize, path: Path<'a>) -> Lead<'a> {
+        let lead = self.last_lead(path);
+        if let Lead::In(Step::Scope(place)) = lead {
+            let mut at = place;
+            for _ in 0..self.scopes.len() {
+                match self.around_module(at) {
+                    Some(round) if round == outer => return lead,
+                    Some(round) => at = round,
+                    None => break,
+                }
+            }
+        }
+        Lead::Doubtful
     }
 
     /// The module from which a `use` brings another in, by a path of no names but `crate`, `self` and `super`.
     fn imported_from(&self, it: &Import<'a>) -> Option<usize> {
-        if it.is_crate || it.path.is_absolute {
-            return None;
-        }
-        self.base_of(self.module_of(it.scope), it.path)
-    }
-
-    /// The only module of a name that a module declares, and has under no condition: its words, or its file.
-    fn child_of(&self, module: usize, name: &str) -> Option<usize> {
-        let found = self.children(module, name);
-        match found.written {
-            _ if !found.are_some || found.conditions > 0 => None,
-            0 => self.file_in(module, name),
-            1 => Some(found.last),
+        match self.start_of(self.module_of(it.scope), it.path)? {
+            (base, 0) if !it.is_crate => Some(base),
             _ => None,
         }
     }
 
-    /// Where the name of a module leads that another one declares; nothing if it declares none.
+    /// Where the name of a module leads that another one declares, under no condition; nothing if it declares none.
     fn child_lead(&self, module: Option<usize>, name: &str) -> Option<Lead<'a>> {
         let module = module?;
         let found = self.children(module, name);
         if !found.are_some || found.conditions > 0 {
             return None;
         }
-        match self.child_of(module, name) {
-            Some(place) => Some(Lead::In(Step::Scope(place))),
-            None if found.written == 0 => Some(Lead::Outside),
-            None => Some(Lead::Doubtful),
-        }
+        Some(match (found.written, self.file_in(module, name)) {
+            (1, _) => Lead::In(Step::Scope(found.last)),
+            (0, Some(file)) => Lead::In(Step::Scope(file)),
+            (0, None) => Lead::Outside,
+            _ => Lead::Doubtful,
+        })
     }
 
-    /// Whether a body round a scope may have a module or a type of this name, or bring one in by another `use` than this one.
-    pub(super) fn is_of_body(&self, scope: usize, name: &str, own: usize) -> bool {
+    /// Whether a body round a scope may have a module or a type of this name, or bring one in.
+    pub(super) fn is_of_body(&self, scope: usize, name: &str) -> bool {
         if matches!(name, "crate" | "self" | "super") {
             return false;
         }
@@ -464,7 +500,7 @@ impl<'a> Scopes<'a> {
             if !self.is_inner(at) {
                 break;
             }
-            if self.is_rooted(at, name) || self.may_have(at, name, own) {
+            if self.is_rooted(at, name) || self.may_have(at, name) {
                 return true;
             }
             at = self.scope(at).outer;
@@ -472,42 +508,34 @@ impl<'a> Scopes<'a> {
         false
     }
 
-    /// Whether a scope has another `use` than this one that is of a name, or may be.
-    fn may_have(&self, scope: usize, name: &str, own: usize) -> bool {
-        self.imports.iter().enumerate().any(|(place, it)| {
-            place != own && it.scope == scope && (it.is_glob || it.name == name)
-        })
+    /// Whether a scope has a `use` that is of a name, or may be.
+    fn may_have(&self, scope: usize, name: &str) -> bool {
+        self.imports
+            .iter()
+            .any(|it| it.scope == scope && (it.is_glob || it.name == name))
     }
 
-    /// Whether a scope has a `use` of this name.
-    pub(super) fn brings(&self, scope: usize, name: &str) -> bool {
+    /// Whether a scope has a `use` of this name, perhaps under a condition.
+    pub(super) fn may_import(&self, scope: usize, name: &str) -> bool {
         self.imports
             .iter()
             .any(|it| it.scope == scope && it.name == name)
     }
 
-    /// Whether a step has a `use` of this name.
-    pub(super) fn is_imported(&self, step: Step<'a>, name: &str) -> bool {
-        for it in &self.imports {
-            if it.name == name && self.is_in(it.scope, step) {
-                return true;
-            }
-        }
-        false
+    /// Whether a scope has a `use` of this name, under no condition.
+    pub(super) fn brings(&self, scope: usize, name: &str) -> bool {
+        self.imports.iter().any(|it| it.scope == scope && it.name == name && !it.is_conditional)
     }
 
     /// Whether a first name leads out of the files: to the crate of that name, or to what a `use` brings in from one of these.
     pub fn is_foreign(&self, scope: usize, root: &'a str, crates: &[&str]) -> bool {
         let module = self.module_of(scope);
-        let mut path = Path::new();
-        path.go(root);
         let is_right = match self.import_of(module, root) {
             Some(it) => it.last == root && is_among(it.path.first(root), crates),
             None => true,
         };
-        let lead = self.lead(module, path, "");
         is_right
-            && !self.is_of_body(scope, root, usize::MAX)
-            && matches!(lead, Lead::Known | Lead::Outside)
+            && !self.is_of_body(scope, root)
+            && matches!(self.root_lead(module, root), Lead::Known | Lead::Outside)
     }
 }

@@ -8,6 +8,8 @@ pub struct Path<'a> {
     pub root: &'a str,
     pub before: &'a str,
     pub(super) over: &'a str,
+    /// The first after `crate`, `self` and each `super`.
+    pub(super) top: &'a str,
     pub(super) ups: usize,
     pub count: usize,
     /// Whether `::` precedes all of them.
@@ -21,6 +23,7 @@ impl<'a> Path<'a> {
             root: "",
             before: "",
             over: "",
+            top: "",
             ups: 0,
             count: 0,
             is_absolute: false,
@@ -41,25 +44,12 @@ impl<'a> Path<'a> {
         }
         if name == "super" {
             self.ups = self.ups.saturating_add(1);
+        } else if self.top.is_empty() && !matches!(name, "crate" | "self") {
+            self.top = name;
         }
         self.over = self.before;
         self.before = name;
         self.count = self.count.saturating_add(1);
-    }
-
-    /// The same path, if its first name is that of the crate that it is in.
-    pub(super) fn from_crate(self) -> Path<'a> {
-        let (before, over) = match self.count {
-            1 => ("crate", self.over),
-            2 => (self.before, "crate"),
-            _ => (self.before, self.over),
-        };
-        Path {
-            root: "crate",
-            before,
-            over,
-            ..self
-        }
     }
 
     /// The name that is brought in as this one: that of the module, if it is `self`.
@@ -68,16 +58,6 @@ impl<'a> Path<'a> {
             return self.before;
         }
         name
-    }
-
-    /// How many names are before those of modules: `crate`, `self`, or each `super`. Nothing if `super` follows another.
-    pub(super) fn roots(self) -> Option<usize> {
-        match self.root {
-            "super" => Some(self.ups),
-            _ if self.ups > 0 => None,
-            "crate" | "self" => Some(1),
-            _ => Some(0),
-        }
     }
 
     /// The first name, if this one follows.

@@ -17,15 +17,24 @@ fn alias_of(words: &[Token]) -> What<'_> {
 }
 
 impl<'a> Scopes<'a> {
-    /// Reads the items of all files. Macros are known wherever they are.
+    /// Reads the items of all files. The rules of macros are known wherever they are, and calls come last.
     pub(super) fn read_items(&mut self, items: &[items::Item<'a>]) {
         for item in items {
             if item.kind == ItemKind::Rules {
                 self.keep_rules(item);
             }
         }
+        for are_calls in [false, true] {
+            self.read_each(items, are_calls);
+        }
+    }
+
+    /// Reads each item that is a call, or isn't one.
+    fn read_each(&mut self, items: &[items::Item<'a>], are_calls: bool) {
         for item in items {
-            self.read_item(item);
+            if (item.kind == ItemKind::Call) == are_calls {
+                self.read_item(item);
+            }
         }
     }
 

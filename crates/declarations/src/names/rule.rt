@@ -10,56 +10,40 @@ use super::{Import, Item, Scopes, What};
 use crate::known::{is_everywhere, is_known, is_primitive, sent_as};
 use declaration_parser::faults::Faults;
 
-/// What is said of a name that is under a condition, if it may be another.
+// What is said after a name that isn't taken.
 const AT_TIMES: &str =
     "` stands under a condition, without which it is another: call it otherwise, or leave that one out";
 
-/// What is said of a name in a module that is under a condition, if its path may lead to a crate.
 pub(super) const BY_MODULE: &str =
     "` is in a module that stands under a condition: write `self::` or `crate::` before its path";
 
-/// What is said of a name that comes from elsewhere.
 pub(super) const BROUGHT_IN: &str =
     "` is brought in by a `use`: name the file of its declaration too, or write the type that is on the wire";
 
-/// What is said of a name that has another one where it is declared.
 pub(super) const RENAMED: &str =
     "` is another name that a `use` gives: write the name of the declaration, with its module before it";
 
-/// What is said of a name that may be that of another crate.
 const BY_STAR: &str =
-    "` may be what a `use` with `*` brings in: write its whole path, or name the file of its declaration too";
+    "` may be what a `use` with `*` or a macro brings in: write its whole path, or name the file of its declaration too";
 
-/// What is said of a name that a macro makes.
 const MADE: &str =
     "` is made by a macro, which isn't followed: write its declaration out, in a file of its own";
 
-/// What is said of a name that a macro is handed.
 const HANDED: &str =
     "` may be made by a macro that its module hands it to: write its path, or a `use` of it";
 
-/// What is said of a name that may be made by a macro of another crate.
-const BY_MACRO: &str =
-    "` may be made by a macro that its module calls: write its path, or a `use` of it";
-
-/// What is said of a name that the module before it doesn't have.
 const NOT_THERE: &str =
     "` isn't declared in the module that its path names: name the file of its declaration too";
 
-/// What is said of a `static`.
 const STATIC: &str = "` is a `static`, whose value isn't read: make it a `const`";
 
-/// What is said of flags of `bitflags!`.
 const BITS: &str =
     "` is made by `bitflags!`, and sent as its bits: write the integer behind its name";
 
-/// What is said of an alias with parameters.
 const GENERIC: &str = "` is an alias with parameters: write the type that it stands for";
 
-/// What is said of a name of a module.
 const OF_MODULE: &str = "` is a module here: write the type that is on the wire";
 
-/// What is said of a type that isn't marked.
 const UNMARKED: &str =
     "` isn't declared and marked here: write `// message` before its declaration, if its fields are what is sent";
 
@@ -90,12 +74,15 @@ enum Brought {
     Several,
 }
 
-/// Where each `*` of a module leads; one to a type's variants counts for constants alone.
-#[derive(Clone, Copy, Drop)]
-struct Stars {
-    is_inside: bool,
-    is_known: bool,
-    is_outside: bool,
+/// Whether a `*` may bring in another than was found. A known crate has no other of a known name.
+fn may_bring(it: &Import<'_>, found: &Found<'_>, name: &str, space: Space) -> bool {
+    match it.lead {
+        Lead::In(_) => false,
+        Lead::Type => space == Space::Constants,
+        Lead::Known if space == Space::Types => !matches!(found, Found::Known(_))
+            && (is_known(name) || sent_as(name).is_some()),
+        _ => true,
+    }
 }
 
 impl<'a> Scopes<'a> {
@@ -113,7 +100,10 @@ impl<'a> Scopes<'a> {
     fn is_at_times(&self, scope: usize, name: &str, is_conditional: bool) -> bool {
         is_conditional
             && self.has(name)
-            && (is_known(name) || self.is_inner(scope) || self.has_star(scope))
+            && (is_known(name)
+                || self.is_inner(scope)
+                || self.has_star(scope)
+                || self.is_handed(scope, name))
     }
 
     /// What an item is.
@@ -131,16 +121,15 @@ impl<'a> Scopes<'a> {
         }
     }
 
-    /// What a `use` brings into a step under a name. Of files, what they declare by that name says nothing.
-    fn brought(&self, step: Step<'a>, name: &'a str, space: Space) -> Brought {
+    /// What a `use` brings into a step under a name; of what these files declare by that name, only if it is asked for.
+    fn brought(&self, step: Step<'a>, name: &'a str, space: Space, with_own: bool) -> Brought {
         let mut brought = Brought::Nothing;
         if !self.is_used(name) {
             return brought;
         }
-        let is_wide = matches!(step, Step::File(_) | Step::All);
         for (index, it) in self.imports.iter().enumerate() {
             let is_it = !it.is_glob && it.name == name && self.is_in(it.scope, step);
-            if !is_it || (is_wide && self.is_own(it)) {
+            if !is_it || (!with_own && self.is_own(it)) {
                 continue;
             }
             brought = match brought {
@@ -174,27 +163,9 @@ impl<'a> Scopes<'a> {
         ensures last { IsNowhereIfNone (candidates_in self.now Step.All name.now space) result }
     {
         match self.own(scope, name, space) {
-            Found::Not => {
-                let found = self.around(scope, name, space);
-                if self.may_be_made(scope, &found, name) {
-                    return Found::Wrong(HANDED);
-                }
-                found
-            }
+            Found::Not => self.around(scope, name, space),
             found => found,
         }
-    }
-
-    /// Whether a macro that a scope or its module calls may make a name that was found elsewhere.
-    fn may_be_made(&self, scope: usize, found: &Found<'a>, name: &str) -> bool {
-        let is_elsewhere = match found {
-            Found::In(..) => true,
-            Found::Known(_) => !is_everywhere(name),
-            _ => false,
-        };
-        is_elsewhere
-            && (self.may_make(Step::Scope(scope), name)
-                || self.is_handed(Step::Scope(self.module_of(scope)), name))
     }
 
     /// What a name stands for that a scope doesn't have: what a body's surroundings have, or what is beyond its module.
@@ -207,15 +178,11 @@ impl<'a> Scopes<'a> {
             if !self.is_inner(at) {
                 break;
             }
-            let stars = self.stars_of(at, space);
-            if stars.is_outside || (self.has_star(at) && self.has(name)) {
+            if self.has_star(at) && (self.has(name) || !is_everywhere(name)) {
                 return Found::Wrong(BY_STAR);
             }
             at = self.scope(at).outer;
             match self.own(at, name, space) {
-                Found::Not if !is_everywhere(name) && self.may_make(Step::Scope(at), name) => {
-                    return Found::Wrong(HANDED);
-                }
                 Found::Not => {}
                 found => return found,
             }
@@ -230,10 +197,10 @@ impl<'a> Scopes<'a> {
             (candidates_in self.now (Step.Scope scope) name.now space) result }
     {
         let step = Step::Scope(scope);
-        let brought = self.brought(step, name, space);
+        let brought = self.brought(step, name, space, true);
         match self.only(step, name, space) {
             Only::Nothing => match brought {
-                Brought::Nothing => self.no_module(scope, name, space),
+                Brought::Nothing => self.not_own(scope, name, space),
                 Brought::Known => Found::Known(name),
                 Brought::One(index) => self.brought_in(index, name, space),
                 Brought::Several => Found::Two,
@@ -243,12 +210,15 @@ impl<'a> Scopes<'a> {
         }
     }
 
-    /// Refuses the name of a module as that of a type, which the language's own types alone may have.
-    fn no_module(&self, scope: usize, name: &str, space: Space) -> Found<'a>
+    /// Refuses a name that a macro may make, and as that of a type the name of a module, which the language's own types alone may have.
+    fn not_own(&self, scope: usize, name: &str, space: Space) -> Found<'a>
         ensures { IsStepAnswer [] result }
     {
         if space == Space::Types && !is_primitive(name) && self.children(scope, name).are_some {
             return Found::Wrong(OF_MODULE);
+        }
+        if !is_everywhere(name) && self.is_handed(scope, name) {
+            return Found::Wrong(HANDED);
         }
         Found::Not
     }
@@ -277,140 +247,78 @@ impl<'a> Scopes<'a> {
         ensures answer { IsStepAnswer (candidates_in self.now step.entry name.now space) result }
         ensures only { IsOnlyOfAStep self.now name.now space result }
     {
-        let brought = self.brought(step, name, space);
-        match self.only(step, name, space) {
-            Only::Nothing => self.absent(brought, name),
-            Only::One(item) if matches!(brought, Brought::Nothing) => self.declared(item, name),
+        let brought = self.brought(step, name, space, false);
+        match (self.only(step, name, space), brought) {
+            (Only::Nothing, Brought::Nothing) => Found::Not,
+            (Only::Nothing, Brought::Known) => Found::Known(name),
+            (Only::Nothing, _) => Found::Wrong(BROUGHT_IN),
+            (Only::One(item), Brought::Nothing) => self.declared(item, name),
             _ => Found::Two,
         }
     }
 
-    /// What a name is that a step doesn't declare, but a `use` may bring in there.
-    fn absent(&self, brought: Brought, name: &'a str) -> Found<'a>
-        ensures { IsStepAnswer [] result }
-    {
-        match brought {
-            Brought::Nothing => Found::Not,
-            Brought::Known => Found::Known(name),
-            Brought::One(index) => match self.imports.get(index) {
-                Some(it) if self.is_own(it) => Found::Not,
-                _ => Found::Wrong(BROUGHT_IN),
-            },
-            Brought::Several => Found::Wrong(BROUGHT_IN),
-        }
-    }
-
-    /// What a name stands for that neither a module nor a body in it declares or brings in.
+    /// What a name stands for that neither a module nor a body in it declares or brings in by name.
     fn beyond(&self, module: usize, name: &'a str, space: Space) -> Found<'a>
         ensures only { IsOnlyOfAStep self.now name.now space result }
         ensures last { IsNowhereIfNone (candidates_in self.now Step.All name.now space) result }
     {
-        let stars = self.stars_of(module, space);
-        let is_type = space == Space::Types;
-        if is_type && (is_everywhere(name) || (stars.is_known && is_known(name))) {
-            let is_any = stars.is_inside || stars.is_known || stars.is_outside;
-            return if is_any && self.has(name) {
+        if space == Space::Types && is_everywhere(name) {
+            return if self.has_star(module) && self.has(name) {
                 Found::Wrong(BY_STAR)
             } else {
                 Found::Known(name)
             };
         }
-        if stars.is_outside || (stars.is_known && !stars.is_inside) {
-            return Found::Wrong(BY_STAR);
-        }
-        let file = Step::File(self.scope(module).file);
-        let near = if stars.is_inside { Step::All } else { file };
-        let found = self.in_files(near, name, space);
-        match found {
-            Found::In(_, there)
-                if stars.is_inside && self.may_be_made_there(module, there, name, space) =>
-                Found::Wrong(BY_STAR),
-            Found::In(..) | Found::Known(_)
-                if stars.is_inside && self.may_pass(file, &found, name, space) => Found::Wrong(
-                BY_STAR,
-            ),
-            Found::In(..) if !stars.is_inside && self.is_by_macro(module) => Found::Wrong(BY_MACRO),
-            found => found,
-        }
+        self.passed_on(Step::Scope(module), name, space)
     }
 
-    /// Whether a macro may make the name that a `*` of a module brings in, in place of what was found: if no `*` leads there, or if
-    /// a module that doesn't have the name hands it to a macro.
-    fn may_be_made_there(&self, module: usize, there: usize, name: &str, space: Space) -> bool {
-        for it in &self.imports {
-            if it.is_glob
-                && it.scope == module
-                && let Lead::In(step) = it.lead
-                && self.is_in(there, step)
-            {
-                return self.is_handed_beside(step, there, name);
-            }
-        }
-        !self.is_reached(Step::Scope(module), there, name)
-            || self.is_handed_unknown(name, space)
-            || self.is_star_pasted(module, name)
-    }
-
-    /// Whether a `*` of a module leads to where a macro may make this name of others.
-    fn is_star_pasted(&self, module: usize, name: &str) -> bool {
-        for it in &self.imports {
-            if it.is_glob
-                && it.scope == module
-                && let Lead::In(step) = it.lead
-                && self.is_pasted(step, name)
-            {
-                return true;
-            }
-        }
-        false
-    }
-
-    /// What a name stands for by a step, or by all files, or if it is known.
-    fn in_files(&self, near: Step<'a>, name: &'a str, space: Space) -> Found<'a>
-        ensures only { IsOnlyOfAStep self.now name.now space result }
-        ensures near { IsAnsweredOrPassed
-            (candidates_in self.now near.entry name.now space) result }
-        ensures last { IsNowhereIfNone (candidates_in self.now Step.All name.now space) result }
-    {
-        match self.step(near, name, space) {
-            Found::Not => self.in_all(name, space),
-            found => found,
-        }
-    }
-
-    /// What a name stands for by all files, or if it is known.
-    fn in_all(&self, name: &'a str, space: Space) -> Found<'a>
+    /// What a step passes on under a name: the only candidate in all files or what is known, unless it may be another.
+    fn passed_on(&self, step: Step<'a>, name: &'a str, space: Space) -> Found<'a>
         ensures only { IsOnlyOfAStep self.now name.now space result }
         ensures answer { IsStepAnswer (candidates_in self.now Step.All name.now space) result }
     {
-        match self.step(Step::All, name, space) {
+        let found = match self.step(Step::All, name, space) {
             Found::Not if space == Space::Types && is_known(name) => Found::Known(name),
             found => found,
+        };
+        if self.may_differ(step, &found, name, space) {
+            return Found::Wrong(BY_STAR);
         }
+        found
     }
 
-    /// Whether a `*` in a step or round it, or one that passes on its names from elsewhere, may bring in another than was found.
-    fn may_pass(&self, step: Step<'a>, found: &Found<'a>, name: &str, space: Space) -> bool {
-        for it in &self.imports {
-            let is_near = it.is_glob
-                && (it.is_public || self.is_seen(it.scope, step) || self.is_passed(it, step));
-            if is_near && self.may_bring(it, found, name, space) {
+    /// Whether a name that a step passes on may be another than was found in all files: no `use` leads there, or what leads out of the
+    /// files or a macro may make the name on one of the ways.
+    fn may_differ(&self, step: Step<'a>, found: &Found<'a>, name: &str, space: Space) -> bool {
+        let there = match found {
+            Found::In(_, there) => *there,
+            Found::Known(_) | Found::Not => usize::MAX,
+            _ => return false,
+        };
+        let mut is_found = there == usize::MAX;
+        for place in 0..self.scopes.len() {
+            if place == there {
+                is_found = is_found || self.may_lead_to(step, place, name);
+            } else if self.may_lead_to(step, place, name)
+                && self.may_have_other(place, found, name, space)
+            {
                 return true;
             }
         }
-        false
+        !is_found
     }
 
-    /// Whether a `*` leads to the module into which another file's words are brought.
-    fn is_passed(&self, included: &Import<'a>, step: Step<'a>) -> bool {
-        if !included.is_included() {
-            return false;
+    /// Whether a step may pass on what a scope has under a name: it is one of the step's, or `use` leads there.
+    fn may_lead_to(&self, step: Step<'a>, place: usize, name: &str) -> bool {
+        let is_led = self.is_in(place, step) || self.is_led_to(step, place);
+        if is_led || !self.is_used(name) {
+            return is_led;
         }
         for it in &self.imports {
-            if it.is_glob
-                && (it.is_public || self.is_in(it.scope, step))
-                && let Lead::In(there) = it.lead
-                && self.is_in(included.scope, there)
+            if it.name == name
+                && !it.is_glob
+                && let Lead::In(next) = it.lead
+                && (self.is_in(place, next) || self.is_led_to(next, place))
             {
                 return true;
             }
@@ -418,63 +326,17 @@ impl<'a> Scopes<'a> {
         false
     }
 
-    /// Whether a scope is one of a step's, or round one of them.
-    fn is_seen(&self, scope: usize, step: Step<'a>) -> bool {
-        match step {
-            Step::Scope(own) => self.is_round(scope, own),
-            // the scope of a file is at its place
-            Step::File(file) => self.is_in(scope, step) || self.is_round(scope, file),
-            _ => {
-                for place in 0..self.scopes.len() {
-                    if self.is_in(place, step) && self.is_round(scope, place) {
-                        return true;
-                    }
-                }
-                false
-            }
+    /// Whether a scope may have another than was found, by a macro or by a `*` that leads out of the files.
+    fn may_have_other(&self, place: usize, found: &Found<'a>, name: &str, space: Space) -> bool {
+        if self.brings(place, name) {
+            return false;
         }
-    }
-
-    /// Whether a step has a `use` that may pass a name on.
-    fn passes_on(&self, step: Step<'a>, name: &str) -> bool {
         for it in &self.imports {
-            if (it.is_glob || it.name == name) && self.is_in(it.scope, step) {
+            if it.is_glob && it.scope == place && may_bring(it, found, name, space) {
                 return true;
             }
         }
-        false
-    }
-
-    /// Whether a `*` may bring in another than was found. A known crate has no other of a known name.
-    fn may_bring(&self, it: &Import<'a>, found: &Found<'a>, name: &str, space: Space) -> bool {
-        match it.lead {
-            Lead::In(_) => false,
-            Lead::Type => space == Space::Constants,
-            Lead::Known if matches!(found, Found::Known(_)) => false,
-            Lead::Known if space == Space::Types => is_known(name) || sent_as(name).is_some(),
-            Lead::Known => is_primitive(it.path.before),
-            _ => true,
-        }
-    }
-
-    /// Where each `*` of a scope leads.
-    fn stars_of(&self, scope: usize, space: Space) -> Stars {
-        let mut stars = Stars {
-            is_inside: false,
-            is_known: false,
-            is_outside: false,
-        };
-        for it in &self.imports {
-            if it.is_glob && it.scope == scope {
-                match it.lead {
-                    Lead::In(_) => stars.is_inside = true,
-                    Lead::Known => stars.is_known = true,
-                    Lead::Type if space != Space::Constants => {}
-                    _ => stars.is_outside = true,
-                }
-            }
-        }
-        stars
+        self.is_handed(place, name)
     }
 
     /// Whether a scope has a `*`.
@@ -495,7 +357,7 @@ impl<'a> Scopes<'a> {
         ensures only { IsOnlyOfAStep self.now name.now space result }
     {
         let module = self.module_of(scope);
-        if !path.is_absolute && self.is_of_body(scope, path.root, usize::MAX) {
+        if !path.is_absolute && self.is_of_body(scope, path.root) {
             return Found::Two;
         }
         match self.lead(module, path, name) {
@@ -507,52 +369,25 @@ impl<'a> Scopes<'a> {
         }
     }
 
-    /// What a step has under a name, or all files, if it only passes it on. A `*` in another of its modules may bring in another.
+    /// What a step has under a name, or all files, if it only passes it on.
     fn by_path(&self, step: Step<'a>, name: &'a str, space: Space) -> Found<'a>
         ensures only { IsOnlyOfAStep self.now name.now space result }
     {
         match self.step(step, name, space) {
-            Found::In(_, there)
-                if self.has_star_beside(step, there) || self.is_handed_beside(step, there, name) =>
-                Found::Two,
-            Found::Not if self.may_make(step, name) => Found::Wrong(HANDED),
-            Found::Not if !self.passes_on(step, name) => Found::Wrong(NOT_THERE),
-            Found::Not if self.may_pass(step, &Found::Not, name, space) => Found::Wrong(BY_STAR),
-            Found::Not => self.passed_on(step, name, space),
+            Found::In(_, there) if self.is_beside(step, there, name) => Found::Two,
+            Found::Not => match self.passed_on(step, name, space) {
+                Found::Not => Found::Wrong(NOT_THERE),
+                found => found,
+            },
             found => found,
         }
     }
 
-    /// What a step passes on under a name: the only candidate in all files, unless a macro may make the name in its place.
-    fn passed_on(&self, step: Step<'a>, name: &'a str, space: Space) -> Found<'a>
-        ensures only { IsOnlyOfAStep self.now name.now space result }
-    {
-        match self.step(Step::All, name, space) {
-            Found::In(_, there)
-                if !self.is_reached(step, there, name) || self.is_handed_unknown(name, space) =>
-                Found::Wrong(HANDED),
-            found => found,
-        }
-    }
-
-    /// Whether a `use` of a step may lead to a scope under a name, by one of these files or more.
-    fn is_reached(&self, step: Step<'a>, there: usize, name: &str) -> bool {
-        for it in &self.imports {
-            if (it.is_glob || it.name == name)
-                && self.is_in(it.scope, step)
-                && let Lead::In(next) = it.lead
-                && (self.is_in(there, next) || self.passes_on(next, name))
-            {
-                return true;
-            }
-        }
-        false
-    }
-
-    /// Whether another scope of a step has a `*`.
-    fn has_star_beside(&self, step: Step<'a>, scope: usize) -> bool {
-        for it in &self.imports {
-            if it.is_glob && it.scope != scope && self.is_in(it.scope, step) {
+    /// Whether a scope of a step may have a name by a `use`, or another one than this by a `*` or a macro.
+    fn is_beside(&self, step: Step<'a>, there: usize, name: &str) -> bool {
+        for place in 0..self.scopes.len() {
+            let is_other = place != there && (self.has_star(place) || self.is_handed(place, name));
+            if self.is_in(place, step) && (is_other || self.may_import(place, name)) {
                 return true;
             }
         }

@@ -31,14 +31,13 @@ impl<'a> Import<'a> {
             is_crate: false,
             is_public,
             is_conditional,
-            is_inside: false,
             lead: Lead::Outside,
         }
     }
 
-    /// Whether it stands for another file's words.
-    pub(super) fn is_included(&self) -> bool {
-        self.path.before == INCLUDE
+    /// Whether it may bring in modules that aren't in these files.
+    pub(super) fn leads_out(&self) -> bool {
+        !matches!(self.lead, Lead::In(_) | Lead::Type)
     }
 
     /// The last name of a path, by another one.
@@ -103,7 +102,10 @@ impl<'a> Scopes<'a> {
     pub(super) fn add_include(&mut self, import: Import<'a>) {
         let mut path = Path::new();
         path.go(INCLUDE);
-        self.put_import(import.named("", path, ""));
+        self.put_import(Import {
+            is_public: true,
+            ..import.named("", path, "")
+        });
     }
 
     /// Adds a crate by the words after `extern crate`, which may give it another name.

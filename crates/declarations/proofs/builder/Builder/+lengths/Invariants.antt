@@ -2,16 +2,19 @@ use Rattle.std.proofs.Common.{◌+◌, ◌*◌}
 use Rattle.declarations.proofs.builder.Builder.+lengths.Given as goal
 
 abbrev pub decreases-computed : goal.decreases-computed
-decreases-computed l = 8 * l.depth + (3 + l.levels)
+decreases-computed l = 16 * l.depth + (3 + l.levels)
 
 abbrev pub decreases-constant : goal.decreases-constant
-decreases-constant l = 8 * l.depth + 8
+decreases-constant l = 16 * l.depth + 9
 
 abbrev pub decreases-named_number : goal.decreases-named_number
-decreases-named_number l = 8 * l.depth + 9
+decreases-named_number l = 16 * l.depth + 10
 
 abbrev pub decreases-number : goal.decreases-number
-decreases-number l = 8 * l.depth + 2
+decreases-number l = 16 * l.depth + 2
+
+abbrev pub decreases-there_is : goal.decreases-there_is
+decreases-there_is l = 16 * l.depth + 8
 
 abbrev pub decreases-value_of : goal.decreases-value_of
-decreases-value_of l = 8 * l.depth + 7
+decreases-value_of l = 16 * l.depth + 7
