@@ -1,30 +1,30 @@
 /* Frames of bytes over a line that may break, and their codec, for C99 and later and C++. The library behind it is proved; this
  * header isn't.
  *
- * Words. A FRAME holds no zero, so that a zero ends it (COBS). Where another byte is to end frames, it is the SENTINEL: every byte
- * of a frame is XORed with it. A STRETCH is a longest run of bytes that aren't the sentinel. A message is COUNTED where its length
- * stands in front of it in the frame, as postcard (Rust) spells a byte string; else it is PLAIN: its bytes alone. It is SEALED where
- * a CRC-32 stands behind it.
+ * Terms. A FRAME holds no zero, so that a zero ends it (COBS). If another byte ends frames, it is the SENTINEL: every byte of a frame is
+ * XORed with it. A STRETCH is the bytes between two sentinels. A message is COUNTED if its length precedes it in the frame, as postcard
+ * (Rust) encodes a byte string; otherwise it is PLAIN: its bytes alone. It is SEALED if a CRC-32 follows it.
  *
- * What plain bytes don't promise. A frame says where a message ends, and no more: where a send breaks off, a front of its message may
- * itself be a frame. frames_send_plain("pay\0me") that breaks off behind five bytes is heard as `pay`, which nobody sent. So of a
- * plain send that broke off, nothing is heard, or that it is damaged, or a message that is a front of it. Counted messages, which are
- * the calls without `plain` in their name, don't have this: each that is heard was sent, whatever broke off. That is proved.
+ * Plain messages. If a plain send is interrupted, a prefix of its message may itself be a frame: frames_send_plain("pay\0me") that stops
+ * after five bytes is received as `pay`, which nobody sent. So of an interrupted plain send, the receiver reports nothing, or damage, or a
+ * prefix of its message. Each counted message that is received was sent, whatever was interrupted; that is proved. Counted messages are the
+ * calls without `plain` in their names.
  *
- * What no frame promises. A byte that was changed on the line may make the frame of another message, counted or not. Where that may
- * not be, seal each message: frames_seal before it is sent, frames_unseal of what is heard.
+ * Changed bytes. A byte that changed on the line may make the frame of another message, counted or not. Against that seal each message:
+ * frames_seal before it is sent, frames_unseal of what is received.
  *
  * Targets: x86-64 and aarch64. A 32-bit microcontroller can't link the library; frames_small.h is for one.
  *
- * No call allocates, keeps a pointer, prints, waits, or stops the process. None has state of its own: what has to be remembered
- * stands in a struct of yours. Calls on different structs and buffers may run at the same time.
+ * No call allocates, keeps a pointer, prints, waits, or stops the process. None has state of its own: what has to be remembered is in a
+ * struct of yours. Calls on different structs and buffers may run at the same time.
  *
- * What you owe, and nothing can check:
- * - a pointer that isn't null points to as many bytes as its length says, which may be read, and written where it isn't to const;
+ * What the caller must keep to, and nothing can check:
+ * - a pointer that isn't null points to as many bytes as its length says, which may be read, and written if it isn't to const;
  * - what is written overlaps nothing else that the call is handed;
  * - a length is below 2^63;
- * - a receiver is handed the same buffer at each call, and you leave its front alone between two calls.
- * A null pointer is allowed where its length is 0; where it isn't, the call answers FRAMES_NULL, or FRAMES_MISUSED. */
+ * - a receiver is handed the same buffer at each call, and its start isn't changed between two calls.
+ * A null pointer is allowed if its length is 0; otherwise the call returns FRAMES_NULL, or FRAMES_MISUSED. So it does if the length of what
+ * it reads is -1, as of a read that failed; encoding returns FRAMES_NO_ROOM then. */
 #ifndef FRAMES_H
 #define FRAMES_H
 
@@ -44,49 +44,49 @@ extern "C" {
 #endif
 #endif
 
-/* What a call answers. */
+/* The status of a call. */
 enum frames_status {
     FRAMES_OK = 0,
     FRAMES_NO_ROOM = 1, /* what is to be written doesn't fit */
     FRAMES_INVALID = 2, /* the bytes are no frame, or no sealed message */
     FRAMES_EMPTY = 3,   /* no byte but zeros */
-    FRAMES_NULL = 255   /* a pointer is null, and its length isn't 0 */
+    FRAMES_NULL = 255   /* a pointer is null, and its length isn't 0; or the length is that of a read that failed (-1) */
 };
 
 /* What a push found. */
 enum frames_kind {
     FRAMES_MORE = 0,     /* nothing yet: all bytes were used */
     FRAMES_MESSAGE = 1,  /* a message, in the buffer until the next push */
-    FRAMES_DAMAGED = 2,  /* a stretch that is no frame, or whose message isn't counted where it should be */
+    FRAMES_DAMAGED = 2,  /* a stretch that is no frame, or whose message isn't counted but should be */
     FRAMES_TOO_LONG = 3, /* a stretch with more bytes than the buffer has */
     FRAMES_MISUSED = 4   /* more bytes are begun than the buffer has, a pointer is null, or the length is that of a read that failed (-1):
                             nothing changed */
 };
 
-/* What was written: how many bytes, 0 where it was refused. */
+/* What was written: how many bytes; 0 if it was refused. With FRAMES_INVALID of decoding, how many bytes of a message precede the error. */
 struct frames_written {
     size_t length;
     uint8_t status;
 };
 
-/* What was read: how many bytes of the source were used, and how long the message is. Where the bytes are no frame, how many
- * bytes of a message they decide. */
+/* What was read: how many bytes of the source were used, and how long the message is, or with FRAMES_INVALID how many bytes of it precede
+ * the error. */
 struct frames_read {
     size_t used;
     size_t length;
     uint8_t status;
 };
 
-/* What a receiver keeps between two calls. The stretch that is begun stands in front of your buffer. `{0}` is a new receiver for
- * the sentinel zero. */
+/* What a receiver keeps between two calls. What has come of a stretch is at the start of your buffer. `{0}` is a new receiver for the
+ * sentinel zero. */
 struct frames_receiver {
     size_t count;
     uint8_t past;
     uint8_t sentinel;
 };
 
-/* What a push answers: how many bytes were used; how long the answered stretch is; where in the buffer the message begins, and how
- * long it is; what was found. */
+/* The result of a push: how many bytes were used; how long the stretch is; where in the buffer the message begins, and how long it is;
+ * what was found. */
 struct frames_event {
     size_t used;
     size_t stretch;
@@ -101,7 +101,7 @@ struct frames_sender {
     uint8_t sentinel;
 };
 
-/* ---- The functions of the library. No pointer may be null here, also where its length is 0: call those below in their place. ---- */
+/* ---- The functions of the library. No pointer may be null here, also if its length is 0: call those below in their place. ---- */
 
 size_t frames_c_most_encoded_length(size_t length);
 size_t frames_c_encoded_length(const uint8_t *source, size_t length);
@@ -138,7 +138,7 @@ struct frames_written frames_c_unseal(const uint8_t *message, size_t length);
 /* Whether a buffer may be handed on. */
 static inline bool frames_is_there(const void *bytes, size_t length) { return bytes || length == 0; }
 
-/* Whether bytes may be pushed: not where a read failed, and its -1 was handed on as their length. */
+/* Whether bytes may be read: not if a read failed, and its -1 was handed on as their length. */
 static inline bool frames_is_read(const void *bytes, size_t length) { return frames_is_there(bytes, length) && length <= SIZE_MAX / 2; }
 
 /* A pointer that isn't null, in place of one to nothing. */
@@ -151,17 +151,17 @@ static inline uint8_t *frames_to(uint8_t *bytes) {
     return bytes ? bytes : &nothing;
 }
 
-/* The most bytes that the frame of a message of so many bytes has; 0 where no message is so long. The longest send of a plain message
- * has two more, that of a counted one up to fourteen (of up to 127 bytes, three). */
+/* The most bytes that the frame of a message of so many bytes has; 0 if no message is so long. The longest send of a plain message has
+ * two more, that of a counted one up to fourteen (of up to 127 bytes, three). */
 static inline size_t frames_most_encoded_length(size_t length) { return frames_c_most_encoded_length(length); }
 
-/* How many bytes the frame of a message has: what encoding needs, and no more. 0 where the pointer is null. */
+/* How many bytes the frame of a message has: what encoding needs, and no more. 0 if the pointer is null. */
 static inline size_t frames_encoded_length(const uint8_t *source, size_t length) {
-    return frames_is_there(source, length) ? frames_c_encoded_length(frames_from(source), length) : 0;
+    return frames_is_read(source, length) ? frames_c_encoded_length(frames_from(source), length) : 0;
 }
 
-/* Writes the shortest frame of a message, which any decoder of COBS takes. FRAMES_NO_ROOM exactly where it doesn't fit: dest stays
- * as it was then. No zero is written behind it. */
+/* Writes the shortest frame of a message, which any decoder of COBS takes, without a zero after it. FRAMES_NO_ROOM exactly if it doesn't
+ * fit; dest is unchanged then. */
 static inline struct frames_written frames_encode(const uint8_t *source, size_t length, uint8_t *dest, size_t room) {
     if (!frames_is_there(source, length) || !frames_is_there(dest, room)) {
         struct frames_written null = {0, FRAMES_NULL};
@@ -180,31 +180,31 @@ static inline struct frames_written frames_encode_with_sentinel(const uint8_t *s
     return frames_c_encode_with_sentinel(frames_from(source), length, frames_to(dest), room, sentinel);
 }
 
-/* Decodes the first frame of a source, behind any zeros, up to the next zero or to the end. used counts the zeros in front, the
- * frame, and its zero where there is one. FRAMES_EMPTY, FRAMES_INVALID, or FRAMES_NO_ROOM. */
+/* Decodes the first frame of a source, after any zeros, up to the next zero or to the end. used counts the leading zeros, the frame, and
+ * its zero if there is one. FRAMES_EMPTY, FRAMES_INVALID, or FRAMES_NO_ROOM. */
 static inline struct frames_read frames_decode(const uint8_t *source, size_t length, uint8_t *dest, size_t room) {
-    if (!frames_is_there(source, length) || !frames_is_there(dest, room)) {
+    if (!frames_is_read(source, length) || !frames_is_there(dest, room)) {
         struct frames_read null = {0, 0, FRAMES_NULL};
         return null;
     }
     return frames_c_decode(frames_from(source), length, frames_to(dest), room);
 }
 
-/* Decodes the bytes before the first sentinel, or all where there is none: none of them decode to a message of none.
+/* Decodes the bytes before the first sentinel, or all if there is none. If there are no bytes before it, the message has none.
  * FRAMES_INVALID, or FRAMES_NO_ROOM. */
 static inline struct frames_written frames_decode_with_sentinel(const uint8_t *source, size_t length, uint8_t *dest, size_t room,
                                                                 uint8_t sentinel) {
-    if (!frames_is_there(source, length) || !frames_is_there(dest, room)) {
+    if (!frames_is_read(source, length) || !frames_is_there(dest, room)) {
         struct frames_written null = {0, FRAMES_NULL};
         return null;
     }
     return frames_c_decode_with_sentinel(frames_from(source), length, frames_to(dest), room, sentinel);
 }
 
-/* Decodes the bytes before the first sentinel, or all where there is none, over themselves: the message is in front then. The
- * sentinel and what stands behind it stay as they were; used doesn't count it. FRAMES_INVALID. */
+/* Decodes the bytes before the first sentinel, or all if there is none, within one buffer: the message is at its start then. The sentinel
+ * and what follows are unchanged; used doesn't count the sentinel. FRAMES_INVALID. */
 static inline struct frames_read frames_decode_in_place(uint8_t *buffer, size_t length, uint8_t sentinel) {
-    if (!frames_is_there(buffer, length)) {
+    if (!frames_is_read(buffer, length)) {
         struct frames_read null = {0, 0, FRAMES_NULL};
         return null;
     }
@@ -214,10 +214,10 @@ static inline struct frames_read frames_decode_in_place(uint8_t *buffer, size_t 
 /* A receiver between stretches. Its buffer is yours, the same at each call, and a stretch may have as many bytes as it has. */
 static inline struct frames_receiver frames_receiver(uint8_t sentinel) { return frames_c_receiver(sentinel); }
 
-/* Takes bytes up to the first event, which is what the stretch is as a whole, however it was cut into pieces; push the rest again.
- * FRAMES_MORE where there is none: all were used then. A message is the event.length bytes of the buffer from event.start on, until
- * the next push over it. FRAMES_TOO_LONG comes at the byte past the buffer's length, once a stretch. Messages are counted: what is
- * none is FRAMES_DAMAGED, and bytes behind the counted ones are ignored. */
+/* Takes bytes up to the first event, which doesn't depend on the chunks that the stretch came in. Push the rest again. FRAMES_MORE if there
+ * is no event: all bytes were used then. A message is the event.length bytes of the buffer from event.start on, until the next push.
+ * FRAMES_TOO_LONG comes at the byte past the buffer's length, once a stretch. A message that isn't counted is FRAMES_DAMAGED; bytes after
+ * the counted ones are ignored. */
 static inline struct frames_event frames_push(struct frames_receiver *receiver, uint8_t *buffer, size_t room, const uint8_t *bytes,
                                               size_t length) {
     if (!receiver || !frames_is_there(buffer, room) || !frames_is_read(bytes, length)) {
@@ -227,7 +227,7 @@ static inline struct frames_event frames_push(struct frames_receiver *receiver, 
     return frames_c_push(receiver, frames_to(buffer), room, frames_from(bytes), length);
 }
 
-/* The same of plain messages, which stand in front of the buffer: event.start is 0. */
+/* The same for plain messages, which are at the buffer's start: event.start is 0. */
 static inline struct frames_event frames_push_plain(struct frames_receiver *receiver, uint8_t *buffer, size_t room,
                                                     const uint8_t *bytes, size_t length) {
     if (!receiver || !frames_is_there(buffer, room) || !frames_is_read(bytes, length)) {
@@ -237,8 +237,7 @@ static inline struct frames_event frames_push_plain(struct frames_receiver *rece
     return frames_c_push_plain(receiver, frames_to(buffer), room, frames_from(bytes), length);
 }
 
-/* One byte, as a push of it alone: for an interrupt handler. Answers what was found, and tells the event where that isn't
- * FRAMES_MORE; the event stays as it was then. */
+/* A push of one byte, for an interrupt handler. Returns what was found, and writes the event unless that is FRAMES_MORE. */
 static inline uint8_t frames_push_byte(struct frames_receiver *receiver, uint8_t *buffer, size_t room, uint8_t byte,
                                        struct frames_event *event) {
     if (!receiver || !event || !frames_is_there(buffer, room)) {
@@ -247,7 +246,7 @@ static inline uint8_t frames_push_byte(struct frames_receiver *receiver, uint8_t
     return frames_c_push_byte(receiver, frames_to(buffer), room, byte, event);
 }
 
-/* The same of plain messages. */
+/* The same for plain messages. */
 static inline uint8_t frames_push_byte_plain(struct frames_receiver *receiver, uint8_t *buffer, size_t room, uint8_t byte,
                                              struct frames_event *event) {
     if (!receiver || !event || !frames_is_there(buffer, room)) {
@@ -256,11 +255,11 @@ static inline uint8_t frames_push_byte_plain(struct frames_receiver *receiver, u
     return frames_c_push_byte_plain(receiver, frames_to(buffer), room, byte, event);
 }
 
-/* Ends the stream, and begins a new one. Whether a stretch was begun and not answered: it is cut off. The receiver is as new then, over
- * any buffer: also one that was misused. */
+/* Ends the stream, and begins a new one. Returns whether it ended inside a stretch that wasn't reported yet. The receiver is as new then,
+ * over any buffer, also if it was misused. */
 static inline bool frames_finish(struct frames_receiver *receiver) { return receiver && frames_c_finish(receiver); }
 
-/* How many bytes the stretch has so far that is begun: 0 where none is, and behind FRAMES_TOO_LONG. */
+/* How many bytes have come since the last sentinel; 0 after FRAMES_TOO_LONG. */
 static inline size_t frames_begun(const struct frames_receiver *receiver) {
     return receiver ? frames_c_begun(receiver) : 0;
 }
@@ -268,23 +267,22 @@ static inline size_t frames_begun(const struct frames_receiver *receiver) {
 /* A sender that hasn't written anything, and so begins with a sentinel, which ends what others may have left on the line. */
 static inline struct frames_sender frames_sender(uint8_t sentinel) { return frames_c_sender(sentinel); }
 
-/* Writes the bytes of one send of a counted message into dest: a sentinel where the last send didn't go out whole, the frame, a
- * sentinel. Write these to the line, and call frames_sent once all of them went out; where a write fails or takes too little, call
- * nothing: the next send then begins with a sentinel. FRAMES_NO_ROOM exactly where they don't fit: sender and dest stay as they were
- * then, and the next send writes what it would have written without this one. */
+/* Writes the bytes of one send of a counted message to dest: a sentinel if the last send didn't go out whole, the frame, a sentinel. Write
+ * these to the line, and call frames_sent once all of them went out. If a write fails or takes too little, call nothing: the next send
+ * then begins with a sentinel. FRAMES_NO_ROOM exactly if they don't fit; sender and dest are unchanged then. */
 static inline struct frames_written frames_send(struct frames_sender *sender, const uint8_t *message, size_t length, uint8_t *dest,
                                                 size_t room) {
-    if (!sender || !frames_is_there(message, length) || !frames_is_there(dest, room)) {
+    if (!sender || !frames_is_read(message, length) || !frames_is_there(dest, room)) {
         struct frames_written null = {0, FRAMES_NULL};
         return null;
     }
     return frames_c_send(sender, frames_from(message), length, frames_to(dest), room);
 }
 
-/* The same of a plain message. */
+/* The same for a plain message. */
 static inline struct frames_written frames_send_plain(struct frames_sender *sender, const uint8_t *message, size_t length,
                                                       uint8_t *dest, size_t room) {
-    if (!sender || !frames_is_there(message, length) || !frames_is_there(dest, room)) {
+    if (!sender || !frames_is_read(message, length) || !frames_is_there(dest, room)) {
         struct frames_written null = {0, FRAMES_NULL};
         return null;
     }
@@ -298,13 +296,13 @@ static inline void frames_sent(struct frames_sender *sender) {
     }
 }
 
-/* The CRC-32 of bytes, as Ethernet, gzip and PNG have it; 0 where the pointer is null. */
+/* The CRC-32 of bytes, as in Ethernet, gzip and PNG; 0 if the pointer is null. */
 static inline uint32_t frames_crc32(const uint8_t *bytes, size_t length) {
-    return frames_is_there(bytes, length) ? frames_c_crc32(frames_from(bytes), length) : 0;
+    return frames_is_read(bytes, length) ? frames_c_crc32(frames_from(bytes), length) : 0;
 }
 
-/* Puts the sum of the first length bytes of a buffer behind them, as four bytes, and answers how many are to be sent. FRAMES_NO_ROOM
- * exactly where they don't fit: the buffer stays as it was then. */
+/* Writes the CRC-32 of the first length bytes of a buffer after them, as four bytes, the lowest first. Returns how many are to be sent.
+ * FRAMES_NO_ROOM exactly if they don't fit; the buffer is unchanged then. */
 static inline struct frames_written frames_seal(uint8_t *buffer, size_t room, size_t length) {
     if (!frames_is_there(buffer, room)) {
         struct frames_written null = {0, FRAMES_NULL};
@@ -313,9 +311,9 @@ static inline struct frames_written frames_seal(uint8_t *buffer, size_t room, si
     return frames_c_seal(frames_to(buffer), room, length);
 }
 
-/* How many bytes of a message stand before its sum. FRAMES_INVALID exactly where its last four bytes aren't that. */
+/* How many bytes of a message precede its CRC-32. FRAMES_INVALID exactly if its last four bytes aren't that. */
 static inline struct frames_written frames_unseal(const uint8_t *message, size_t length) {
-    if (!frames_is_there(message, length)) {
+    if (!frames_is_read(message, length)) {
         struct frames_written null = {0, FRAMES_NULL};
         return null;
     }

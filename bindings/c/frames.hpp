@@ -42,20 +42,21 @@ struct message {
     bytes content; // in the receiver's buffer, until the next push
 };
 struct damaged {
-    std::size_t stretch; // so many bytes that are no frame, or whose message isn't counted where it should be
+    std::size_t stretch; // so many bytes that are no frame, or whose message isn't counted but should be
 };
 struct too_long {}; // more bytes than the limit
 using event = std::variant<message, damaged, too_long>;
 
 enum class kind { counted, plain };
 
-// Receives the messages of a stream that comes in pieces, with at most `limit` bytes between two sentinels. Moving it keeps what is
+// Receives the messages of a stream that comes in chunks, with at most `limit` bytes between two sentinels. Moving it keeps what is
 // begun, and leaves a receiver with a limit of 0. Two receivers of one line would be a mistake, so it isn't copied.
 class receiver {
+    struct rest;
     struct frames_receiver state_;
     std::vector<std::uint8_t> buffer_;
     kind kind_;
-    bool pushing_ = false;
+    rest *pushing_ = nullptr; // the push that is going on
 
     // Takes bytes from `at` on, up to the first event.
     struct frames_event step(bytes piece, std::size_t &at) {
@@ -68,15 +69,28 @@ class receiver {
     // What of a piece isn't taken yet: it is at the end, also if `hear` throws. Else the next push could begin inside a frame, and the end of
     // one be received as a message that nobody sent.
     struct rest {
-        receiver &of;
+        receiver *of; // the one that it was moved to, if `hear` moves it; null if `hear` destroyed it
         bytes piece;
-        std::size_t at;
+        std::size_t at = 0;
+        rest(receiver &r, bytes p) : of(&r), piece(p) { r.pushing_ = this; }
+        rest(const rest &) = delete;
+        rest &operator=(const rest &) = delete;
         ~rest() {
-            while (at < piece.size() && brought(of.step(piece, at))) {
+            while (of && at < piece.size() && brought(of->step(piece, at))) {
             }
-            of.pushing_ = false;
+            if (of)
+                of->pushing_ = nullptr;
         }
     };
+    // Takes over the push of a receiver that is moved to this one.
+    void take_push(receiver &other) {
+        if (!other.pushing_)
+            return;
+        if (pushing_)
+            pushing_->of = nullptr;
+        pushing_ = std::exchange(other.pushing_, nullptr);
+        pushing_->of = this;
+    }
 
   public:
     explicit receiver(std::size_t limit, kind k = kind::counted, std::uint8_t sentinel = 0)
@@ -86,6 +100,11 @@ class receiver {
     receiver(receiver &&other) noexcept
         : state_(std::exchange(other.state_, frames_receiver(other.state_.sentinel))), buffer_(std::move(other.buffer_)), kind_(other.kind_) {
         other.buffer_.clear();
+        take_push(other);
+    }
+    ~receiver() {
+        if (pushing_)
+            pushing_->of = nullptr;
     }
     receiver &operator=(receiver &&other) noexcept {
         if (this != &other) {
@@ -93,26 +112,28 @@ class receiver {
             buffer_ = std::move(other.buffer_);
             other.buffer_.clear();
             kind_ = other.kind_;
+            take_push(other);
         }
         return *this;
     }
 
-    // Calls `hear` with each event of the piece, in order, and returns true. If `hear` throws, the events of the rest of the piece are
-    // dropped. Inside `hear` a push to the same receiver takes nothing and returns false: its bytes would come before the rest of the piece.
+    // Calls `hear` with each event of a chunk, in order, and returns true. If `hear` throws, the events of the rest of the chunk are dropped.
+    // Inside `hear` a push to the same receiver takes nothing and returns false: its bytes would come before the rest of the chunk. If `hear`
+    // moves the receiver, the new one takes the rest; if it destroys it, the rest is dropped and false returned.
     template <class Hear> bool push(bytes piece, Hear &&hear) {
         if (pushing_)
             return false;
-        pushing_ = true;
-        rest left{*this, piece, 0};
-        for (;;) {
-            const struct frames_event e = step(piece, left.at);
+        rest left(*this, piece);
+        while (receiver *const it = left.of) {
+            const struct frames_event e = it->step(piece, left.at);
             switch (e.kind) {
-            case FRAMES_MESSAGE: hear(event{message{bytes(buffer_.data() + e.start, e.length)}}); break;
+            case FRAMES_MESSAGE: hear(event{message{bytes(it->buffer_.data() + e.start, e.length)}}); break;
             case FRAMES_DAMAGED: hear(event{damaged{e.stretch}}); break;
             case FRAMES_TOO_LONG: hear(event{too_long{}}); break;
             default: return e.kind == FRAMES_MORE;
             }
         }
+        return false;
     }
 
     // How many bytes are begun.
@@ -125,21 +146,38 @@ class receiver {
 // Sends messages over a line. Moving it keeps whether the last send went out, and leaves a new sender. Two senders of one line would be a
 // mistake, so it isn't copied.
 class sender {
+    struct turn {
+        sender *of; // null if `write` moved or destroyed it
+        explicit turn(sender &s) : of(&s) { s.sending_ = this; }
+        turn(const turn &) = delete;
+        turn &operator=(const turn &) = delete;
+        ~turn() {
+            if (of)
+                of->sending_ = nullptr;
+        }
+    };
     struct frames_sender state_;
     kind kind_;
-    bool sending_ = false;
+    turn *sending_ = nullptr; // the send that is going on
+
+    void leave() {
+        if (sending_)
+            std::exchange(sending_, nullptr)->of = nullptr;
+    }
 
   public:
     explicit sender(kind k = kind::counted, std::uint8_t sentinel = 0) : state_(frames_sender(sentinel)), kind_(k) {}
     sender(const sender &) = delete;
     sender &operator=(const sender &) = delete;
     sender(sender &&other) noexcept : state_(std::exchange(other.state_, frames_sender(other.state_.sentinel))), kind_(other.kind_) {
-        other.sending_ = false;
+        other.leave();
     }
+    ~sender() { leave(); }
     sender &operator=(sender &&other) noexcept {
         state_ = std::exchange(other.state_, frames_sender(other.state_.sentinel));
         kind_ = other.kind_;
-        sending_ = other.sending_ = false;
+        leave();
+        other.leave();
         return *this;
     }
 
@@ -155,20 +193,16 @@ class sender {
         const struct frames_written w = call(&state_, content.data(), content.size(), out.data(), out.size());
         if (w.status != FRAMES_OK)
             return false;
-        const struct turn {
-            bool &is;
-            ~turn() { is = false; }
-        } ends{sending_};
-        sending_ = true;
+        const turn now(*this);
         if (!write(bytes(out.data(), w.length)))
             return false;
-        if (sending_) // else `write` moved this sender away: the next send begins with a sentinel
+        if (now.of) // else `write` moved this sender away, and the next send begins with a sentinel; or destroyed it
             frames_sent(&state_);
         return true;
     }
 };
 
-// The shortest frame of a message, each byte XORed with the sentinel; none is behind it.
+// The shortest frame of a message, each byte XORed with the sentinel, without one after it. No bytes if the pointer is null and the size isn't 0.
 inline std::vector<std::uint8_t> encode(bytes content, std::uint8_t sentinel = 0) {
     std::vector<std::uint8_t> out(frames_encoded_length(content.data(), content.size()));
     frames_encode_with_sentinel(content.data(), content.size(), out.data(), out.size(), sentinel);
@@ -178,7 +212,7 @@ inline std::vector<std::uint8_t> encode(bytes content, std::uint8_t sentinel = 0
 // The message of one frame, with or without the sentinel that ends it; nothing for all other bytes.
 inline std::optional<std::vector<std::uint8_t>> decode(bytes frame, std::uint8_t sentinel = 0) {
     for (std::size_t at = 0; at + 1 < frame.size() || at == 0; at++)
-        if (frame.empty() || frame.data()[at] == sentinel)
+        if (frame.empty() || !frame.data() || frame.data()[at] == sentinel)
             return std::nullopt;
     std::vector<std::uint8_t> out(frame.size());
     const struct frames_written w = frames_decode_with_sentinel(frame.data(), frame.size(), out.data(), out.size(), sentinel);
@@ -188,24 +222,29 @@ inline std::optional<std::vector<std::uint8_t>> decode(bytes frame, std::uint8_t
     return out;
 }
 
-// The CRC-32 of bytes, as Ethernet, gzip and PNG have it.
+// The CRC-32 of bytes, as in Ethernet, gzip and PNG.
 inline std::uint32_t crc32(bytes content) { return frames_crc32(content.data(), content.size()); }
 
-// A message with its CRC-32 behind it, as four bytes, the lowest first.
+// A message and its CRC-32, as four bytes, the lowest first. No bytes if the pointer is null and the size isn't 0.
 inline std::vector<std::uint8_t> seal(bytes content) {
+    if (!content.data() && !content.empty())
+        return {};
     std::vector<std::uint8_t> out(content.begin(), content.end());
     out.resize(content.size() + 4);
     frames_seal(out.data(), out.size(), content.size());
     return out;
 }
 
-// The message before its sum, as a view of these bytes, whose owner has to stay; nothing if the last four bytes aren't that.
+// The message before its CRC-32, as a view of these bytes, whose owner has to stay; nothing if the last four bytes aren't that.
 inline std::optional<bytes> unseal(bytes sealed) {
     const struct frames_written w = frames_unseal(sealed.data(), sealed.size());
     if (w.status != FRAMES_OK)
         return std::nullopt;
     return bytes(sealed.data(), w.length);
 }
+// isn't compiled: what owns these bytes, as seal(..) and a std::string that nobody keeps, is gone when the view is used
+template <class C, class = std::enable_if_t<!std::is_reference_v<C> && !std::is_trivially_destructible_v<C>>>
+std::optional<bytes> unseal(C &&) = delete;
 
 } // namespace frames
 #endif

@@ -1,15 +1,15 @@
 /* Messages of bytes as frames over a line that may break, for a device that can't link the library: sender, receiver and CRC-32.
- * C99 to C23 and C++; 16-bit, 32-bit and 64-bit processors; no allocation, no C library, no globals, no recursion. It speaks what
- * frames.h speaks, and calls and events have the same names and order of arguments.
+ * C99 to C23 and C++; 16-bit, 32-bit and 64-bit processors; no allocation, no C library, no globals, no recursion. Its bytes are those of
+ * frames.h, and calls and events have the same names and order of arguments.
  *
- * Messages are counted unless a call says plain: see README.md. To notice bytes that were changed on the line, seal a message before it
- * is sent and unseal what is received.
+ * Messages are counted unless a call says plain: see README.md. To notice bytes that changed on the line, seal a message before it is
+ * sent, and unseal what is received.
  *
  *     struct frames_small_receiver receiver = {0};   a new receiver for the sentinel zero; frames_small_new_receiver for another
  *     struct frames_small_sender sender = {0};       likewise
  *
- * What you owe: the buffer of a receiver is the same at each call; pointers aren't null unless their length is 0; no call is made inside
- * another one with the same receiver or sender, as by `put` or by an interrupt.
+ * What the caller must keep to: the buffer of a receiver is the same at each call; pointers aren't null unless their length is 0; no call
+ * is made inside another one with the same receiver or sender, such as by `put` or an interrupt.
  *
  * What is proved and what isn't. The functions between the lines `PROVED` and `END` are a transcription of the crate frames_small, which is
  * proved; `.ci/small` translates that crate line by line and compares. The tests for null pointers and the struct of an event aren't in
@@ -32,7 +32,7 @@ extern "C" {
 #define FRAMES_SMALL_U8(n) ((uint8_t)(n))
 #endif
 
-/* What a byte brought about. */
+/* The result of a byte. */
 enum {
     FRAMES_SMALL_MORE = 0,     /* nothing */
     FRAMES_SMALL_MESSAGE = 1,  /* a message, in the buffer until the next byte */
@@ -41,7 +41,7 @@ enum {
     FRAMES_SMALL_MISUSED = 4   /* more bytes are begun than the buffer has, or a pointer is null: nothing changed */
 };
 
-/* What a receiver keeps between bytes. The message, as far as it is decided, is in front of your buffer. */
+/* What a receiver keeps between bytes. What is decoded of the message is at the start of your buffer. */
 struct frames_small_receiver {
     size_t stretch; /* how many bytes have come since the last sentinel */
     size_t decided; /* how many bytes of a message they decide */
@@ -64,7 +64,7 @@ struct frames_small_sender {
     uint8_t sentinel;
 };
 
-/* Your function that sends a byte to `line`. Returns false where it can't. */
+/* Your function that sends a byte to `line`. Returns false if it can't. */
 typedef bool frames_small_put(void *line, uint8_t byte);
 
 /* PROVED: crates/frames_small/src/counting.rt */
@@ -209,7 +209,7 @@ static inline uint8_t frames_small_brought(size_t stretch, uint8_t kind, struct 
     return kind;
 }
 
-/* Takes a byte, and returns what it brought about; for an interrupt handler. The event is set where that isn't FRAMES_SMALL_MORE or
+/* Takes a byte, and returns its result; for an interrupt handler. The event is set unless that is FRAMES_SMALL_MORE or
  * FRAMES_SMALL_MISUSED. */
 static inline uint8_t frames_small_push_byte(struct frames_small_receiver *self, uint8_t *buffer, size_t buffer_len, uint8_t byte,
                                              struct frames_small_event *event) {
@@ -226,7 +226,7 @@ static inline uint8_t frames_small_push_byte(struct frames_small_receiver *self,
     return frames_small_brought(stretch, kind, event);
 }
 
-/* The same of plain messages. */
+/* The same for plain messages. */
 static inline uint8_t frames_small_push_byte_plain(struct frames_small_receiver *self, uint8_t *buffer, size_t buffer_len, uint8_t byte,
                                                    struct frames_small_event *event) {
     size_t stretch;
@@ -242,7 +242,7 @@ static inline uint8_t frames_small_push_byte_plain(struct frames_small_receiver 
     return frames_small_brought(stretch, kind, event);
 }
 
-/* How many bytes have come since the last sentinel: 0 behind FRAMES_SMALL_TOO_LONG. If the line has ended and this isn't 0, the last
+/* How many bytes have come since the last sentinel; 0 after FRAMES_SMALL_TOO_LONG. If the line has ended and this isn't 0, the last
  * frame was cut off. */
 static inline size_t frames_small_begun(const struct frames_small_receiver *self) {
     if (self->past) {
@@ -379,7 +379,7 @@ static inline struct frames_small_sender frames_small_new_sender(uint8_t sentine
 }
 
 /* Sends a message: a sentinel unless the last send went out whole; the frame of its length and bytes; a sentinel. No buffer is needed.
- * Returns whether all of it went out. Where it didn't, do nothing: the next send begins with a sentinel. */
+ * Returns whether all of it went out. If it didn't, do nothing: the next send begins with a sentinel. */
 static inline bool frames_small_send(struct frames_small_sender *self, frames_small_put *put, void *line, const uint8_t *message,
                                      size_t message_len) {
     bool clean = self->clean;
@@ -391,7 +391,7 @@ static inline bool frames_small_send(struct frames_small_sender *self, frames_sm
     return true;
 }
 
-/* The same of a plain message. */
+/* The same for a plain message. */
 static inline bool frames_small_send_plain(struct frames_small_sender *self, frames_small_put *put, void *line, const uint8_t *message,
                                            size_t message_len) {
     bool clean = self->clean;
@@ -431,7 +431,7 @@ static inline uint32_t frames_small_add_bytes(uint32_t state, const uint8_t *byt
     return state;
 }
 
-/* The CRC-32 of bytes, as Ethernet, gzip and PNG have it. */
+/* The CRC-32 of bytes, as in Ethernet, gzip and PNG. */
 static inline uint32_t frames_small_crc32(const uint8_t *bytes, size_t bytes_len) {
     return frames_small_add_bytes(0xFFFFFFFFu, bytes, bytes_len) ^ 0xFFFFFFFFu;
 }
@@ -444,8 +444,8 @@ static inline void frames_small_seal_of(const uint8_t *message, size_t message_l
     seal[3] = FRAMES_SMALL_U8(sum / 256 / 256 / 256 % 256);
 }
 
-/* Appends the sum of the first `size` bytes of a buffer to them, and returns how many are to be sent then: four more. 0 if they don't
- * fit; the buffer stays as it is then. */
+/* Appends the CRC-32 of the first `size` bytes of a buffer to them, and returns how many are to be sent then: four more. 0 if they don't
+ * fit; the buffer is unchanged then. */
 static inline size_t frames_small_seal(uint8_t *buffer, size_t buffer_len, size_t size) {
     if (buffer_len < size || buffer_len - size < 4) {
         return 0;
@@ -454,7 +454,7 @@ static inline size_t frames_small_seal(uint8_t *buffer, size_t buffer_len, size_
     return size + 4;
 }
 
-/* Whether the last four bytes of a message are the sum of those before them; `message_len - 4` of it are yours then. */
+/* Whether the last four bytes of a message are the CRC-32 of those before them, which are `message_len - 4`. */
 static inline bool frames_small_unseal(const uint8_t *message, size_t message_len) {
     uint8_t seal[4];
     if (message_len < 4) {

@@ -53,7 +53,7 @@ struct wire_terms {
     uint8_t ends;     /* the stream ends with these bytes: an unfinished stretch is reported as cut */
 };
 
-/* The result of a call: how many bytes the text has, which are in front of the room unless it has too few; how many bytes of the stream
+/* The result of a call: how many bytes the text has, which are at the start of the room unless that has too few; how many bytes of the stream
  * are done with; the status. */
 struct wire_said {
     size_t length;
@@ -88,7 +88,7 @@ static inline uint8_t *wire_to(void *bytes) {
     return bytes ? WIRE_AS(uint8_t *, bytes) : &nothing;
 }
 
-/* Reads a stream of frames, and puts a line of JSON for each answer in front of the room. Hand it each chunk after the bytes that the
+/* Reads a stream of frames, and writes a line of JSON for each result to the start of the room. Pass each chunk after the bytes that the
  * call before left over (from `used` on). It sets terms->inside for the next call. */
 static inline struct wire_said wire_read(const char *declarations, size_t declarations_length, const char *type, size_t type_length,
                                          struct wire_terms *terms, const uint8_t *stream, size_t length, char *room, size_t room_length) {
@@ -102,9 +102,10 @@ static inline struct wire_said wire_read(const char *declarations, size_t declar
     return said;
 }
 
-/* Puts the frame of each line of JSON in front of the room, with the delimiter that ends it. Write a delimiter before the first frame of
- * a stream, as a receiver may have begun before you did. A line is a value, or {"value":..} as wire_read prints it. If it can be both,
- * as of a type with a field `value`, it is the latter: for one meaning write it as [..] of the type `[T; 1]`, which has the same bytes. */
+/* Writes the frame of each line of JSON, with the delimiter that ends it, to the start of the room. Write a delimiter to the line before the
+ * first frame, since an earlier sender may have left a part of one. A line is a value, or {"value":..} as wire_read prints it. If it can be
+ * both, as of a type with a field `value`, it is the latter: for one meaning write it as [..] of the type `[T; 1]`, which has the same
+ * bytes. */
 static inline struct wire_said wire_write(const char *declarations, size_t declarations_length, const char *type, size_t type_length,
                                           const struct wire_terms *terms, const char *lines, size_t length, uint8_t *room,
                                           size_t room_length) {

@@ -21,7 +21,8 @@ export async function load(source = new URL("frames.wasm", import.meta.url)) {
 async function wasmOf(source) {
   if (ArrayBuffer.isView(source) || isBuffer(source)) return source;
   if (source instanceof URL && source.protocol === "file:") {
-    const { readFile } = await import("node:fs/promises");
+    // by a name that is put together: a bundler for browsers would look for the module, and end if it finds none
+    const { readFile } = await import(/* webpackIgnore: true */ /* @vite-ignore */ ["node:fs", "promises"].join("/"));
     return readFile(source);
   }
   const response = await (source instanceof Response ? source : fetch(source));
@@ -154,7 +155,7 @@ export class Receiver {
     if (failure) throw failure;
     return events;
   }
-  /** How many bytes have come since the last delimiter. */
+  /** How many bytes have come since the last delimiter; 0 after `tooLong`. */
   get begun() {
     const it = this.#held();
     return Number(it.calls.frames_c_begun(it.at(0)));
@@ -198,8 +199,12 @@ export class Sender {
   }
   /** Writes a message to a WritableStream's writer, as that of a serial port. If that fails, the next send begins with a delimiter. */
   async write(writer, message) {
-    const bytes = this.send(message), sends = this.#sends;
-    await writer.write(bytes);
+    if (typeof writer?.write !== "function") throw new TypeError("frames: a writer is needed: stream.getWriter()");
+    const bytes = this.send(message), sends = this.#sends, wrote = writer.write(bytes);
+    if (typeof wrote?.then !== "function") { // so nothing says whether the bytes went out
+      throw new TypeError("frames: this write returns no promise: of a Node stream take Writable.toWeb(stream).getWriter()");
+    }
+    await wrote;
     if (sends === this.#sends) this.sent(); // else a later send has begun, which may still fail
   }
 }

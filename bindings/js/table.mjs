@@ -1,7 +1,10 @@
 // Values of message types by the table that `wire check FILES json` prints: bytes of postcard as JSON, and JSON as bytes. What it prints and
-// refuses is what the program `wire` does. It is tested against the vectors of `wire` and not proved; see README.md.
+// refuses is what the program `wire` does; but a line that is two values, it refuses. It is tested against the vectors of `wire` and not
+// proved; see README.md.
 
 const TOO_DEEP = "the value is nested too deeply: `depth=` sets the limit";
+/** Of a line that is two values. */
+export const BOTH = '{"value": ..} is of the type, and what it holds is another value: `wrapped` says which is meant';
 
 /** Why a line of JSON isn't a value of the type: `why`, and the way to it, as `history[3].light.Lit`. */
 export class Wrong extends Error {
@@ -410,19 +413,30 @@ export class Table {
   // ---- writing
 
   /**
-   * The bytes of the value that a line of JSON is, by itself or as `{"value": ..}`. It is the latter if it can be both, as in `wire`: so
-   * `{"value": ..}` around a value has one meaning. Throws Wrong, with the way to what is wrong.
+   * The bytes of the value that a line of JSON is, by itself or as `{"value": ..}`. If it can be both, and they are two values, it is Wrong, and
+   * `wrapped` says which is meant: true takes what `{"value": ..}` holds, false the whole. Throws Wrong, with the way to what is wrong.
    */
-  write(place, line, { depth = 60, empty = 65536 } = {}) {
+  write(place, line, { depth = 60, empty = 65536, wrapped } = {}) {
+    if (wrapped !== undefined && typeof wrapped !== "boolean") throw new TypeError("wrapped is true or false");
     this.#checkPlace(place);
     this.#empty = empty;
     const json = parseJson(line, 2 * depth + 2);
     const whole = () => this.#bytesOf(place, json, depth);
-    if (json.members?.length !== 1 || json.members[0][0] !== "value") return whole();
-    try { return this.#bytesOf(place, json.members[0][1], depth); } catch (error) {
-      if (!(error instanceof Wrong)) throw error;
+    const isWrapped = json.members?.length === 1 && json.members[0][0] === "value";
+    if (wrapped && !isWrapped) throw new Wrong('expected {"value": ..}');
+    if (wrapped === false || !isWrapped) return whole();
+    let held, alone;
+    try { held = this.#bytesOf(place, json.members[0][1], depth); } catch (error) {
+      if (wrapped || !(error instanceof Wrong)) throw error;
       try { return whole(); } catch { throw error; }
     }
+    if (wrapped) return held;
+    try { alone = whole(); } catch (error) {
+      if (error instanceof Wrong) return held;
+      throw error;
+    }
+    if (alone.length === held.length && alone.every((byte, i) => byte === held[i])) return held;
+    throw new Wrong(BOTH);
   }
   #bytesOf(place, json, depth) {
     const out = [];

@@ -1,9 +1,10 @@
 """Makes wheels of this package: it copies files, so that neither a compiler nor a network is needed.
 
-Into the wheel go the shared object, which FRAMES_LIBRARY names, and the program `wire` for typed messages, which WIRE names; where these
-aren't set, those that are stored in the clone for this processor. With `--config-settings wire=no` the program stays out. The wheel's tag
-says the earliest glibc that runs what is in it; a wheel with neither is for every system, and looks for the library when it is imported.
-An editable install (`pip install -e`) points at this folder.
+Into the wheel go the shared object, which FRAMES_LIBRARY names, and the program `wire` for typed messages, which WIRE names. If these aren't
+set, they are those that are stored in the clone for this processor. If no program is stored for it, as for aarch64, the library of typed
+messages goes in. With `--config-settings wire=no` both stay out. The wheel's tag says the earliest glibc that runs what is in it. A wheel
+without any of them is for every system, and looks for the library when it is imported. An editable install (`pip install -e`) points at this
+folder.
 """
 import base64
 import hashlib
@@ -45,7 +46,8 @@ def files_of_package(with_wire):
     library = of_this_machine("FRAMES_LIBRARY", os.path.join(folder, "libframes.so"), os.path.join(STORED, "libframes.so"),
                               os.path.join(HERE, "..", "c", "out", "libframes.so"))  # fmt: skip
     wire = of_this_machine("WIRE", os.path.join(STORED, "wire")) if with_wire else None
-    for name, path in (("libframes.so", library), ("wire", wire)):
+    typed = of_this_machine("WIRE_LIBRARY", os.path.join(STORED, "libwire.so")) if with_wire and not wire else None
+    for name, path in (("libframes.so", library), ("wire", wire), ("libwire.so", typed)):
         if path:
             with open(path, "rb") as file:
                 yield f"frames/{name}", file.read(), 0o755

@@ -384,6 +384,13 @@ static void misusing(void) {
     CHECK(frames_push_byte(&r, buffer, 8, 1, NULL) == FRAMES_MISUSED && frames_push_byte_plain(&r, buffer, 8, 1, NULL) == FRAMES_MISUSED);
     CHECK(frames_send_plain(NULL, b, 1, buffer, 8).status == FRAMES_NULL && frames_send_plain(&(struct frames_sender){0, 0}, NULL, 1, buffer, 8).status == FRAMES_NULL);
     CHECK(frames_send(NULL, b, 1, buffer, 8).status == FRAMES_NULL && !frames_finish(NULL) && frames_begun(NULL) == 0);
+    const size_t failed = (size_t)-1; /* what a read returns that failed */
+    struct frames_sender unsent = frames_sender(0);
+    CHECK(frames_send(&unsent, b, failed, buffer, 8).status == FRAMES_NULL && frames_send_plain(&unsent, b, failed, buffer, 8).status == FRAMES_NULL);
+    CHECK(frames_encode(b, failed, buffer, 8).status == FRAMES_NO_ROOM && frames_encode_with_sentinel(b, failed, buffer, 8, 3).status == FRAMES_NO_ROOM);
+    CHECK(frames_decode(b, failed, buffer, 8).status == FRAMES_NULL && frames_decode_with_sentinel(b, failed, buffer, 8, 0).status == FRAMES_NULL);
+    CHECK(frames_decode_in_place(buffer, failed, 0).status == FRAMES_NULL && frames_unseal(b, failed).status == FRAMES_NULL);
+    CHECK(frames_encoded_length(b, failed) == 0 && frames_crc32(b, failed) == 0);
     CHECK(frames_most_encoded_length(SIZE_MAX) == 0 && frames_most_encoded_length((size_t)1 << 63) == 0);
     CHECK(frames_most_encoded_length(((size_t)1 << 63) - 1) > (size_t)1 << 63);
     free(buffer);

@@ -61,6 +61,16 @@ static void inside() {
     HOLDS(sender.send(outer, [&](frames::bytes) { return taker = std::move(sender), true; }));
     auto begins = [](frames::bytes b) { return *b.begin() == 0; };
     HOLDS(sender.send(outer, begins) && taker.send(outer, begins));
+    for (const bool goes : {false, true}) { // one that is destroyed by its own write, or fails by it
+        std::optional<frames::sender> gone(std::in_place);
+        HOLDS(gone->send(outer, [&](frames::bytes) { return gone.reset(), goes; }) == goes);
+        gone.emplace();
+        try {
+            gone->send(outer, [&](frames::bytes) -> bool { gone.reset(), throw 1; });
+            HOLDS(false);
+        } catch (int) {
+        }
+    }
 }
 
 // A `hear` that throws loses the events of the rest of the piece, and no more: the end of a frame isn't received as a message.
@@ -81,9 +91,40 @@ static void throws() {
     HOLDS((heard == std::vector<std::string>{"\x09\x09\x03\x01X"}));
 }
 
+// A `hear` that moves the receiver: the new one takes the rest of the piece. One that destroys it: the rest is dropped.
+static void moves() {
+    std::string line;
+    frames::sender sender;
+    for (const char *it : {"one", "two", "three", "four"})
+        sender.send(std::string(it), [&](frames::bytes b) { return line.append(b.begin(), b.end()), true; });
+    std::vector<std::string> heard;
+    auto note = [&](const frames::event &e) { heard.push_back(text(std::get<frames::message>(e).content)); };
+    frames::receiver first(32), assigned(8);
+    std::optional<frames::receiver> second;
+    HOLDS(first.push(line.substr(0, line.size() - 2), [&](const frames::event &e) {
+        note(e);
+        if (heard.size() == 1)
+            second.emplace(std::move(first));
+        if (heard.size() == 2)
+            assigned = std::move(*second);
+        HOLDS(heard.size() == 1 || !assigned.push(line, [](const auto &) { HOLDS(false); }));
+    }));
+    HOLDS(first.begun() == 0 && second->begun() == 0 && assigned.begun() == 5);
+    HOLDS(assigned.push(line.substr(line.size() - 2), note));
+    HOLDS((heard == std::vector<std::string>{"one", "two", "three", "four"}));
+    std::optional<frames::receiver> gone(std::in_place, std::size_t(32));
+    int events = 0;
+    HOLDS(!gone->push(line, [&](const frames::event &) { events++, gone.reset(); }) && events == 1);
+    frames::receiver other(32); // two that are swapped, each inside its own push
+    events = 0;
+    HOLDS(other.push(line, [&](const frames::event &) { events++, std::swap(other, assigned); }) && events == 4);
+    HOLDS(other.push(line, note) && assigned.push(line, note) && heard.size() == 12);
+}
+
 int main() {
     inside();
     throws();
+    moves();
     using vector = std::vector<std::uint8_t>;
     frames::sender sender;
     vector line;
@@ -156,7 +197,13 @@ int main() {
     vector sealed = frames::seal(one);
     HOLDS(text(*frames::unseal(sealed)) == one);
     sealed[0] ^= 1;
-    HOLDS(!frames::unseal(sealed) && !frames::unseal(vector{1}));
+    const vector short_one{1};
+    HOLDS(!frames::unseal(sealed) && !frames::unseal(short_one) && frames::unseal(frames::bytes(sealed)) == std::nullopt);
+#ifdef UNSEAL_OF_A_TEMPORARY // isn't compiled: the view would be of bytes that are gone
+    frames::unseal(frames::seal(one));
+#endif
+    const frames::bytes none(nullptr, 3);
+    HOLDS(frames::encode(none).empty() && frames::seal(none).empty() && !frames::decode(none) && !frames::unseal(none));
 #if __cplusplus >= 202002L
     const std::span<const std::uint8_t> view = frames::bytes(one);
     HOLDS(frames::encode(view) == frames::encode(one));

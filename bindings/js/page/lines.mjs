@@ -1,7 +1,7 @@
 // What a page shows of a stream: an entry for each message and each damage, with its place, its bytes and its text. No part of this touches
 // the page, so that it is tested in Node too.
 import { Receiver, Sender } from "../frames.mjs";
-import { parseJson, Unread, Wrong } from "../table.mjs";
+import { BOTH, parseJson, Unread, Wrong } from "../table.mjs";
 
 export const LIMIT = 65536;
 export const hexOf = (bytes, most = bytes.length) =>
@@ -122,13 +122,18 @@ export class Writing {
   }
   /** The message. Throws Wrong, with the way to what is wrong. */
   message(text) {
-    if (this.form === "value") return this.table.write(this.place, text);
+    if (this.form === "value") return this.#value(text);
     if (text.trim().startsWith('"')) {
       try { return new TextEncoder().encode(parseJson(text).text); } catch { throw new Wrong("the text in quotes is no JSON"); }
     }
     const digits = text.replace(/\s/g, "");
     if (digits.length % 2 || !/^[0-9a-fA-F]*$/.test(digits)) throw new Wrong("hexadecimal digits or a text in quotes are wanted");
     return Uint8Array.from(digits.match(/../g) ?? [], (it) => parseInt(it, 16));
+  }
+  #value(text) {
+    try { return this.table.write(this.place, text); } catch (error) {
+      throw error.why === BOTH ? new Wrong('{"value": ..} is of the type, and what it holds is another value: send its digits as "bytes, plain"') : error;
+    }
   }
   /** Writes the frame of what is typed, and returns the message's bytes. If that fails, the next frame begins with a delimiter. */
   async write(writer, text) {

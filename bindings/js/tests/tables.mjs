@@ -3,7 +3,7 @@
 // usage: node tables.mjs [ROUNDS]
 import assert from "node:assert";
 import { runInNewContext } from "node:vm";
-import { Table, Unread, Wrong } from "../table.mjs";
+import { BOTH, Table, Unread, Wrong } from "../table.mjs";
 
 const rounds = Number(process.argv[2] ?? 1000);
 let seed = 7;
@@ -86,6 +86,17 @@ for (const it of [undefined, 1, -1, "T"]) {
   assert.throws(() => single.write(it, "1.5"), /no place/);
 }
 assert.equal(of({ kind: "list", node: 1, most: null }, { kind: "u8" }).write(0, `"${"00".repeat(200000)}"`).length, 200003);
+// a line that is a value by itself and by what it holds: one value, two, which `wrapped` tells apart, or one of them
+const held = { kind: "struct", fields: [{ name: "value", node: 1 }] }, list = of(held, { kind: "option", node: 0 });
+const [none, some1, some2] = ["null", '{"value":null}', '{"value":{"value":null}}'].map((it) => `{"value":${it}}`);
+assert.equal(hex(list.write(0, none)), "00");
+assert.deepEqual([true, false].map((wrapped) => hex(list.write(0, some1, { wrapped }))), ["00", "0100"]);
+assert.deepEqual([true, false].map((wrapped) => hex(list.write(0, some2, { wrapped }))), ["0100", "010100"]);
+for (const it of [some1, some2]) assert.throws(() => list.write(0, it), new RegExp(`^Error: ${BOTH.replaceAll(/[{}.]/g, "\\$&")}$`));
+assert.throws(() => list.write(0, none, { wrapped: true }), /expected an object with the fields/);
+assert.throws(() => of({ kind: "u8" }).write(0, "1", { wrapped: true }), /expected \{"value": \.\.\}/);
+assert.throws(() => of({ kind: "u8" }).write(0, '{"value":1}', { wrapped: false }), /expected a number/);
+assert.throws(() => list.write(0, none, { wrapped: 1 }), TypeError);
 // a table that isn't whole is refused as such, before bytes are read by it
 for (const node of [null, 5, { kind: "struct" }, { kind: "tuple" }, { kind: "option" }, { kind: "list", most: -1, node: 0 }, { kind: "array", node: 0 },
   { kind: "array", node: 0, count: -1 }, { kind: "array", count: 1 }, { kind: "fixed", integer: "u16" }, { kind: "text", most: "5" }, { kind: "other", undefined: 0 }]) {

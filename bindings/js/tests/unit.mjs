@@ -4,11 +4,11 @@ import assert from "node:assert";
 import { File } from "node:buffer";
 import { getEventListeners } from "node:events";
 import { readFileSync } from "node:fs";
-import { Readable } from "node:stream";
+import { PassThrough, Readable, Writable } from "node:stream";
 import { runInNewContext } from "node:vm";
 import * as frames from "../frames.mjs";
 import { Files, Lines, logLine, Writing } from "../page/lines.mjs";
-import { Wrong } from "../table.mjs";
+import { Table, Wrong } from "../table.mjs";
 import * as oracle from "./oracle.mjs";
 
 const told = process.argv[2] ?? "400", isTimed = told.endsWith("s"), until = Date.now() + 1000 * parseInt(told, 10);
@@ -75,6 +75,14 @@ async function streams() {
   fails = false;
   for (const m of [[4, 5], [6]]) await sender.write(writer, Uint8Array.from(m));
   assert.deepEqual(out, [0, 5, 3, 0, 4, 2, 4, 5, 0, 3, 1, 6, 0]);
+  // a write that doesn't say when it is done, as that of a Node stream; a stream in place of its writer
+  const mute = new PassThrough(), fresh = new frames.Sender();
+  await assert.rejects(fresh.write(mute, Uint8Array.of(1)), /returns no promise: of a Node stream take Writable.toWeb/);
+  assert.deepEqual([...fresh.send(Uint8Array.of(1))], [0, 3, 1, 1, 0]);
+  for (const it of [new WritableStream(), null, undefined, {}]) await assert.rejects(fresh.write(it, Uint8Array.of(1)), /a writer is needed: stream.getWriter/);
+  const heard = new PassThrough();
+  await fresh.write(Writable.toWeb(heard).getWriter(), Uint8Array.of(1));
+  assert.deepEqual([...heard.read()], [0, 3, 1, 1, 0]);
   // two writes that nobody waited for, the second of which fails: the third begins with a delimiter
   const line = [];
   const second = { async write(bytes) { if (bytes.length > 6) { line.push(...bytes.subarray(0, 4)); throw new Error("broken"); } line.push(...bytes); } };
@@ -255,6 +263,10 @@ function lines() {
   }
   assert.deepEqual(writing.message('"\\ud83d\\ude00"'), new TextEncoder().encode("😀"));
   for (const it of ['"\\ud800"', '"a', '"a" 1', "0", "0g"]) assert.throws(() => writing.message(it), Wrong);
+  const table = new Table({ version: 1, types: [{ name: "T", line: 1, node: 0 }], nodes: [{ kind: "struct", fields: [{ name: "value", node: 1 }] }, { kind: "option", node: 0 }] });
+  const typed = new Writing({ form: "value", table, type: "T" });
+  assert.deepEqual(typed.message('{"value":null}'), Uint8Array.of(0));
+  assert.throws(() => typed.message('{"value":{"value":null}}'), /what it holds is another value: send its digits as "bytes, plain"/);
 }
 function refusals() {
   // options that would be ignored: what to write is said
@@ -281,6 +293,8 @@ function refusals() {
   // a class of one's own over bytes changes nothing of them
   class Own extends Uint8Array { static get [Symbol.species]() { return Array; } subarray() { return new Own(0); } }
   assert.deepEqual(new frames.Receiver(8).push(Own.from(HI)).map((it) => it.kind), ["message"]);
+  // a bundler for browsers resolves each name that it finds: there is none of Node's modules
+  assert.doesNotMatch(readFileSync(new URL("../frames.mjs", import.meta.url), "utf8"), /(import|from)\W*["'`]node:|node:\w+\//);
   // what doesn't fit the module's memory, and a limit that no number is
   for (const limit of [8n, -0.5, Infinity, 2 ** 53, 2 ** 31]) assert.throws(() => new frames.Receiver(limit), RangeError);
   if (!process.env.FRAMES_WASM) assert.throws(() => new frames.Sender().send(new Uint8Array(2 ** 31)), /no memory for \d+ bytes/); // of 32 bits

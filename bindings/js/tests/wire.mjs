@@ -6,7 +6,7 @@ import { createHash } from "node:crypto";
 import { existsSync, readFileSync, statSync, writeFileSync } from "node:fs";
 import { createInterface } from "node:readline";
 import { spawnSync } from "node:child_process";
-import { Table, Unread, Wrong } from "../table.mjs";
+import { BOTH, Table, Unread, Wrong } from "../table.mjs";
 
 const LIMIT = 65536;
 const UTF8 = new TextDecoder("utf-8", { fatal: true, ignoreBOM: true });
@@ -53,6 +53,13 @@ function read(table, place, words, given) {
   if (cut) note("cut", bytes.length - before - cut.length, bytes.length - before);
   return { status: all ? 0 : 1, out: Buffer.from(out), errors: "" };
 }
+/** A line that is two values is the second, as the program takes it. */
+function written(table, place, line, look) {
+  try { return table.write(place, line, look); } catch (error) {
+    if (error.why !== BOTH) throw error;
+    return table.write(place, line, { ...look, wrapped: true });
+  }
+}
 function write(table, place, words, given) {
   const sentinel = told(words, "sentinel", 0, 16), sender = new frames.Sender({ plain: true, sentinel }), made = [Buffer.of(sentinel)];
   sender.sent(); // the line begins with a sentinel, whatever follows
@@ -63,7 +70,7 @@ function write(table, place, words, given) {
     try {
       let line;
       try { line = UTF8.decode(given.subarray(from, end)); } catch { throw new Wrong("the line isn't UTF-8"); }
-      const frame = sender.send(table.write(place, line, lookOf(words)));
+      const frame = sender.send(written(table, place, line, lookOf(words)));
       sender.sent();
       if (frame.length - 1 > LIMIT) throw new Wrong("the frame has more than 65536 bytes, which `read` doesn't take");
       made.push(frame);

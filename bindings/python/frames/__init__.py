@@ -1,24 +1,23 @@
 """Messages as frames over a line that may break, by a library whose code is proved.
 
-What plain bytes don't promise: where a send breaks off, a front of a *plain* message may be heard as a message that nobody sent. So
-messages are *counted* here unless `plain=True` is said: their length stands in front of them, as postcard (Rust) spells a byte
-string, and each that is heard was sent, whatever broke off. A byte that was changed on the line may still make another message: seal
-messages where that may not be (`seal`, `unseal`).
+If a send of a *plain* message is interrupted, a prefix of it may be received as a message that nobody sent. So messages are *counted*
+without `plain=True`: their length goes first, as postcard (Rust) encodes a byte string, and each message that is received was sent,
+whatever was interrupted. A byte that changed on the line may still make another message: `seal` and `unseal` are against that.
 
     sender, receiver = Sender(), Receiver(limit=1024)
-    port.write(sender.send(b"hi"))      # raises where it fails: then the next send begins anew
+    port.write(sender.send(b"hi"))      # if it raises, the next send begins with a sentinel
     sender.sent()                       # all of it went out
     for event in receiver.push(port.read(64)):
         ...                             # bytes, Damaged, TooLong
 
     for event in listen(port, limit=1024):
-        ...                             # the same, and Cut at the end, where it broke off
+        ...                             # the same, and Cut at the end, if it ends inside a frame
 
-A receiver and a sender may be used by several threads: each call is done as a whole, and so is each `Sender.write`. A call inside another
-one of the same receiver or sender, as of a signal handler or of the line that is written to, is a `RuntimeError`.
+Threads can share a receiver and a sender: each call is done as a whole, and so is each `Sender.write`. A call inside another one of the same
+receiver or sender, such as from a signal handler or the line that is written to, is a `RuntimeError`.
 
-This module itself is tested, not proved. It hands the library bytes that don't change and buffers of its own, so nothing overlaps and no
-pointer is null. What isn't bytes, or holds none, is a `TypeError`: a number is no message of so many zeros.
+This module is tested, not proved. It passes the library bytes that don't change and buffers of its own, so nothing overlaps and no pointer
+is null. What isn't bytes is a `TypeError`, a number too.
 """
 from __future__ import annotations
 
@@ -32,7 +31,7 @@ from ctypes import POINTER, Structure, addressof, byref, c_bool, c_char_p, c_siz
 from dataclasses import dataclass
 from operator import index
 from threading import RLock
-from typing import Any, Callable, Iterator, List, NoReturn, Optional, Protocol, Union
+from typing import Any, Callable, Generator, Iterator, List, NoReturn, Optional, Protocol, Union
 
 __all__ = [
     "Cut", "Damaged", "Event", "Invalid", "Receiver", "Sender", "TooLong",
@@ -44,26 +43,26 @@ _MORE, _MESSAGE, _DAMAGED, _TOO_LONG = range(4)
 
 
 class Invalid(ValueError):
-    """Bytes that are no frame, or a message that doesn't end in its sum."""
+    """Bytes that are no frame, or a message that doesn't end in its CRC-32."""
 
 
 @dataclass(frozen=True)
 class Damaged:
-    """A stretch of so many bytes that is no frame, or whose message isn't a counted one."""
+    """`length` bytes between two sentinels that are no frame, or whose message isn't counted."""
 
     length: int
 
 
 @dataclass(frozen=True)
 class TooLong:
-    """A stretch with more bytes than this limit."""
+    """More bytes between two sentinels than this limit."""
 
     limit: int
 
 
 @dataclass(frozen=True)
 class Cut:
-    """The stream ended inside a stretch, behind so many bytes of it."""
+    """The stream ended `length` bytes after the last sentinel."""
 
     length: int
 
@@ -119,8 +118,8 @@ def _beside() -> Optional[str]:
 def library(path: Optional[str] = None) -> ctypes.CDLL:
     """The shared object, which is loaded at the first call.
 
-    It is the one at `path`, or that FRAMES_LIBRARY names, or the one beside this file, as in a wheel, or of the clone that this file is in:
-    what `make -C bindings/c` made, or what is stored for this processor; or the system's `libframes`. Raises `OSError` if there is none.
+    It is the first of these: `path`; what FRAMES_LIBRARY names; one beside this file, as in a wheel; in a clone, what `make -C bindings/c` made
+    or what is stored for this processor; the system's `libframes`. Raises `OSError` if there is none.
     """
     global _loaded
     if _loaded is None or path is not None:
@@ -129,10 +128,18 @@ def library(path: Optional[str] = None) -> ctypes.CDLL:
             raise OSError("no libframes.so: `make -C bindings/c` makes it in a clone; or name one by FRAMES_LIBRARY")
         loaded = ctypes.CDLL(found)
         for name, result, arguments in _CALLS:
-            function = getattr(loaded, "frames_c_" + name)
+            function = _of(loaded, "frames_c_" + name)
             function.restype, function.argtypes = result, arguments
         _loaded = loaded
     return _loaded
+
+
+def _of(loaded: ctypes.CDLL, name: str) -> Any:
+    """A function of a library, which another one hasn't."""
+    try:
+        return getattr(loaded, name)
+    except AttributeError as error:
+        raise OSError(f"another library, or an earlier one: {error}") from None
 
 
 class _Room:
@@ -159,7 +166,7 @@ def encoded_length(message: bytes) -> int:
 
 
 def encode(message: bytes, sentinel: int = 0) -> bytes:
-    """The shortest frame of a message's bytes, each XORed with the sentinel; none stands behind it."""
+    """The shortest frame of a message, each byte XORed with the sentinel, without a sentinel after it."""
     message = _bytes(message)
     room = encoded_length(message)
     dest = _Room(room)
@@ -170,7 +177,7 @@ def encode(message: bytes, sentinel: int = 0) -> bytes:
 def decode(frame: bytes, sentinel: int = 0) -> bytes:
     """The message of one frame, with or without the sentinel that ends it.
 
-    Raises `Invalid` for all other bytes: none, a sentinel in front (as `Sender.send` may write one), bytes after the sentinel.
+    Raises `Invalid` for all other bytes: none, a leading sentinel (as `Sender.send` may write one), bytes after the sentinel.
     """
     frame, mark = _bytes(frame), bytes([_byte(sentinel)])
     if frame[:1] in (b"", mark):
@@ -180,24 +187,24 @@ def decode(frame: bytes, sentinel: int = 0) -> bytes:
     dest = _Room(len(frame))
     written = library().frames_c_decode_with_sentinel(frame, len(frame), dest.address, len(frame), sentinel)
     if written.status != _OK:
-        raise Invalid(f"no frame, behind {written.length} bytes of a message")
+        raise Invalid(f"no frame, after {written.length} bytes of a message")
     return dest.front(written.length)
 
 
 def crc32(message: bytes) -> int:
-    """The CRC-32 of bytes, as Ethernet, gzip and PNG have it."""
+    """The CRC-32 of bytes, as in Ethernet, gzip and PNG."""
     message = _bytes(message)
     return int(library().frames_c_crc32(message, len(message)))
 
 
 def seal(message: bytes) -> bytes:
-    """A message with its CRC-32 behind it, as four bytes, the lowest first."""
+    """A message and its CRC-32, as four bytes, the lowest first."""
     message = _bytes(message)
     return message + crc32(message).to_bytes(4, "little")
 
 
 def unseal(message: bytes) -> bytes:
-    """The message before its sum; `Invalid` where its last four bytes aren't that."""
+    """The message before its CRC-32. Raises `Invalid` if the last four bytes aren't that."""
     message = _bytes(message)
     written = library().frames_c_unseal(message, len(message))
     if written.status != _OK:
@@ -229,7 +236,7 @@ class _Line(Protocol):
 
 
 class Sender(_Single):
-    """Makes what goes out for each message."""
+    """Makes the bytes to write for each message."""
 
     def __init__(self, sentinel: int = 0, plain: bool = False) -> None:
         self._state, self._lock, self._is_writing = library().frames_c_sender(_byte(sentinel)), RLock(), False
@@ -238,7 +245,7 @@ class Sender(_Single):
     def send(self, message: bytes) -> bytes:
         """The bytes to write: a sentinel, if the last send didn't go out whole, the frame, and a sentinel.
 
-        Call `sent` once all of them went out. Where they didn't, call nothing: the next send then begins with a sentinel.
+        Call `sent` once all of them went out. If they didn't, call nothing: the next send then begins with a sentinel.
         """
         message = _bytes(message)
         with self._lock:
@@ -261,11 +268,10 @@ class Sender(_Single):
             raise RuntimeError("a call of a sender inside a write of its own")
 
     def write(self, line: _Line, message: bytes) -> None:
-        """Sends a message over a file object or a serial port, which is flushed; of several threads one after another.
+        """Sends a message over a file object or a serial port, and flushes it. Threads write one after another.
 
-        What it raises comes out, and a write that takes nothing is an `OSError`; the next send then begins with a sentinel. A call inside
-        a write, by the line itself or a signal handler, is a `RuntimeError`. A writer of asyncio has no count to return: `frames.aio.Line`
-        sends over that.
+        Raises what the line raises, and `OSError` if a write takes nothing; the next send then begins with a sentinel. A call inside a write,
+        from the line itself or a signal handler, is a `RuntimeError`. A writer of asyncio returns no count: use `frames.aio.Line`.
         """
         with self._lock:
             out = memoryview(self.send(message))
@@ -283,7 +289,7 @@ class Sender(_Single):
 
 
 class Receiver(_Single):
-    """Hears the messages of a stream that comes in pieces, with stretches of at most `limit` bytes, for which it has a buffer."""
+    """Receives the messages of a stream that comes in chunks, with at most `limit` bytes between two sentinels."""
 
     def __init__(self, limit: int, sentinel: int = 0, plain: bool = False) -> None:
         if isinstance(limit, bool):
@@ -296,9 +302,9 @@ class Receiver(_Single):
         self._push = library().frames_c_push_plain if plain else library().frames_c_push
 
     def push(self, piece: bytes) -> List[Event]:
-        """What these bytes bring about, in order: messages as `bytes`, `Damaged`, `TooLong`.
+        """The events of these bytes, in order: messages as `bytes`, `Damaged`, `TooLong`.
 
-        After what it raises, such as `MemoryError` or `KeyboardInterrupt`, the receiver goes on behind the next sentinel.
+        After an exception, such as `MemoryError` or `KeyboardInterrupt`, the receiver continues after the next sentinel.
         """
         piece = _bytes(piece)
         with self._lock:
@@ -336,12 +342,12 @@ class Receiver(_Single):
 
     @property
     def begun(self) -> int:
-        """How many bytes a begun stretch has so far."""
+        """How many bytes have come since the last sentinel; 0 after `TooLong`."""
         with self._lock:
             return int(library().frames_c_begun(byref(self._state)))
 
     def finish(self) -> Optional[Cut]:
-        """Ends the stream, and begins a new one: `Cut` where it ended inside a stretch."""
+        """Ends the stream, and begins a new one. Returns `Cut` if it ended inside a frame."""
         with self._lock:
             self._refuse_inside()
             begun = int(library().frames_c_begun(byref(self._state)))
@@ -402,12 +408,12 @@ def _pieces(source: Any, ends: bool, is_over: Callable[[], bool] = lambda: False
             is_ready = _is_ready(descriptor)
 
 
-def listen(source: Any, limit: int, sentinel: int = 0, plain: bool = False, ends: bool = True) -> Iterator[Event]:
-    """What is heard of a file object, a socket's file or a serial port, as it comes.
+def listen(source: Any, limit: int, sentinel: int = 0, plain: bool = False, ends: bool = True) -> Generator[Event, None, None]:
+    """The events of a file object, a socket's file or a serial port, as they come.
 
-    It reads what is there, and at least a byte. A read of nothing ends the stream, and `Cut` may then come last; with `ends=False`, for
-    a serial port with a timeout, it is read again, after a wait where the read itself didn't wait. A file that doesn't block and has
-    nothing yet hasn't ended.
+    It reads what is there, and at least a byte. A read of nothing ends the stream, and `Cut` may then come last. With `ends=False`, for a
+    serial port with a timeout, it reads again, and waits first if the read didn't wait. A file that doesn't block and has nothing yet
+    hasn't ended.
     """
     receiver = Receiver(limit, sentinel, plain)
     for piece in _pieces(source, ends):

@@ -4,22 +4,22 @@
     line = Line(writer)
     await line.send(b"hi")
     async for event in listen(reader, limit=1024):
-        ...                             # bytes, Damaged, TooLong, and Cut at the end, where it broke off
+        ...                             # bytes, Damaged, TooLong, and Cut at the end, if it ends inside a frame
 """
 from __future__ import annotations
 
 import asyncio
-from typing import AsyncIterator
+from typing import AsyncGenerator
 
 from . import Event, Receiver, Sender
 
 __all__ = ["Line", "listen"]
 
 
-async def listen(reader: asyncio.StreamReader, limit: int, sentinel: int = 0, plain: bool = False) -> AsyncIterator[Event]:
-    """What is heard of a stream, as it comes; `Cut` last, where it ended inside a stretch.
+async def listen(reader: asyncio.StreamReader, limit: int, sentinel: int = 0, plain: bool = False) -> AsyncGenerator[Event, None]:
+    """The events of a stream, as they come; `Cut` last, if it ends inside a frame.
 
-    What reading raises comes out behind what was heard.
+    Raises what a read raises, after the events of what was read before.
     """
     receiver = Receiver(limit, sentinel, plain)
     while True:
@@ -34,7 +34,7 @@ async def listen(reader: asyncio.StreamReader, limit: int, sentinel: int = 0, pl
 
 
 class Line:
-    """Sends over a stream, one send after another whoever awaits."""
+    """Sends over a stream. Sends of several tasks go out one after another."""
 
     def __init__(self, writer: asyncio.StreamWriter, sentinel: int = 0, plain: bool = False) -> None:
         self._writer, self._sender, self._lock = writer, Sender(sentinel, plain), asyncio.Lock()
@@ -42,7 +42,7 @@ class Line:
     async def send(self, message: bytes) -> None:
         """Sends a message, and waits until the stream takes more.
 
-        After what it raises, also where it is cancelled, the next send begins with a sentinel: send the message again, if it has to arrive.
+        After an exception, also if it is cancelled, the next send begins with a sentinel. Send the message again, if it has to arrive.
         """
         async with self._lock:
             self._writer.write(self._sender.send(message))

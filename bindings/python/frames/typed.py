@@ -1,12 +1,12 @@
-"""Messages of declared types as JSON values, by the library `libwire` where it is there, else by the program `wire` as a process.
+"""Messages of declared types as JSON values, by the library `libwire` if there is one, else by the program `wire` as a process.
 
     with TypedReceiver("messages.rs", "Reading") as receiver:
         for answer in receiver.listen(open("line.bin", "rb")):
             ...                     # {"value": {...}}, {"damaged": {...}}, {"too_long": {...}}, {"cut": {...}}
     frame = write("messages.rs", "Reading", [{"level": -21, "light": "Dark"}])
 
-The library reads the declarations anew in each call, and keeps nothing; it takes one file of declarations. The program is taken for a folder
-or several files, where `wire=` or WIRE names one, and where there is no library. Both return the same. This module is tested, not proved.
+The library reads the declarations anew in each call; it takes one file. The program is used for a folder or several files, if `wire=` or
+WIRE names one, or if there is no library. Both return the same. This module is tested, not proved.
 """
 from __future__ import annotations
 
@@ -19,9 +19,9 @@ import subprocess
 import tempfile
 import threading
 from ctypes import POINTER, Structure, byref, c_char_p, c_size_t, c_uint8, c_void_p
-from typing import IO, Any, Dict, Iterable, Iterator, List, Optional, Tuple, Union
+from typing import IO, Any, Dict, Generator, Iterable, List, Optional, Tuple, Union
 
-from . import _byte, _pieces, _Room
+from . import _byte, _of, _pieces, _Room, _Single
 
 _Path = Union[str, "os.PathLike[str]"]
 _DONE, _NO_ROOM, _WRONG, _REFUSED, _NO_MEMORY = range(5)
@@ -55,7 +55,7 @@ def library(path: Optional[str] = None) -> Optional[ctypes.CDLL]:
         if not found:
             return None
         loaded = ctypes.CDLL(found)
-        for function in (loaded.wire_c_read, loaded.wire_c_write):
+        for function in (_of(loaded, "wire_c_read"), _of(loaded, "wire_c_write")):
             function.restype = _Said
             function.argtypes = [c_char_p, c_size_t, c_char_p, c_size_t, POINTER(_Terms), c_char_p, c_size_t, c_void_p, c_size_t]
         _loaded = loaded
@@ -82,13 +82,13 @@ class _Type:
         if said.status == _NO_MEMORY:
             raise MemoryError
         if said.status == _WRONG:
-            raise OSError(text.decode(errors="replace").strip())
+            raise OSError(_told(text))
         return said.status, text, said.used, said.inside
 
     def write(self, lines: bytes, sentinel: int) -> bytes:
         status, text, _, _ = self.said(self._calls.wire_c_write, _Terms(sentinel=sentinel), lines)
         if status == _REFUSED:
-            raise ValueError(text.decode(errors="replace").strip())
+            raise ValueError(_told(text))
         return bytes([sentinel]) + text
 
 
@@ -127,7 +127,7 @@ class _Stream:
         self._left, self._before, self._terms.inside = self._left[used:], self._before + used, inside
         return answers
 
-    def listen(self, source: Any, ends: bool) -> Iterator[Dict[str, Any]]:
+    def listen(self, source: Any, ends: bool) -> Generator[Dict[str, Any], None, None]:
         for piece in _pieces(source, ends, lambda: self._is_closed):
             yield from self.push(piece)
         if not self._is_closed:
@@ -142,7 +142,9 @@ class _Stream:
 
 def _of_library(declarations: str, type_name: str, wire: Optional[str]) -> Optional[Tuple[_Type, ctypes.CDLL]]:
     """The type by the library, if that is what takes it."""
-    if wire or os.environ.get("WIRE") or os.path.isdir(declarations) or "," in declarations:
+    if not isinstance(type_name, str):
+        raise TypeError(f"a type is a text, such as 'Reading', not {type_name!r}")
+    if wire or os.environ.get("WIRE") or os.path.isdir(declarations) or ("," in declarations and not os.path.isfile(declarations)):
         return None
     calls = library()
     return (_Type(calls, declarations, type_name), calls) if calls is not None else None
@@ -155,7 +157,8 @@ def _wire(wire: Optional[str]) -> str:
         return wire or os.environ.get("WIRE") or inside
     found = wire or os.environ.get("WIRE") or shutil.which("framed-json") or shutil.which("wire")
     if not found:
-        raise FileNotFoundError("no framed-json or wire on the PATH: `./install --built DIR framed-json` puts it into a folder; or name one by WIRE")
+        raise FileNotFoundError("no framed-json or wire on the PATH, which reads a folder or several files, and one without libwire.so: "
+                                "`./install --built DIR framed-json` puts it into a folder; or name one by WIRE")  # fmt: skip
     return found
 
 
@@ -169,11 +172,11 @@ def _closed(pipe: IO[bytes]) -> None:
 def write(declarations: _Path, type_name: str, values: Iterable[Any], sentinel: int = 0, wire: Optional[str] = None) -> bytes:
     """The bytes that `wire write` makes of these values: a sentinel, and a frame and a sentinel for each.
 
-    A value may be `{"value": ..}`, as a receiver answers it. If that is also a value of the type by itself, of one with a field `value`, and
-    another one, it is a `ValueError`: write `[value]` of the type `[Type; 1]`, which has the same bytes and one meaning.
+    A value may be `{"value": ..}`, as a receiver returns it. If that is also a value of the type by itself, and another one, it is a
+    `ValueError`: write `[value]` of the type `[Type; 1]`, which has the same bytes and one meaning.
 
-    A value that isn't of the type is a `ValueError`. A text, bytes or a dictionary, which is no list of values, is a `TypeError`. What is wrong with
-    the declarations or the type is an `OSError`, and so is that there is neither the library nor the program (`FileNotFoundError`).
+    A value that isn't of the type is a `ValueError`. A text, bytes or a dictionary in place of a list of values is a `TypeError`. Wrong
+    declarations or a wrong type are an `OSError`; if there is neither the library nor the program, a `FileNotFoundError`.
     """
     if isinstance(values, (str, dict, bytes, bytearray, memoryview)):  # whose letters, keys and bytes would be taken for values
         raise TypeError("a list of values is needed, not a value alone")
@@ -203,6 +206,11 @@ def _refuse_both(declarations: str, type_name: str, values: Dict[int, Any], wire
                 raise ValueError(f'value {k}: {{"value": ..}} is of the type, and what it holds is another value: write [..] of the type {of_one}')
 
 
+def _told(said: bytes) -> str:
+    """What was said, without the word of the program that no call here takes."""
+    return said.decode(errors="replace").strip().replace(": `depth=` sets the limit", "")
+
+
 def _line(value: Any) -> str:
     try:
         return json.dumps(value, allow_nan=False) + "\n"
@@ -220,7 +228,7 @@ def _written(declarations: str, type_name: str, values: Iterable[Any], sentinel:
     command = [_wire(wire), "write", declarations, type_name, f"sentinel={sentinel:02x}"]
     done = subprocess.run(command, input=lines.encode(), capture_output=True)
     if done.returncode != 0:
-        said = done.stderr.decode(errors="replace").strip() or f"wire ended with status {done.returncode}"
+        said = _told(done.stderr) or f"wire ended with status {done.returncode}"
         raise ValueError(said) if done.returncode == 1 else OSError(said)
     return done.stdout
 
@@ -241,7 +249,7 @@ class _Process:
             raise ValueError("the program answers one stream: make another receiver")
         self._is_used = True
 
-    def listen(self, source: Any, ends: bool) -> Iterator[Dict[str, Any]]:
+    def listen(self, source: Any, ends: bool) -> Generator[Dict[str, Any], None, None]:
         self._begin()
         self._feeder = threading.Thread(target=self._feed, args=(source, ends), daemon=True)
         self._feeder.start()
@@ -292,10 +300,10 @@ class _Process:
             _closed(self._process.stdin)
 
 
-class TypedReceiver:
-    """Receives the messages of a type, as dictionaries of what `wire read` prints: one answer each.
+class TypedReceiver(_Single):
+    """Receives the messages of a type, each as a dictionary of what `wire read` prints.
 
-    What is wrong with the declarations, the type or a device is an `OSError`, at the latest from `close`, which leaving a `with` block calls.
+    Wrong declarations, a wrong type or a failing device are an `OSError`, at the latest from `close`, which the end of a `with` block calls.
     """
 
     def __init__(self, declarations: _Path, type_name: str, sentinel: int = 0, strict: bool = False, wire: Optional[str] = None) -> None:
@@ -314,21 +322,21 @@ class TypedReceiver:
     def __exit__(self, *_: object) -> None:
         self.close()
 
-    def listen(self, source: Any, ends: bool = True) -> Iterator[Dict[str, Any]]:
-        """The answers to all that a file object or a port gives, as they come; once.
+    def listen(self, source: Any, ends: bool = True) -> Generator[Dict[str, Any], None, None]:
+        """The results of all that a file object or a port gives, as they come; once.
 
-        What reading the source raises comes out after the answers to what was read.
+        Raises what reading the source raises, after the results of what was read.
         """
         return self._opened().listen(source, ends)
 
     def answers(self, stream: bytes) -> List[Dict[str, Any]]:
-        """The answers to a whole stream. Places are counted from its first byte. The program answers one; another is a `ValueError`."""
+        """The results of a whole stream, with places from its first byte. The program reads one stream: another is a `ValueError`."""
         return self._opened().answers(stream)
 
     def close(self) -> None:
-        """Ends the process, if there is one, and raises what it told of its words or of a device. What wasn't answered yet isn't.
+        """Ends the process, if there is one, and raises what it reported. What wasn't read yet is lost.
 
-        To listen or to ask for answers is a `ValueError` then.
+        After that `listen` and `answers` are a `ValueError`.
         """
         self._is_closed = True
         self._by.close()

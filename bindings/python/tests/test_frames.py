@@ -5,8 +5,9 @@ usage: test_frames.py [FOLDER]
 import array
 import asyncio
 import copy
-import ctypes
+import ctypes.util
 import fcntl
+import functools
 import gc
 import io
 import os
@@ -406,7 +407,14 @@ def test_wheel(folder):
     assert contents[0] == contents[1], "two wheels of the same files differ"
     assert "-py3-none-manylinux_2_17_" in wheels[0], wheels[0]
     bare = built("build_wheel", os.path.join(folder, "bare"), "wire='no'")
-    assert "frames/wire" not in zipfile.ZipFile(bare).namelist()
+    assert not {"frames/wire", "frames/libwire.so"} & set(zipfile.ZipFile(bare).namelist())
+    # for a processor without a stored program: the library of typed messages
+    code = "import platform, sys; platform.machine = lambda: 'aarch64'; sys.path.insert(0, sys.argv[1]); import build_frames; print(build_frames.build_wheel(sys.argv[2]))"
+    environment = {name: value for name, value in os.environ.items() if name not in ("FRAMES_LIBRARY", "WIRE", "WIRE_LIBRARY")}
+    package = os.path.dirname(os.path.dirname(os.path.abspath(frames.__file__)))
+    other = subprocess.run([sys.executable, "-B", "-c", code, package, folder], check=True, capture_output=True, text=True, env=environment).stdout.strip()
+    names = zipfile.ZipFile(os.path.join(folder, other)).namelist()
+    assert "frames/libwire.so" in names and "frames/wire" not in names and other.endswith("manylinux_2_17_aarch64.whl"), (other, names)
     site = os.path.join(folder, "site")
     with zipfile.ZipFile(wheels[0]) as archive:
         archive.extractall(site)
@@ -571,6 +579,12 @@ def test_value_field(folder, wire):
     loop = []
     loop.append(loop)
     assert refuses(ValueError, written, "u8", loop)
+    try:  # no option of the program is named that a call doesn't take
+        written("[Node; 1]", [functools.reduce(lambda held, _: {"value": held}, range(90), None)])
+    except ValueError as error:
+        assert str(error).endswith("nested too deeply"), error
+    else:
+        raise AssertionError("not refused")
 
 
 def test_typed(folder, wire):
@@ -606,6 +620,15 @@ def test_typed(folder, wire):
                 raise AssertionError("not refused")
     receiver.close()
     assert all(refuses(TypeError, typed.write, path, "u8", values) for values in (b"ab", bytearray(b"ab"), memoryview(b"ab")))
+    if not wire:  # a file with a comma in its name is one file; of several, the program is what reads them
+        with_comma = os.path.join(folder, "a,b.rs")
+        pathlib.Path(with_comma).write_text(pathlib.Path(path).read_text(encoding="utf-8"), encoding="utf-8")
+        assert typed.write(with_comma, "Reading", values) + b"\x01\x02\x03\0" == stream
+        for module in (frames, typed):
+            assert refuses(OSError, module.library, ctypes.util.find_library("c")), "another library"
+    for name in (None, b"u8", 5):
+        assert refuses(TypeError, typed.write, path, name, [], 0, wire) and refuses(TypeError, typed.TypedReceiver, path, name, 0, False, wire), name
+    assert all(refuses(TypeError, call, receiver) for call in (copy.copy, copy.deepcopy, pickle.dumps))
     if not wire:  # a process answers one stream
         with typed.TypedReceiver(path, "Reading") as receiver:
             for _ in range(2):

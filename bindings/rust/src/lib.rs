@@ -1,12 +1,11 @@
 //! Messages as frames over a line that may break, by a static library whose code is proved: safe calls over its C functions.
 //!
-//! **What plain bytes don't promise**: where a send breaks off, a front of a *plain* message may be heard as a message that nobody
-//! sent. So messages are *counted* unless a call says `plain`: their length stands in front of them as `postcard` spells a `&[u8]`,
-//! and each that is heard was sent, whatever broke off. A byte that was changed on the line may still make another message: see
-//! [`seal`] and [`unseal`].
+//! If a send of a *plain* message is interrupted, a prefix of it may be received as a message that nobody sent. So messages are *counted*
+//! unless a call says `plain`: their length goes first, as `postcard` encodes a `&[u8]`, and each message that is received was sent,
+//! whatever was interrupted. A byte that changed on the line may still make another message: [`seal`] and [`unseal`] are against that.
 //!
-//! No call takes memory, waits or panics. What a caller of the C functions owes, that pointers are good and nothing written overlaps,
-//! Rust's slices promise. This crate itself is tested, not proved.
+//! No call allocates, waits or panics. The C functions require good pointers and that nothing written overlaps: Rust's slices are so.
+//! This crate is tested, not proved.
 //!
 //! ```
 //! use frames::{Event, Receiver, Sender};
@@ -37,7 +36,7 @@ mod raw;
 use core::fmt;
 use core::mem::MaybeUninit;
 
-/// What is to be written doesn't fit.
+/// The buffer is too small.
 #[derive(Clone, Copy, PartialEq, Eq, Debug)]
 pub struct NoRoom;
 
@@ -46,7 +45,7 @@ pub struct NoRoom;
 pub enum DecodeError {
     /// There is no byte but zeros.
     Empty,
-    /// The bytes are no frame; so many bytes of a message they decide.
+    /// The bytes are no frame, after so many bytes of a message.
     Invalid(usize),
     /// The message doesn't fit.
     NoRoom,
@@ -63,7 +62,7 @@ impl fmt::Display for DecodeError {
         match self {
             DecodeError::Empty => f.write_str("no frame"),
             DecodeError::Invalid(decided) => {
-                write!(f, "no frame, behind {decided} bytes of a message")
+                write!(f, "no frame, after {decided} bytes of a message")
             }
             DecodeError::NoRoom => f.write_str("no room"),
         }
@@ -98,7 +97,7 @@ fn read(read: raw::Read) -> Result<(usize, usize), DecodeError> {
     }
 }
 
-/// The most bytes that the frame of a message of so many bytes has; nothing where no message is so long.
+/// The most bytes that the frame of a message of so many bytes has; `None` if no message is so long.
 pub fn most_encoded_length(length: usize) -> Option<usize> {
     match unsafe { raw::frames_c_most_encoded_length(length) } {
         0 => None,
@@ -111,8 +110,8 @@ pub fn encoded_length(message: &[u8]) -> usize {
     unsafe { raw::frames_c_encoded_length(message.as_ptr(), message.len()) }
 }
 
-/// Writes the shortest frame of a message's bytes to the front of a buffer, each XORed with the sentinel, and answers its length. Where
-/// it doesn't fit the buffer stays as it is.
+/// Writes the shortest frame of a message, each byte XORed with the sentinel, to the start of a buffer, and returns its length. Errors:
+/// `NoRoom`, and the buffer is unchanged.
 ///
 /// ```
 /// let mut frame = [0u8; 5];
@@ -131,16 +130,15 @@ pub fn encode(message: &[u8], dest: &mut [u8], sentinel: u8) -> Result<usize, No
     })
 }
 
-/// Decodes the first frame of a source, behind any zeros: how many bytes were used, and how long the message is, which then stands
-/// in front of the buffer.
+/// Decodes the first frame of a source, after any zeros, to the start of `dest`. Returns how many bytes were used, and the message's length.
 pub fn decode(source: &[u8], dest: &mut [u8]) -> Result<(usize, usize), DecodeError> {
     read(unsafe {
         raw::frames_c_decode(source.as_ptr(), source.len(), dest.as_mut_ptr(), dest.len())
     })
 }
 
-/// Decodes the bytes before the first sentinel, or all if there is none. If there are no bytes before it, that is a message of none, and no
-/// error.
+/// Decodes the bytes before the first sentinel, or all if there is none, to the start of `dest`, and returns the message's length. If there
+/// are no bytes before the sentinel, the message has none: that is no error.
 ///
 /// ```
 /// let mut message = [0u8; 4];
@@ -169,17 +167,18 @@ pub fn decode_with_sentinel(
     }
 }
 
-/// The same over the bytes themselves: how many there were, and how long the message is, which then stands in front.
+/// The same within one buffer. Returns how many bytes there were before the sentinel, and the length of the message, which is then at the
+/// buffer's start.
 pub fn decode_in_place(buffer: &mut [u8], sentinel: u8) -> Result<(usize, usize), DecodeError> {
     read(unsafe { raw::frames_c_decode_in_place(buffer.as_mut_ptr(), buffer.len(), sentinel) })
 }
 
-/// The CRC-32 of bytes, as Ethernet, gzip and PNG have it.
+/// The CRC-32 of bytes, as in Ethernet, gzip and PNG.
 pub fn crc32(bytes: &[u8]) -> u32 {
     unsafe { raw::frames_c_crc32(bytes.as_ptr(), bytes.len()) }
 }
 
-/// Puts the sum of the first bytes of a buffer behind them, as four bytes, the lowest first, and answers how many are to be sent.
+/// Writes the CRC-32 of the first `length` bytes of a buffer after them, as four bytes, the lowest first, and returns how many are to be sent.
 ///
 /// ```
 /// let mut message = *b"hi____";
@@ -192,7 +191,7 @@ pub fn seal(buffer: &mut [u8], length: usize) -> Result<usize, NoRoom> {
     written(unsafe { raw::frames_c_seal(buffer.as_mut_ptr(), buffer.len(), length) })
 }
 
-/// The message before its sum; nothing where its last four bytes aren't that.
+/// The message before its CRC-32; `None` if the last four bytes aren't that.
 pub fn unseal(message: &[u8]) -> Option<&[u8]> {
     let sealed = unsafe { raw::frames_c_unseal(message.as_ptr(), message.len()) };
     if sealed.status == raw::OK {
@@ -202,18 +201,18 @@ pub fn unseal(message: &[u8]) -> Option<&[u8]> {
     }
 }
 
-/// What became of a stretch.
+/// What the bytes between two sentinels are.
 #[derive(Clone, Copy, PartialEq, Eq, Debug)]
 pub enum Event<'a> {
-    /// Its message.
+    /// A message.
     Message(&'a [u8]),
-    /// It has so many bytes and is no frame, or its message isn't a counted one.
+    /// So many bytes that are no frame, or whose message isn't counted.
     Damaged(usize),
-    /// It has more bytes than the buffer.
+    /// More bytes than the buffer has.
     TooLong,
 }
 
-/// Receives messages from a stream that comes in pieces, over a buffer, which is its limit.
+/// Receives messages from a stream that comes in chunks, with at most as many bytes between two sentinels as its buffer has.
 #[derive(Debug)]
 pub struct Receiver<'a> {
     state: raw::Receiver,
@@ -253,7 +252,8 @@ impl<'a> Receiver<'a> {
         }
     }
 
-    /// Takes bytes up to the first event, and answers how many, and that event, if any. Push the rest again.
+    /// Takes bytes up to the first event, and returns how many, and that event, if any. Push the rest again.
+    #[must_use = "the bytes after the first event aren't taken: push them again"]
     pub fn push(&mut self, bytes: &[u8]) -> (usize, Option<Event<'_>>) {
         let push = if self.plain {
             raw::frames_c_push_plain
@@ -297,8 +297,9 @@ impl<'a> Receiver<'a> {
         self.event(event)
     }
 
-    /// What a piece brings about, one event after another. A message is lent until the next is asked for, so this isn't an `Iterator`,
-    /// as [`Receiver::events`] is; `while let Some(event) = heard.next()` goes over it. What isn't asked for isn't taken.
+    /// The events of a chunk, one after another. A message is borrowed until the next call of `next`, so this isn't an `Iterator`, as
+    /// [`Receiver::events`] is: `while let Some(event) = heard.next()` goes over it. All bytes of the chunk are taken at the latest when this is
+    /// dropped, and the events that weren't asked for are lost.
     pub fn hear<'r, 'p>(&'r mut self, piece: &'p [u8]) -> Heard<'r, 'a, 'p> {
         Heard {
             receiver: self,
@@ -306,9 +307,9 @@ impl<'a> Receiver<'a> {
         }
     }
 
-    /// An iterator over what a piece brings about. Each message is copied to the room, so that it stays while others are asked for. The
-    /// room is to have as many bytes as are begun and as the piece has, so that there is place for each; else nothing is taken. What
-    /// isn't asked for isn't taken.
+    /// An iterator over the events of a chunk. Each message is copied to `room`. Errors: `NoRoom`, if that has fewer bytes than are begun and
+    /// than the chunk has together; nothing is taken then. All bytes of the chunk are taken at the latest when the iterator is dropped, and
+    /// the events that weren't asked for are lost.
     ///
     /// ```
     /// use frames::{Event, Receiver};
@@ -336,26 +337,26 @@ impl<'a> Receiver<'a> {
         })
     }
 
-    /// Hands on each event of a piece. If `hear` panics, the events of the rest are dropped: the receiver stands behind the piece then too.
+    /// Calls `hear` with each event of a chunk. If `hear` panics, all bytes of the chunk are taken too, and the events of the rest are lost.
     pub fn push_all(&mut self, piece: &[u8], mut hear: impl FnMut(Event<'_>)) {
-        let mut all = All(self.hear(piece));
-        while let Some(event) = all.0.next() {
+        let mut all = self.hear(piece);
+        while let Some(event) = all.next() {
             hear(event);
         }
     }
 
-    /// How many bytes a begun stretch has so far.
+    /// How many bytes have come since the last sentinel; 0 after `TooLong`.
     pub fn begun(&self) -> usize {
         unsafe { raw::frames_c_begun(&self.state) }
     }
 
-    /// Ends the stream, and begins a new one: whether a stretch was cut off.
+    /// Ends the stream, and begins a new one. Returns whether it ended inside a frame.
     pub fn finish(&mut self) -> bool {
         unsafe { raw::frames_c_finish(&mut self.state) }
     }
 
-    /// Hears all that a source gives: hands on each event, to the source's end, and answers whether a stretch was cut off there. Where
-    /// the source fails the receiver stands behind what was read, and may be listened to again.
+    /// Calls `hear` with each event of a source, to its end. Returns whether it ended inside a frame. Errors: what the source fails with; the
+    /// receiver has taken what was read before, and can listen again.
     ///
     /// ```
     /// use frames::{Event, Receiver, Source};
@@ -403,7 +404,7 @@ pub trait Source {
     /// Why it failed.
     type Error;
 
-    /// Reads what is there to the front of the room, at least a byte, and returns how many; none at the end.
+    /// Reads what is there to the start of `room`, at least a byte, and returns how many; 0 at the end.
     fn read(&mut self, room: &mut [u8]) -> Result<usize, Self::Error>;
 }
 
@@ -433,7 +434,8 @@ impl<S: Sink + ?Sized> Sink for &mut S {
     }
 }
 
-/// What a piece brings about, one event after another.
+/// The events of a chunk, one after another. Dropping it takes the rest of the chunk.
+#[must_use = "the events that aren't asked for are lost"]
 #[derive(Debug)]
 pub struct Heard<'r, 'a, 'p> {
     receiver: &'r mut Receiver<'a>,
@@ -441,7 +443,7 @@ pub struct Heard<'r, 'a, 'p> {
 }
 
 impl Heard<'_, '_, '_> {
-    /// The next event; none where all bytes were taken.
+    /// The next event; none once all bytes were taken.
     #[allow(clippy::should_implement_trait)]
     pub fn next(&mut self) -> Option<Event<'_>> {
         let (used, event) = self.receiver.push(self.rest);
@@ -450,16 +452,15 @@ impl Heard<'_, '_, '_> {
     }
 }
 
-/// Takes what wasn't asked for. Else the next push could begin inside a frame, and its end be heard as a message that nobody sent.
-struct All<'r, 'a, 'p>(Heard<'r, 'a, 'p>);
-
-impl Drop for All<'_, '_, '_> {
+/// Takes what wasn't asked for. Else the next push could begin inside a frame, and its end be received as a message that nobody sent.
+impl Drop for Heard<'_, '_, '_> {
     fn drop(&mut self) {
-        while self.0.next().is_some() {}
+        while self.next().is_some() {}
     }
 }
 
-/// The events of a piece, as an iterator.
+/// The events of a chunk, as an iterator. Dropping it takes the rest of the chunk.
+#[must_use = "the events that aren't asked for are lost"]
 #[derive(Debug)]
 pub struct Events<'r, 'a, 'p, 'm> {
     heard: Heard<'r, 'a, 'p>,
@@ -488,7 +489,7 @@ impl<'m> Iterator for Events<'_, '_, '_, 'm> {
 /// Why a message didn't go out.
 #[derive(Clone, Copy, PartialEq, Eq, Debug)]
 pub enum SendError<E> {
-    /// It doesn't fit the room: nothing was written.
+    /// The room is too small: nothing was written.
     NoRoom,
     /// The line failed: the next send begins with a sentinel.
     Line(E),
@@ -555,7 +556,7 @@ impl<T: std::io::Write> Sink for Io<T> {
     }
 }
 
-/// Makes what goes out for each message.
+/// Makes the bytes to write for each message.
 #[derive(Debug)]
 pub struct Sender {
     state: raw::Sender,
@@ -579,8 +580,8 @@ impl Sender {
         }
     }
 
-    /// Writes the bytes of one send to the front of a buffer, and answers how many. Call `sent` once all of them went out; where
-    /// they didn't, the next send begins with a sentinel. Where they don't fit nothing changes, neither here nor in the buffer.
+    /// Writes the bytes of one send to the start of a buffer, and returns how many. Call `sent` once all of them went out; if they didn't, the
+    /// next send begins with a sentinel. Errors: `NoRoom`, and neither the sender nor the buffer has changed.
     ///
     /// ```
     /// let mut out = [0u8; 8];
@@ -609,7 +610,7 @@ impl Sender {
         unsafe { raw::frames_c_sent(&mut self.state) }
     }
 
-    /// Sends a message over a line, by way of a room.
+    /// Sends a message over a line. `room` holds its frame meanwhile.
     pub fn send_over<S: Sink>(
         &mut self,
         message: &[u8],

@@ -69,6 +69,35 @@ fn std_reads_and_writes() -> Result<(), Box<dyn Error>> {
     Ok(())
 }
 
+/// Whoever asks for one event of a chunk loses the others, and no more: the end of a frame isn't received as a message.
+#[test]
+fn what_is_not_asked_for_is_lost() {
+    let (mut out, mut buffer, mut room) = ([0u8; 64], [0u8; 32], [0u8; 64]);
+    let mut line = b"\x00\x04\x02hi\x00".to_vec();
+    let n = Sender::new(0).send(b"\x09\x09\x03\x01X", &mut out).unwrap();
+    line.extend_from_slice(&out[1..n]);
+    for at in 6..line.len() {
+        for by in ["hear", "events", "nothing"] {
+            let mut receiver = Receiver::new(&mut buffer, 0);
+            match by {
+                "hear" => assert!(receiver.hear(&line[..at]).next().is_some()),
+                "events" => {
+                    let mut events = receiver.events(&line[..at], &mut room).unwrap();
+                    assert_eq!(events.next(), Some(Event::Message(b"hi")));
+                }
+                _ => drop(receiver.hear(&line[..at])),
+            }
+            let mut heard = receiver.hear(&line[at..]);
+            assert_eq!(
+                heard.next(),
+                Some(Event::Message(b"\x09\x09\x03\x01X")),
+                "{by} {at}"
+            );
+            assert_eq!(heard.next(), None);
+        }
+    }
+}
+
 #[test]
 fn failures_are_errors() -> Result<(), Box<dyn Error>> {
     let mut sender = Sender::new(0);
