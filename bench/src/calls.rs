@@ -34,7 +34,7 @@ type IntoBuffer = unsafe extern "C" fn(*const u8, usize, *mut u8, usize) -> Answ
 type InPlace = unsafe extern "C" fn(*mut u8, usize) -> Answer;
 type IntoBufferFor = unsafe extern "C" fn(*const u8, usize, *mut u8, usize, u8) -> Answer;
 type InPlaceFor = unsafe extern "C" fn(*mut u8, usize, u8) -> Answer;
-type Within = unsafe extern "C" fn(*mut u8, usize, usize, u8) -> usize;
+type Within = unsafe extern "C" fn(*mut u8, usize, u8) -> usize;
 type Length = unsafe extern "C" fn(*const u8, usize) -> usize;
 type Before = unsafe extern "C" fn(*const u8, usize, u8) -> usize;
 type Bytes = unsafe extern "C" fn(*const u8, usize, *mut Found);
@@ -162,12 +162,12 @@ impl Calls {
         answered(unsafe { (self.decode_in_place_for)(buf.as_mut_ptr(), buf.len(), sentinel) })
     }
 
-    /// The frame of a message of n bytes, 254 at most, which stands behind the first byte.
+    /// The frame of a message of n bytes, 254 at most, which stands behind the first byte of 255 or more.
     #[inline]
     pub fn encode_in_place(&self, buf: &mut [u8], n: usize) -> usize {
-        assert!(n <= 254 && n < buf.len());
-        // SAFETY: a slice by its pointer and its length, with what the call asks for.
-        unsafe { (self.encode_in_place)(buf.as_mut_ptr(), buf.len(), n, 0) }
+        assert!(n <= 254 && buf.len() >= 255);
+        // SAFETY: an array by its pointer, with what the call asks for.
+        unsafe { (self.encode_in_place)(buf.as_mut_ptr(), n, 0) }
     }
 
     #[inline]
@@ -235,7 +235,7 @@ macro_rules! calls {
                 #[link_name = concat!($prefix, "cobs_c_decode_in_place_with_sentinel")]
                 fn decode_in_place_for(b: *mut u8, n: usize, sentinel: u8) -> Answer;
                 #[link_name = concat!($prefix, "cobs_c_encode_in_place")]
-                fn encode_in_place(b: *mut u8, m: usize, n: usize, sentinel: u8) -> usize;
+                fn encode_in_place(b: *mut u8, n: usize, sentinel: u8) -> usize;
                 #[link_name = concat!($prefix, "cobs_c_encoded_length")]
                 fn encoded_length(s: *const u8, n: usize) -> usize;
                 #[link_name = concat!($prefix, "cobs_c_before_sentinel")]

@@ -194,6 +194,8 @@ fn count_standing(source: &[u8], kind: &str) {
     let len = source.len();
     let mut message = vec![0];
     message.extend_from_slice(source);
+    // ours takes an array
+    message.resize(255, 0);
     let mut frames = Vec::new();
     let nothing: Within = |buf, n| black_box(buf.len() + n);
     for (call, whose, within) in STANDING.iter().copied().chain([("nothing", "standing", nothing)]) {
@@ -203,6 +205,7 @@ fn count_standing(source: &[u8], kind: &str) {
             buf.copy_from_slice(black_box(&message));
             black_box(within(black_box(&mut buf), black_box(len)));
         });
+        buf.truncate(len + 1);
         frames.push(buf);
     }
     frames.pop();
