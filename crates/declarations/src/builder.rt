@@ -9,7 +9,7 @@ mod types;
 use crate::known::NOWHERE;
 use crate::names::Scopes;
 use crate::read::Declared;
-use crate::{Error, Named, Names, Schema};
+use crate::{CheckedSources, Error, Named, Names, Schema};
 use declaration_parser::attributes::same_words;
 use declaration_parser::cursor::Cursor;
 use declaration_parser::declaration::{Body, Declaration};
@@ -17,6 +17,7 @@ use declaration_parser::tokens::{Token, is_lifetime};
 use schema_table::Node;
 use std::alloc::Global;
 use std::collections::BTreeMap;
+use std::slice;
 
 /// How deep the words of one type may nest, as `Vec<Option<u8>>` nests three deep.
 const DEEPEST: u32 = 64;
@@ -69,6 +70,8 @@ pub struct Builder<'a, 'b> {
     types: Vec<Named>,
     nodes: Vec<Node>,
     called: Vec<Names>,
+    /// Of each node whether it can be read: whether the table has the places of all types in it.
+    readable: Vec<bool>,
 }
 
 /// Whether a declaration has other parameters than lifetimes.
@@ -80,12 +83,39 @@ fn has_type_parameters(it: &Declaration<'_>) -> bool {
 
 /// Whether the same words stand for parameters.
 fn are_same(first: &[Given<'_>], second: &[Given<'_>]) -> bool {
-    for (one, other) in first.iter().zip(second) {
-        if one.here != other.here || one.own != other.own || !same_words(one.words, other.words) {
-            return false;
+    first.iter().zip(second).all(|(one, other)| {
+        one.here == other.here && one.own == other.own && same_words(one.words, other.words)
+    })
+}
+
+/// The places of the types in a node.
+fn parts_of(node: &Node) -> &[usize] {
+    match node {
+        Node::Struct(parts) | Node::Enum(parts) => parts,
+        Node::Option(inner)
+        | Node::List(inner)
+        | Node::ListUpTo(_, inner)
+        | Node::Array(_, inner) => slice::from_ref(inner),
+        _ => &[],
+    }
+}
+
+/// Notes that nodes can't be read whose types can't be, from the last node to the first; and whether there were some.
+fn find_unreadable(nodes: &[Node], readable: &mut [bool]) -> bool {
+    let mut found = false;
+    for (place, node) in nodes.iter().enumerate().rev() {
+        let is_right = parts_of(node)
+            .iter()
+            .all(|part| readable.get(*part).copied().unwrap_or(false));
+        if let Some(it) = readable.get_mut(place)
+            && *it
+            && !is_right
+        {
+            *it = false;
+            found = true;
         }
     }
-    true
+    found
 }
 
 impl<'a, 'b> Builder<'a, 'b> {
@@ -106,6 +136,7 @@ impl<'a, 'b> Builder<'a, 'b> {
             types: Vec::new(alloc),
             nodes: Vec::new(alloc),
             called: Vec::new(alloc),
+            readable: Vec::new(alloc),
         }
     }
 
@@ -137,6 +168,7 @@ impl<'a, 'b> Builder<'a, 'b> {
         let place = self.nodes.len();
         self.words.push(&mut self.nodes, node);
         self.words.push(&mut self.called, names);
+        self.words.push(&mut self.readable, true);
         place
     }
 
@@ -152,10 +184,15 @@ impl<'a, 'b> Builder<'a, 'b> {
 
     /// Appends a name to a list.
     fn keep_name(&mut self, names: &mut Vec<String>, name: &str) {
-        match String::from_str(self.alloc, name) {
-            Ok(name) => self.words.push(names, name),
-            Err(_) => self.words.faults.note(true),
-        }
+        let name = self.text_of(name);
+        self.words.push(names, name);
+    }
+
+    /// A copy of a name.
+    fn text_of(&mut self, name: &str) -> String {
+        let text = String::from_str(self.alloc, name);
+        self.words.faults.note(text.is_err());
+        text.unwrap_or(String::new(self.alloc))
     }
 
     /// Begins the table with all declared types without parameters, in their order, and says what is wrong beside them: with the
@@ -170,16 +207,9 @@ impl<'a, 'b> Builder<'a, 'b> {
             }
             let of = Vec::new(self.alloc);
             self.owe_type(index, of, DEEPEST);
-            match String::from_str(self.alloc, it.name) {
-                Ok(name) => self.words.push(
-                    &mut self.types,
-                    Named {
-                        name,
-                        line: it.line,
-                    },
-                ),
-                Err(_) => self.words.faults.note(true),
-            }
+            let name = self.text_of(it.name);
+            let line = it.line;
+            self.words.push(&mut self.types, Named { name, line });
         }
     }
 
@@ -226,13 +256,14 @@ impl<'a, 'b> Builder<'a, 'b> {
             return;
         }
         self.own = own;
-        self.turn_to(self.names.stand(index).scope);
+        let stand = self.names.stand(index);
+        self.turn_to(stand.scope);
         self.words.is_wrong = false;
         self.words.name = it.name;
         self.words.variant = "";
         self.words.field = None;
         self.words.line = it.line;
-        if self.declared.twice.get(index).copied().unwrap_or(false) {
+        if stand.is_second {
             self.wrong(&[TWICE]);
             return;
         }
@@ -249,7 +280,7 @@ impl<'a, 'b> Builder<'a, 'b> {
         self.whole(words, DEEPEST)
     }
 
-    /// Makes the types that are still to be made, and those that these need.
+    /// Makes the types that are still to be made, and those that these need; then it is known what can be read.
     fn make_owed(&mut self) {
         for own in 0..usize::MAX {
             let Some(it) = self.made.get(own) else {
@@ -258,12 +289,17 @@ impl<'a, 'b> Builder<'a, 'b> {
             let (index, place, depth) = (it.index, it.place, it.depth);
             self.make(own, index, place, depth);
         }
+        for _ in 0..self.nodes.len() {
+            if !find_unreadable(&self.nodes, &mut self.readable) {
+                break;
+            }
+        }
     }
 
     /// The table with all types that are still to be made, and what is wrong, a line each. Each node has names.
-    pub fn finished(self) -> Result<(Schema, String), Error>
-        ensures named { IfOk result (λ r. length r.0.names.items ≡ length r.0.nodes.items) }
-        ensures declared { IfOk result (λ r. length r.0.types.items ≤ length r.0.nodes.items) }
+    pub fn finished(self) -> Result<CheckedSources, Error>
+        ensures named { IfOk result (λ c. length c.schema.names.items ≡ length c.schema.nodes.items) }
+        ensures declared { IfOk result (λ c. length c.schema.types.items ≤ length c.schema.nodes.items) }
     {
         let mut builder = self;
         builder.make_owed();
@@ -280,6 +316,10 @@ impl<'a, 'b> Builder<'a, 'b> {
             nodes: builder.nodes,
             names: builder.called,
         };
-        Ok((schema, wrong))
+        Ok(CheckedSources {
+            schema,
+            readable: builder.readable,
+            wrong,
+        })
     }
 }

@@ -11,11 +11,11 @@ mod uses;
 use crate::known::{KNOWN_CRATES, is_everywhere};
 pub use candidates::Space;
 use declaration_parser::declaration::Declaration;
-use declaration_parser::items::{Kind, Scope, Walk};
+use declaration_parser::items::{self, Kind, Scope, Walk};
 use declaration_parser::tokens::{Read, Token, is_listed};
 use folders::module_of_file;
 use leads::Lead;
-use macros::{Call, Rules};
+pub use macros::has_word;
 pub use rule::{Found, Path};
 use std::alloc::{AllocError, Global};
 use std::collections::BTreeMap;
@@ -66,12 +66,20 @@ struct Import<'a> {
     lead: Lead<'a>,
 }
 
-/// Where a declaration is, and how many declarations are where it was found.
+/// Where a declaration is, how many declarations are where it was found, and whether another of its name precedes it in its module.
 #[derive(Clone, Copy, Drop)]
 pub struct Stand {
     pub scope: usize,
     pub count: usize,
+    pub is_second: bool,
 }
+
+/// That of a declaration that isn't found.
+const NO_STAND: Stand = Stand {
+    scope: 0,
+    count: 0,
+    is_second: false,
+};
 
 /// The names of files. If memory runs out for one, [`failed`](Scopes::failed) says so.
 #[derive(Drop)]
@@ -82,18 +90,18 @@ pub struct Scopes<'a> {
     items: Vec<Item<'a>>,
     imports: Vec<Import<'a>>,
     stands: Vec<Stand>,
+    /// The names of marked declarations in their scopes.
+    marked: BTreeMap<(usize, &'a str), ()>,
     /// All names that are declared, or brought in from what isn't known; and all that a `use` or a module has.
     named: BTreeMap<&'a str, ()>,
     used: BTreeMap<&'a str, ()>,
     /// From which scope a `*` leads to which others, also by those of others.
     ways: BTreeMap<(usize, usize), ()>,
     /// The rules of macros, and calls that may declare something.
-    rules: Vec<Rules<'a>>,
-    calls: Vec<Call<'a>>,
-    /// Names that are handed to macros.
-    pub handed: Vec<&'a str>,
-    /// The words in tables of endpoints and topics.
-    pub endpoints: Vec<&'a str>,
+    rules: Vec<items::Item<'a>>,
+    calls: Vec<items::Item<'a>>,
+    /// Tables of endpoints and topics of postcard-rpc's, which aren't read.
+    pub endpoints: Vec<&'a [Token]>,
     pub failed: bool,
 }
 
@@ -123,12 +131,12 @@ impl<'a> Scopes<'a> {
             items: Vec::new(alloc),
             imports: Vec::new(alloc),
             stands: Vec::new(alloc),
+            marked: BTreeMap::new(alloc),
             named: BTreeMap::new(alloc),
             used: BTreeMap::new(alloc),
             ways: BTreeMap::new(alloc),
             rules: Vec::new(alloc),
             calls: Vec::new(alloc),
-            handed: Vec::new(alloc),
             endpoints: Vec::new(alloc),
             failed: walk.failed,
         };
@@ -183,7 +191,7 @@ impl<'a> Scopes<'a> {
 
     /// Notes which item a marked declaration is, and where it is.
     fn mark(&mut self, index: usize, it: &Declaration<'a>) {
-        let mut stand = Stand { scope: 0, count: 0 };
+        let mut stand = NO_STAND;
         for place in 0..self.items.len() {
             let Some(item) = self.items.get(place).copied() else {
                 break;
@@ -198,15 +206,15 @@ impl<'a> Scopes<'a> {
                 item.what = What::Marked(index);
             }
         }
+        let before = self.marked.insert((stand.scope, it.name), ());
+        stand.is_second = matches!(before, Ok(Some(())));
+        self.failed = before.is_err() || self.failed;
         self.failed = self.stands.push(stand).is_err() || self.failed;
     }
 
     /// Where a marked declaration is.
     pub fn stand(&self, index: usize) -> Stand {
-        match self.stands.get(index) {
-            Some(stand) => *stand,
-            None => Stand { scope: 0, count: 0 },
-        }
+        self.stands.get(index).copied().unwrap_or(NO_STAND)
     }
 
     /// Adds a scope for words that are in no file, which sees what the files declare.

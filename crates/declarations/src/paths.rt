@@ -14,7 +14,7 @@ pub struct PathAt<'a> {
 
 /// The path at the start of words. What is in brackets may follow `::` too, as in `Vec::<u8>`.
 pub fn path_at(words: &[Token]) -> PathAt<'_> {
-    let mut path = Path::new();
+    let mut path = Path::default();
     let mut last = "";
     let mut rest = words;
     for _ in 0..words.len() {

@@ -8,9 +8,7 @@ use declaration_parser::declaration::Declaration;
 use declaration_parser::parser::Purpose;
 use declaration_parser::reading::declarations;
 use declaration_parser::tokens::{Read, tokens_of};
-use schema_table::Node;
 use std::alloc::{AllocError, Global};
-use std::collections::BTreeMap;
 use std::slice;
 
 /// What is said if no file is named.
@@ -58,8 +56,6 @@ pub struct Declared<'a> {
     pub names: Scopes<'a>,
     /// The scope of words that are in no file, but asked for.
     pub asked: usize,
-    /// Of each whether another of its name precedes it in its module.
-    pub twice: Vec<bool>,
     /// What is wrong with the files, a line each.
     pub faults: String,
 }
@@ -69,20 +65,11 @@ impl<'a> Declared<'a> {
     fn new(alloc: Global, files: &'a [Read]) -> Result<Declared<'a>, AllocError> {
         let (all, faults) = declarations(alloc, Purpose::Schemas, files)?;
         let mut names = Scopes::new(alloc, files, &all)?;
-        let mut met = BTreeMap::new(alloc);
-        let mut twice = Vec::new(alloc);
-        for (index, it) in all.iter().enumerate() {
-            match met.insert((names.stand(index).scope, it.name), ()) {
-                Ok(before) => twice.push(before.is_some())?,
-                Err(_) => return Err(AllocError),
-            }
-        }
         let asked = names.add_outside();
         Ok(Declared {
             all,
             names,
             asked,
-            twice,
             faults,
         })
     }
@@ -131,17 +118,17 @@ fn read_all(alloc: Global, files: &[Read]) -> Result<Schema, Error>
     ensures named { IfOk result (λ s. length s.names.items ≡ length s.nodes.items) }
     ensures declared { IfOk result (λ s. length s.types.items ≤ length s.nodes.items) }
 {
-    let (schema, wrong) = table_of(alloc, files)?;
-    if !wrong.is_empty() {
-        return Err(Error::Wrong(wrong));
+    let made = table_of(alloc, files)?;
+    if !made.wrong.is_empty() {
+        return Err(Error::Wrong(made.wrong));
     }
-    Ok(schema)
+    Ok(made.schema)
 }
 
 /// The same table, and what is wrong.
-fn table_of(alloc: Global, files: &[Read]) -> Result<(Schema, String), Error>
-    ensures named { IfOk result (λ r. length r.0.names.items ≡ length r.0.nodes.items) }
-    ensures declared { IfOk result (λ r. length r.0.types.items ≤ length r.0.nodes.items) }
+fn table_of(alloc: Global, files: &[Read]) -> Result<CheckedSources, Error>
+    ensures named { IfOk result (λ c. length c.schema.names.items ≡ length c.schema.nodes.items) }
+    ensures declared { IfOk result (λ c. length c.schema.types.items ≤ length c.schema.nodes.items) }
 {
     if files.is_empty() {
         return Err(Error::Wrong(String::from_str(alloc, NO_FILE)?));
@@ -170,67 +157,14 @@ pub fn read_type(alloc: Global, sources: &[Source], words: &str) -> Result<(Sche
     let declared = Declared::new(alloc, &files)?;
     let mut builder = Builder::new(alloc, &declared);
     let place = builder.make_asked(&read.tokens);
-    let (schema, wrong) = builder.finished()?;
-    if !wrong.is_empty() {
-        return Err(Error::Wrong(wrong));
+    let made = builder.finished()?;
+    if !made.wrong.is_empty() {
+        return Err(Error::Wrong(made.wrong));
     }
-    if place >= schema.nodes.len() {
+    if place >= made.schema.nodes.len() {
         return Err(Error::OutOfMemory);
     }
-    Ok((schema, place))
-}
-
-/// The places of the types in a node.
-fn parts_of(node: &Node) -> &[usize] {
-    match node {
-        Node::Struct(parts) | Node::Enum(parts) => parts,
-        Node::Option(inner)
-        | Node::List(inner)
-        | Node::ListUpTo(_, inner)
-        | Node::Array(_, inner) => slice::from_ref(inner),
-        _ => &[],
-    }
-}
-
-/// Whether all these places are of nodes that can be read.
-fn are_readable(readable: &[bool], places: &[usize]) -> bool {
-    !places
-        .iter()
-        .any(|place| !readable.get(*place).copied().unwrap_or(false))
-}
-
-/// Notes that nodes can't be read whose types can't be, from the last node to the first; and whether there were some.
-fn find_unreadable(nodes: &[Node], readable: &mut [bool]) -> bool {
-    let mut found = false;
-    for behind in 0..nodes.len() {
-        let place = nodes.len().saturating_sub(behind.saturating_add(1));
-        let is_right = match nodes.get(place) {
-            Some(node) => are_readable(readable, parts_of(node)),
-            None => true,
-        };
-        if let Some(it) = readable.get_mut(place)
-            && *it
-            && !is_right
-        {
-            *it = false;
-            found = true;
-        }
-    }
-    found
-}
-
-/// Of each node whether it can be read: whether the table has the places of all types in it.
-fn readable_of(alloc: Global, nodes: &[Node]) -> Result<Vec<bool>, AllocError> {
-    let mut readable = Vec::new(alloc);
-    for _ in 0..nodes.len() {
-        readable.push(true)?;
-    }
-    for _ in 0..nodes.len() {
-        if !find_unreadable(nodes, &mut readable) {
-            break;
-        }
-    }
-    Ok(readable)
+    Ok((made.schema, place))
 }
 
 /// Returns the table of all declared types without parameters, which of them can be read, and what is wrong with the others and
@@ -244,11 +178,5 @@ pub fn check_sources(alloc: Global, sources: &[Source]) -> Result<CheckedSources
     ensures declared { IfOk result (λ c. length c.schema.types.items ≤ length c.schema.nodes.items) }
 {
     let files = tokens_in(alloc, sources)?;
-    let (schema, wrong) = table_of(alloc, &files)?;
-    let readable = readable_of(alloc, &schema.nodes)?;
-    Ok(CheckedSources {
-        schema,
-        readable,
-        wrong,
-    })
+    table_of(alloc, &files)
 }

@@ -35,7 +35,7 @@ impl<'a> Builder<'a, '_> {
         let line = self.words.line;
         self.left = MOST_NUMBERS;
         self.doubt = ("", "");
-        let number = self.value_of(words, GREATEST, DEEPEST);
+        let number = self.value_of(words, (self.here, self.own), GREATEST, DEEPEST);
         self.words.line = line;
         match number {
             Some(number) => number.value,
@@ -55,14 +55,22 @@ impl<'a> Builder<'a, '_> {
         };
     }
 
-    /// The number that all these words compute, if numbers have at most so much there which don't say their type.
+    /// The number that all these words of a scope compute, which may name the parameters of a type, if numbers have at most so
+    /// much there which don't say their type.
     #[cycle(lengths)]
-    fn value_of(&mut self, words: &'a [Token], most: u64, depth: u32) -> Option<Number> {
-        let rest = self.words.rest;
+    fn value_of(
+        &mut self,
+        words: &'a [Token],
+        place: (usize, usize),
+        most: u64,
+        depth: u32,
+    ) -> Option<Number> {
+        let before = (self.here, self.own, self.words.rest);
+        (self.here, self.own) = place;
         self.words.rest = words;
         let number = self.computed(LEVELS, most, depth);
         let is_whole = self.words.rest.is_empty();
-        self.words.rest = rest;
+        (self.here, self.own, self.words.rest) = before;
         if is_whole { number } else { None }
     }
 
@@ -94,7 +102,7 @@ impl<'a> Builder<'a, '_> {
         let mut number = match group(self.words.rest) {
             Some((inside, rest)) if self.words.peek() != "[" => {
                 self.words.rest = rest;
-                self.value_of(inside, most, depth - 1)?
+                self.value_of(inside, (self.here, self.own), most, depth - 1)?
             }
             _ => self.named_number(most, depth - 1)?,
         };
@@ -134,7 +142,7 @@ impl<'a> Builder<'a, '_> {
         self.words.rest = at.rest;
         if at.path.is_empty() {
             if let Some(it) = self.given(at.last, true) {
-                let number = self.there_is(it.words, it.here, it.own, GREATEST, depth)?;
+                let number = self.value_of(it.words, (it.here, it.own), GREATEST, depth)?;
                 return Number { most, ..number }.within(most);
             }
         }
@@ -163,27 +171,8 @@ impl<'a> Builder<'a, '_> {
         // of a type that isn't known what each has
         let (most, _) = self.width(first_word(of)).unwrap_or((127, 0));
         let most = if of.len() == 1 { most } else { 127 };
-        self.there_is(words, there, NOWHERE, most, depth)?
+        self.value_of(words, (there, NOWHERE), most, depth)?
             .within(most)
-    }
-
-    /// The number that these words of a scope compute, which may name the parameters of a type.
-    #[cycle(lengths)]
-    fn there_is(
-        &mut self,
-        words: &'a [Token],
-        here: usize,
-        own: usize,
-        most: u64,
-        depth: u32,
-    ) -> Option<Number> {
-        let before = (self.here, self.own);
-        self.here = here;
-        self.own = own;
-        let number = self.value_of(words, most, depth);
-        self.here = before.0;
-        self.own = before.1;
-        number
     }
 
     /// What a type of the language has under a name, if that is the same on all devices.

@@ -2,7 +2,7 @@
 use super::{Builder, DEEPEST, Given, NOWHERE};
 use crate::Names;
 use crate::known::{form_of, is_known, plain_node, sent_as};
-use crate::names::{Found, Space, What};
+use crate::names::{Found, Space, What, has_word};
 use crate::near::put_nearest;
 use crate::paths::{PathAt, path_at};
 use declaration_parser::attributes::{first_word, front, group, plain_name};
@@ -117,7 +117,7 @@ impl<'a> Builder<'a, '_> {
             Found::In(What::Marked(index), _) => self.instance(index, depth),
             Found::In(What::Alias(words), there) => {
                 let all = self.arguments();
-                self.refuse_more(&all, 0);
+                self.refuse_more(all.first());
                 self.there(words, there, NOWHERE, depth)
             }
             Found::Known(name) => self.known(name, depth),
@@ -197,8 +197,10 @@ impl<'a> Builder<'a, '_> {
     fn unknown(&mut self, word: &str) -> usize {
         match sent_as(word) {
             Some(sent) => self.refuse_sent(word, sent),
-            None if is_among(word, &self.names.endpoints) => self.refuse(word, ENDPOINT),
-            None if is_among(word, &self.names.handed) => self.refuse(word, HANDED),
+            None if self.names.endpoints.iter().any(|it| has_word(it, word)) => self.refuse(
+                word, ENDPOINT,
+            ),
+            None if self.names.is_first_handed(word) => self.refuse(word, HANDED),
             None => {
                 let place = self.refuse(word, UNDECLARED);
                 if self.is_asked() {
@@ -211,12 +213,10 @@ impl<'a> Builder<'a, '_> {
 
     /// What stands for a parameter of this name, which is a length or a type.
     pub(super) fn given(&self, word: &str, is_length: bool) -> Option<Given<'a>> {
-        for it in &self.made.get(self.own)?.of {
-            if it.name == word && it.is_length == is_length {
-                return Some(*it);
-            }
-        }
-        None
+        let of = &self.made.get(self.own)?.of;
+        of.iter()
+            .find(|it| it.name == word && it.is_length == is_length)
+            .copied()
     }
 
     /// The place of the type that these words of a scope say, which may name the parameters of a type.
@@ -233,27 +233,16 @@ impl<'a> Builder<'a, '_> {
 
     /// What words are that stand for a parameter: those of the parameter that they are, if they are one.
     fn given_by(&self, name: &'a str, is_length: bool, words: &'a [Token]) -> Given<'a> {
-        let mut own = NOWHERE;
-        for token in words {
-            let word = plain_name(token.text.as_str());
-            let of_type = self.given(word, false);
-            if let Some(it) = if is_length {
-                self.given(word, true)
-            } else {
-                of_type
-            }
-                && words.len() == 1
-            {
-                return Given {
-                    name,
-                    is_length,
-                    ..it
-                };
-            }
-            if word == "Self" || of_type.is_some() || self.given(word, true).is_some() {
-                own = self.own;
-            }
+        if let [only] = words
+            && let Some(it) = self.given(plain_name(only.text.as_str()), is_length)
+        {
+            return Given { name, ..it };
         }
+        let is_of_own = words.iter().any(|token| {
+            let word = plain_name(token.text.as_str());
+            word == "Self" || self.given(word, false).is_some() || self.given(word, true).is_some()
+        });
+        let own = if is_of_own { self.own } else { NOWHERE };
         Given {
             name,
             is_length,
@@ -267,29 +256,22 @@ impl<'a> Builder<'a, '_> {
     fn arguments_of(&mut self, it: &Declaration<'a>) -> Vec<Given<'a>> {
         let mut given = Vec::new(self.alloc);
         let all = self.arguments();
-        let mut count: usize = 0;
-        for name in &it.parameters {
-            if is_lifetime(name) {
-                continue;
+        let mut rest = all.iter();
+        for name in it.parameters.iter().filter(|name| !is_lifetime(name)) {
+            if let Some(words) = rest.next() {
+                let it = self.given_by(name, is_among(name, &it.lengths), words);
+                self.words.push(&mut given, it);
+            } else {
+                self.refuse(name, LEFT_OUT);
             }
-            match all.get(count) {
-                Some(words) => {
-                    let it = self.given_by(name, is_among(name, &it.lengths), words);
-                    self.words.push(&mut given, it);
-                }
-                None => {
-                    self.refuse(name, LEFT_OUT);
-                }
-            }
-            count = count.saturating_add(1);
         }
-        self.refuse_more(&all, count);
+        self.refuse_more(rest.next());
         given
     }
 
-    /// Refuses arguments after so many.
-    fn refuse_more(&mut self, all: &[&'a [Token]], count: usize) {
-        if let Some(words) = all.get(count) {
+    /// Refuses an argument that is no parameter's.
+    fn refuse_more(&mut self, words: Option<&&'a [Token]>) {
+        if let Some(words) = words {
             self.refuse(first_word(words), MORE);
         }
     }

@@ -23,7 +23,7 @@ pub(super) enum Lead<'a> {
 }
 
 /// The modules of a name in a module.
-#[derive(Clone, Copy, Drop)]
+#[derive(Clone, Copy, Default, Drop)]
 pub(super) struct Children {
     /// Whether there are some.
     pub(super) are_some: bool,
@@ -66,12 +66,7 @@ impl<'a> Scopes<'a> {
 
     /// The modules of this name that a module has in it.
     pub(super) fn children(&self, module: usize, name: &str) -> Children {
-        let mut found = Children {
-            are_some: false,
-            written: 0,
-            last: 0,
-            conditions: 0,
-        };
+        let mut found = Children::default();
         if !self.is_used(name) {
             return found;
         }
@@ -96,11 +91,8 @@ impl<'a> Scopes<'a> {
     /// Whether a module of a step has one of this name in it, under each condition.
     fn is_child_in(&self, step: Step<'a>, name: &str) -> bool {
         for place in 0..self.scopes.len() {
-            if self.is_in(place, step) {
-                let found = self.children(place, name);
-                if found.are_some && found.conditions == 0 {
-                    return true;
-                }
+            if self.is_in(place, step) && self.child_lead(place, name).is_some() {
+                return true;
             }
         }
         false
@@ -156,20 +148,16 @@ impl<'a> Scopes<'a> {
 
     /// Whether a `use` may bring in a module of this name from outside.
     fn is_brought(&self, name: &str) -> bool {
-        for it in &self.imports {
-            let is_it = (it.is_glob && it.is_public) || it.name == name;
-            if is_it && (it.leads_out() || (!it.is_glob && it.last != name)) {
-                return true;
-            }
-        }
-        false
+        self.imports.iter().any(|it| it.passes_on(name)
+            && (it.leads_out() || (!it.is_glob && it.last != name)))
     }
 
     /// Whether a `*` of a module, or of one round it, may bring in what isn't in these files.
     fn is_open(&self, module: usize) -> bool {
         let mut at = module;
         for _ in 0..self.scopes.len() {
-            if self.has_star_out(at) {
+            let is_out = |it: &Import<'_>| it.is_glob && it.scope == at && it.leads_out();
+            if self.imports.iter().any(is_out) {
                 return true;
             }
             match self.around_module(at) {
@@ -180,24 +168,14 @@ impl<'a> Scopes<'a> {
         false
     }
 
-    /// Whether a scope has a `*` that leads out of these files.
-    fn has_star_out(&self, scope: usize) -> bool {
-        self.imports
-            .iter()
-            .any(|it| it.is_glob && it.scope == scope && it.leads_out())
-    }
-
     /// Notes where each `use` leads.
     pub(super) fn find_leads(&mut self) {
         for place in 0..self.imports.len() {
-            let lead = match self.imports.get(place) {
-                Some(it) if !it.path.is_absolute && self.is_of_body(it.scope, it.path.root) =>
-                    Lead::Doubtful,
-                Some(it) => self.lead(self.module_of(it.scope), it.path, it.last),
-                None => Lead::Outside,
-            };
-            if let Some(it) = self.imports.get_mut(place) {
-                it.lead = lead;
+            if let Some(it) = self.imports.get(place).copied() {
+                let lead = self.lead(it.scope, it.path, it.last);
+                if let Some(it) = self.imports.get_mut(place) {
+                    it.lead = lead;
+                }
             }
         }
     }
@@ -206,23 +184,16 @@ impl<'a> Scopes<'a> {
     pub(super) fn find_ways(&mut self) {
         for _ in 0..self.scopes.len() {
             let before = self.ways.len();
-            self.widen_ways();
+            for index in 0..self.imports.len() {
+                if let Some(it) = self.imports.get(index).copied()
+                    && it.is_glob
+                    && let Lead::In(step) = it.lead
+                {
+                    self.add_ways(it.scope, step);
+                }
+            }
             if self.ways.len() == before {
                 break;
-            }
-        }
-    }
-
-    /// Notes of each `*` where it leads by itself and by those that are known.
-    fn widen_ways(&mut self) {
-        for index in 0..self.imports.len() {
-            let Some(it) = self.imports.get(index).copied() else {
-                break;
-            };
-            if it.is_glob
-                && let Lead::In(step) = it.lead
-            {
-                self.add_ways(it.scope, step);
             }
         }
     }
@@ -230,15 +201,18 @@ impl<'a> Scopes<'a> {
     /// Notes that a scope has a way to those of a step, and to where these have one.
     fn add_ways(&mut self, from: usize, step: Step<'a>) {
         for place in 0..self.scopes.len() {
-            if self.is_in(place, step) || self.is_led_to(step, place) {
+            if self.leads_to(step, place) {
                 let failed = self.ways.insert((from, place), ()).is_err();
                 self.failed = failed || self.failed;
             }
         }
     }
 
-    /// Whether a `*` of one of a step's scopes leads to a scope, also by those of others.
-    pub(super) fn is_led_to(&self, step: Step<'a>, place: usize) -> bool {
+    /// Whether a scope is one of a step's, or a `*` of one of those leads to it, also by those of others.
+    pub(super) fn leads_to(&self, step: Step<'a>, place: usize) -> bool {
+        if self.is_in(place, step) {
+            return true;
+        }
         if let Step::Scope(own) = step {
             return self.ways.contains_key(&(own, place));
         }
@@ -250,8 +224,12 @@ impl<'a> Scopes<'a> {
         false
     }
 
-    /// Where a path of a module leads.
-    pub(super) fn lead(&self, module: usize, path: Path<'a>, last: &'a str) -> Lead<'a> {
+    /// Where a path leads that a scope uses.
+    pub(super) fn lead(&self, scope: usize, path: Path<'a>, last: &'a str) -> Lead<'a> {
+        if !path.is_absolute && self.is_of_body(scope, path.root) {
+            return Lead::Doubtful;
+        }
+        let module = self.module_of(scope);
         let root = path.first(last);
         let lead = if path.is_absolute {
             self.crate_lead(root)
@@ -364,29 +342,19 @@ impl<'a> Scopes<'a> {
         }
         let declared = match self.import_of(module, at) {
             Some(it) if is_first && !is_called(it.last, at) => return Lead::Wrong(RENAMED),
-            Some(it) if is_first => self.child_lead(self.imported_from(it), it.last),
+            Some(it) if is_first => self.imported_lead(it),
             _ => self.followed_lead(module, path),
         };
         if let Some(lead) = declared {
             return lead;
         }
-        let own = if is_first {
-            Step::Scope(module)
-        } else {
-            Step::All
-        };
-        if self.has_module(at) {
-            if is_first {
-                Lead::In(Step::Module(at))
-            } else if self.is_brought(at) {
-                Lead::Doubtful
-            } else {
-                self.last_lead(path)
-            }
-        } else if self.has_type(own, at) {
-            Lead::Type
-        } else {
-            Lead::Outside
+        match (self.has_module(at), is_first) {
+            (true, true) => Lead::In(Step::Module(at)),
+            (true, false) if self.is_brought(at) => Lead::Doubtful,
+            (true, false) => self.last_lead(path),
+            (false, true) if self.has_type(Step::Scope(module), at) => Lead::Type,
+            (false, false) if self.has_type(Step::All, at) => Lead::Type,
+            _ => Lead::Outside,
         }
     }
 
@@ -414,16 +382,10 @@ impl<'a> Scopes<'a> {
         }
         match found {
             Some(place) => Lead::In(Step::Scope(place)),
-            None if is_elsewhere && !self.is_passed_on(path.before) => Lead::Doubtful,
+            None if is_elsewhere && !self.imports.iter().any(|it| it.passes_on(path.before)) =>
+                Lead::Doubtful,
             None => all,
         }
-    }
-
-    /// Whether a `use` may make a module of this name one of another module.
-    fn is_passed_on(&self, name: &str) -> bool {
-        self.imports
-            .iter()
-            .any(|it| it.name == name || (it.is_glob && it.is_public))
     }
 
     /// Where a path leads whose modules are declared; nothing if it isn't known which module has the last one in it, or if a `use`
@@ -432,7 +394,7 @@ impl<'a> Scopes<'a> {
         let (base, count) = self.start_of(module, path)?;
         // a first name may be a crate's
         let top = if path.root == path.top {
-            self.child_lead(Some(base), path.top)?
+            self.child_lead(base, path.top)?
         } else {
             self.inner_lead(base, path.top)?
         };
@@ -445,7 +407,7 @@ impl<'a> Scopes<'a> {
 
     /// Where the name of a module leads in another one; nothing if a `use` may bring that in there from these files.
     fn inner_lead(&self, outer: usize, name: &str) -> Option<Lead<'a>> {
-        match self.child_lead(Some(outer), name) {
+        match self.child_lead(outer, name) {
             None if self.is_open(outer) => Some(Lead::Doubtful),
             lead => lead,
         }
@@ -467,17 +429,16 @@ impl<'a> Scopes<'a> {
         Lead::Doubtful
     }
 
-    /// The module from which a `use` brings another in, by a path of no names but `crate`, `self` and `super`.
-    fn imported_from(&self, it: &Import<'a>) -> Option<usize> {
+    /// Where a module leads that a `use` brings in by a path of no names but `crate`, `self` and `super`.
+    fn imported_lead(&self, it: &Import<'a>) -> Option<Lead<'a>> {
         match self.start_of(self.module_of(it.scope), it.path)? {
-            (base, 0) if !it.is_crate => Some(base),
+            (base, 0) if !it.is_crate => self.child_lead(base, it.last),
             _ => None,
         }
     }
 
     /// Where the name of a module leads that another one declares, under no condition; nothing if it declares none.
-    fn child_lead(&self, module: Option<usize>, name: &str) -> Option<Lead<'a>> {
-        let module = module?;
+    fn child_lead(&self, module: usize, name: &str) -> Option<Lead<'a>> {
         let found = self.children(module, name);
         if !found.are_some || found.conditions > 0 {
             return None;
@@ -500,7 +461,7 @@ impl<'a> Scopes<'a> {
             if !self.is_inner(at) {
                 break;
             }
-            if self.is_rooted(at, name) || self.may_have(at, name) {
+            if self.is_rooted(at, name) || self.has_star(at) || self.may_import(at, name) {
                 return true;
             }
             at = self.scope(at).outer;
@@ -508,23 +469,11 @@ impl<'a> Scopes<'a> {
         false
     }
 
-    /// Whether a scope has a `use` that is of a name, or may be.
-    fn may_have(&self, scope: usize, name: &str) -> bool {
-        self.imports
-            .iter()
-            .any(|it| it.scope == scope && (it.is_glob || it.name == name))
-    }
-
     /// Whether a scope has a `use` of this name, perhaps under a condition.
     pub(super) fn may_import(&self, scope: usize, name: &str) -> bool {
         self.imports
             .iter()
             .any(|it| it.scope == scope && it.name == name)
-    }
-
-    /// Whether a scope has a `use` of this name, under no condition.
-    pub(super) fn brings(&self, scope: usize, name: &str) -> bool {
-        self.imports.iter().any(|it| it.scope == scope && it.name == name && !it.is_conditional)
     }
 
     /// Whether a first name leads out of the files: to the crate of that name, or to what a `use` brings in from one of these.

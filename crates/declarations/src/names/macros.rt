@@ -7,32 +7,23 @@ use declaration_parser::attributes::{
 use declaration_parser::items::Item;
 use declaration_parser::tokens::{Token, Word, is_among};
 
-/// The rules of a macro.
-#[derive(Clone, Copy, Drop)]
-pub(super) struct Rules<'a> {
-    name: &'a str,
-    inside: &'a [Token],
-    scope: usize,
-}
-
-/// A call that may declare something.
-#[derive(Clone, Copy, Drop)]
-pub(super) struct Call<'a> {
-    inside: &'a [Token],
-    scope: usize,
+/// The name of the macro that has these rules.
+fn name_of<'a>(rules: &Item<'a>) -> &'a str {
+    match rules.words {
+        [_, _, name, ..] => name.text.as_str(),
+        _ => "",
+    }
 }
 
 /// The first name that the rules of a macro are handed; empty if there is none.
 fn first_handed(rules: &[Token]) -> &str {
-    let mut rest = rules;
-    for _ in 0..rules.len() {
-        let behind = behind_first(rest);
-        if matches!(front(rest), Word::Dollar)
-            && let Some(name) = name_at(behind)
+    for pair in rules.windows(2) {
+        if let [mark, rest @ ..] = pair
+            && matches!(mark.word, Word::Dollar)
+            && let Some(name) = name_at(rest)
         {
             return name;
         }
-        rest = behind;
     }
     ""
 }
@@ -40,37 +31,25 @@ fn first_handed(rules: &[Token]) -> &str {
 /// Whether the rules of a macro declare a type by the first name that they are handed.
 fn is_maker(rules: &[Token]) -> bool {
     let handed = first_handed(rules);
-    let mut rest = rules;
-    for _ in 0..rules.len() {
-        if let [of, mark, name, ..] = rest
-            && matches!(
+    rules.windows(3).any(|words| match words {
+        [of, mark, name] => {
+            matches!(
                 of.word,
                 Word::Struct | Word::Enum | Word::Union | Word::Alias
-            )
-            && matches!(mark.word, Word::Dollar)
-            && plain_name(name.text.as_str()) == handed
-        {
-            return true;
+            ) && matches!(mark.word, Word::Dollar)
+                && plain_name(name.text.as_str()) == handed
         }
-        rest = behind_first(rest);
-    }
-    false
+        _ => false,
+    })
 }
 
 /// Whether words may make any name: one of others, as `struct [<$a $b>]` does in `paste!`, or a module.
 fn are_open(words: &[Token]) -> bool {
-    let mut rest = words;
-    for _ in 0..words.len() {
-        let behind = behind_first(rest);
-        if matches!(
-            (front(rest), front(behind)),
-            (Word::Module, _) | (Word::Bracket, Word::Less)
-        ) {
-            return true;
-        }
-        rest = behind;
-    }
-    false
+    words.iter().any(|token| matches!(token.word, Word::Module))
+        || words.windows(2).any(|pair| match pair {
+            [open, less] => matches!((open.word, less.word), (Word::Bracket, Word::Less)),
+            _ => false,
+        })
 }
 
 /// Whether a macro is known to declare no type and no length.
@@ -79,32 +58,21 @@ fn is_harmless(name: &str) -> bool {
 }
 
 /// Whether a name is among words.
-fn has_word(words: &[Token], name: &str) -> bool {
+pub fn has_word(words: &[Token], name: &str) -> bool {
     words
         .iter()
         .any(|token| plain_name(token.text.as_str()) == name)
 }
 
 impl<'a> Scopes<'a> {
-    /// Keeps the rules of a macro. They are known wherever they are.
-    pub(super) fn keep_rules(&mut self, item: &Item<'a>) {
-        if let [_, _, name, ..] = item.words {
-            let rules = Rules {
-                name: name.text.as_str(),
-                inside: item.inside,
-                scope: item.scope,
-            };
-            self.failed = self.rules.push(rules).is_err() || self.failed;
-        }
-    }
-
     /// Whether the rules of a macro may call another one of these files.
-    fn calls_another(&self, rules: Rules<'a>) -> bool {
-        self.rules.iter().any(|it| it.name != rules.name && has_word(rules.inside, it.name))
+    fn calls_another(&self, rules: &Item<'a>) -> bool {
+        self.rules.iter().any(|it| name_of(it) != name_of(rules)
+            && has_word(rules.inside, name_of(it)))
     }
 
     /// Reads what the rules of a macro make where it is called, unless they are there; and whether they may make any name.
-    fn read_rules(&mut self, call: &Item<'a>, rules: Rules<'a>) -> bool {
+    fn read_rules(&mut self, call: &Item<'a>, rules: &Item<'a>) -> bool {
         if rules.scope != call.scope {
             self.read_made(Import::of(call.scope, false, false), rules.inside, false);
         }
@@ -131,21 +99,17 @@ impl<'a> Scopes<'a> {
         for place in 0..self.rules.len() {
             if let Some(rules) = self.rules.get(place).copied()
                 && is_near
-                && rules.name == name
+                && name_of(&rules) == name
             {
                 is_foreign = false;
-                is_open = self.read_rules(item, rules) || is_open;
+                is_open = self.read_rules(item, &rules) || is_open;
             }
         }
         self.read_made(import, item.inside, false);
         if is_foreign || is_open {
             self.add_include(import);
         }
-        let call = Call {
-            inside: item.inside,
-            scope: item.scope,
-        };
-        self.failed = self.calls.push(call).is_err() || self.failed;
+        self.failed = self.calls.push(*item).is_err() || self.failed;
     }
 
     /// Whether a scope may have the macro of this name from another crate, by a `use` or by `extern crate`.
@@ -157,6 +121,12 @@ impl<'a> Scopes<'a> {
             }
         }
         false
+    }
+
+    /// Whether a module hands a name to a macro before others.
+    pub fn is_first_handed(&self, name: &str) -> bool {
+        self.calls.iter().any(|call| !self.is_inner(call.scope)
+            && name_at(call.inside) == Some(name))
     }
 
     /// Whether a scope hands a name to a macro, which may declare it there.

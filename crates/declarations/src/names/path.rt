@@ -3,7 +3,7 @@ use super::is_known_crate;
 
 /// The names before the last of a path: the first, the two before the last, how often `super` stands there, and how many
 /// there are; the names are empty if there is none.
-#[derive(Clone, Copy, Drop)]
+#[derive(Clone, Copy, Default, Drop)]
 pub struct Path<'a> {
     pub root: &'a str,
     pub before: &'a str,
@@ -17,19 +17,6 @@ pub struct Path<'a> {
 }
 
 impl<'a> Path<'a> {
-    /// No name.
-    pub fn new() -> Path<'a> {
-        Path {
-            root: "",
-            before: "",
-            over: "",
-            top: "",
-            ups: 0,
-            count: 0,
-            is_absolute: false,
-        }
-    }
-
     /// Takes a colon, which tells of other crates if a path begins with it.
     pub fn begin(&mut self) {
         if self.count == 0 {

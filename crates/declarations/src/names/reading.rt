@@ -7,13 +7,15 @@ use declaration_parser::tokens::{Token, Word, is_among, is_lifetime};
 /// What an alias stands for, by its words from its name on. Lifetimes are no parameters.
 fn alias_of(words: &[Token]) -> What<'_> {
     let (head, value) = up_to(behind_first(words), &["="]);
-    for token in head {
+    let is_plain = head.iter().all(|token| {
         let word = token.text.as_str();
-        if !is_lifetime(word) && !is_among(word, &["<", ">", ","]) {
-            return What::Generic;
-        }
+        is_lifetime(word) || is_among(word, &["<", ">", ","])
+    });
+    if is_plain {
+        What::Alias(behind_first(value))
+    } else {
+        What::Generic
     }
-    What::Alias(behind_first(value))
 }
 
 impl<'a> Scopes<'a> {
@@ -21,19 +23,14 @@ impl<'a> Scopes<'a> {
     pub(super) fn read_items(&mut self, items: &[items::Item<'a>]) {
         for item in items {
             if item.kind == ItemKind::Rules {
-                self.keep_rules(item);
+                self.failed = self.rules.push(*item).is_err() || self.failed;
             }
         }
         for are_calls in [false, true] {
-            self.read_each(items, are_calls);
-        }
-    }
-
-    /// Reads each item that is a call, or isn't one.
-    fn read_each(&mut self, items: &[items::Item<'a>], are_calls: bool) {
-        for item in items {
-            if (item.kind == ItemKind::Call) == are_calls {
-                self.read_item(item);
+            for item in items {
+                if (item.kind == ItemKind::Call) == are_calls {
+                    self.read_item(item);
+                }
             }
         }
     }
@@ -91,22 +88,13 @@ impl<'a> Scopes<'a> {
     /// Reads what the call of a macro may bring in or declare.
     fn read_call(&mut self, item: &items::Item<'a>) {
         let import = Import::of(item.scope, false, false);
-        if let Some(first) = name_at(item.inside) {
-            self.failed = self.handed.push(first).is_err() || self.failed;
-        }
         match first_word(item.words) {
             "include" => self.add_include(import),
-            "endpoints" | "topics" => self.read_endpoints(item.inside),
+            "endpoints" | "topics" => {
+                self.failed = self.endpoints.push(item.inside).is_err() || self.failed;
+            }
             "bitflags" => self.read_made(import, item.inside, true),
             _ => self.read_call_of(item),
-        }
-    }
-
-    /// Keeps the names in a table of postcard-rpc's, which isn't read.
-    fn read_endpoints(&mut self, inside: &'a [Token]) {
-        for token in inside {
-            let failed = self.endpoints.push(token.text.as_str()).is_err();
-            self.failed = failed || self.failed;
         }
     }
 

@@ -129,7 +129,8 @@ impl<'a> Scopes<'a> {
         }
         for (index, it) in self.imports.iter().enumerate() {
             let is_it = !it.is_glob && it.name == name && self.is_in(it.scope, step);
-            if !is_it || (!with_own && self.is_own(it)) {
+            let is_own = it.last == it.name && matches!(it.lead, Lead::In(_));
+            if !is_it || (is_own && !with_own) {
                 continue;
             }
             brought = match brought {
@@ -140,11 +141,6 @@ impl<'a> Scopes<'a> {
             };
         }
         brought
-    }
-
-    /// Whether a `use` brings in what these files declare, by its own name.
-    fn is_own(&self, it: &Import<'a>) -> bool {
-        it.last == it.name && matches!(it.lead, Lead::In(_))
     }
 
     /// Whether a known type is brought in by its own name, from a crate that no module hides.
@@ -187,7 +183,15 @@ impl<'a> Scopes<'a> {
                 found => return found,
             }
         }
-        self.beyond(self.module_of(scope), name, space)
+        // what is beyond its module
+        if space == Space::Types && is_everywhere(name) {
+            return if self.has_star(at) && self.has(name) {
+                Found::Wrong(BY_STAR)
+            } else {
+                Found::Known(name)
+            };
+        }
+        self.passed_on(Step::Scope(at), name, space)
     }
 
     /// What a scope itself declares or brings in under a name.
@@ -198,14 +202,11 @@ impl<'a> Scopes<'a> {
     {
         let step = Step::Scope(scope);
         let brought = self.brought(step, name, space, true);
-        match self.only(step, name, space) {
-            Only::Nothing => match brought {
-                Brought::Nothing => self.not_own(scope, name, space),
-                Brought::Known => Found::Known(name),
-                Brought::One(index) => self.brought_in(index, name, space),
-                Brought::Several => Found::Two,
-            },
-            Only::One(item) if matches!(brought, Brought::Nothing) => self.declared(item, name),
+        match (self.only(step, name, space), brought) {
+            (Only::Nothing, Brought::Nothing) => self.not_own(scope, name, space),
+            (Only::Nothing, Brought::Known) => Found::Known(name),
+            (Only::Nothing, Brought::One(index)) => self.brought_in(index, name, space),
+            (Only::One(item), Brought::Nothing) => self.declared(item, name),
             _ => Found::Two,
         }
     }
@@ -257,21 +258,6 @@ impl<'a> Scopes<'a> {
         }
     }
 
-    /// What a name stands for that neither a module nor a body in it declares or brings in by name.
-    fn beyond(&self, module: usize, name: &'a str, space: Space) -> Found<'a>
-        ensures only { IsOnlyOfAStep self.now name.now space result }
-        ensures last { IsNowhereIfNone (candidates_in self.now Step.All name.now space) result }
-    {
-        if space == Space::Types && is_everywhere(name) {
-            return if self.has_star(module) && self.has(name) {
-                Found::Wrong(BY_STAR)
-            } else {
-                Found::Known(name)
-            };
-        }
-        self.passed_on(Step::Scope(module), name, space)
-    }
-
     /// What a step passes on under a name: the only candidate in all files or what is known, unless it may be another.
     fn passed_on(&self, step: Step<'a>, name: &'a str, space: Space) -> Found<'a>
         ensures only { IsOnlyOfAStep self.now name.now space result }
@@ -295,22 +281,20 @@ impl<'a> Scopes<'a> {
             Found::Known(_) | Found::Not => usize::MAX,
             _ => return false,
         };
-        let mut is_found = there == usize::MAX;
         for place in 0..self.scopes.len() {
-            if place == there {
-                is_found = is_found || self.may_lead_to(step, place, name);
-            } else if self.may_lead_to(step, place, name)
+            if place != there
+                && self.may_lead_to(step, place, name)
                 && self.may_have_other(place, found, name, space)
             {
                 return true;
             }
         }
-        !is_found
+        there != usize::MAX && !self.may_lead_to(step, there, name)
     }
 
     /// Whether a step may pass on what a scope has under a name: it is one of the step's, or `use` leads there.
     fn may_lead_to(&self, step: Step<'a>, place: usize, name: &str) -> bool {
-        let is_led = self.is_in(place, step) || self.is_led_to(step, place);
+        let is_led = self.leads_to(step, place);
         if is_led || !self.is_used(name) {
             return is_led;
         }
@@ -318,7 +302,7 @@ impl<'a> Scopes<'a> {
             if it.name == name
                 && !it.is_glob
                 && let Lead::In(next) = it.lead
-                && (self.is_in(place, next) || self.is_led_to(next, place))
+                && self.leads_to(next, place)
             {
                 return true;
             }
@@ -328,15 +312,12 @@ impl<'a> Scopes<'a> {
 
     /// Whether a scope may have another than was found, by a macro or by a `*` that leads out of the files.
     fn may_have_other(&self, place: usize, found: &Found<'a>, name: &str, space: Space) -> bool {
-        if self.brings(place, name) {
-            return false;
-        }
-        for it in &self.imports {
-            if it.is_glob && it.scope == place && may_bring(it, found, name, space) {
-                return true;
-            }
-        }
-        self.is_handed(place, name)
+        let own = |it: &Import<'_>| it.scope == place && it.name == name && !it.is_conditional;
+        let other = |it: &Import<'_>| it.is_glob
+            && it.scope == place
+            && may_bring(it, found, name, space);
+        !self.imports.iter().any(own)
+            && (self.is_handed(place, name) || self.imports.iter().any(other))
     }
 
     /// Whether a scope has a `*`.
@@ -356,11 +337,7 @@ impl<'a> Scopes<'a> {
     ) -> Found<'a>
         ensures only { IsOnlyOfAStep self.now name.now space result }
     {
-        let module = self.module_of(scope);
-        if !path.is_absolute && self.is_of_body(scope, path.root) {
-            return Found::Two;
-        }
-        match self.lead(module, path, name) {
+        match self.lead(scope, path, name) {
             Lead::Known => Found::Known(name),
             Lead::Outside | Lead::Type => Found::Outside,
             Lead::Doubtful => Found::Two,

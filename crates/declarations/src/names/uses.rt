@@ -24,7 +24,7 @@ impl<'a> Import<'a> {
     pub(super) fn of(scope: usize, is_public: bool, is_conditional: bool) -> Import<'a> {
         Import {
             name: "",
-            path: Path::new(),
+            path: Path::default(),
             last: "",
             scope,
             is_glob: true,
@@ -38,6 +38,11 @@ impl<'a> Import<'a> {
     /// Whether it may bring in modules that aren't in these files.
     pub(super) fn leads_out(&self) -> bool {
         !matches!(self.lead, Lead::In(_) | Lead::Type)
+    }
+
+    /// Whether it may make a module of this name one of another module.
+    pub(super) fn passes_on(&self, name: &str) -> bool {
+        self.name == name || (self.is_glob && self.is_public)
     }
 
     /// The last name of a path, by another one.
@@ -55,7 +60,7 @@ impl<'a> Import<'a> {
 impl<'a> Scopes<'a> {
     /// Adds what a `use` brings in by these words.
     pub(super) fn read_use(&mut self, import: Import<'a>, words: &'a [Token]) {
-        let mut path = Path::new();
+        let mut path = Path::default();
         // The paths before each `{` that is open.
         let mut kept = Vec::new(self.alloc);
         let mut rest = words;
@@ -71,12 +76,7 @@ impl<'a> Scopes<'a> {
                 Word::Close => {
                     kept.pop();
                 }
-                Word::Comma => {
-                    path = match kept.last() {
-                        Some(path) => *path,
-                        None => Path::new(),
-                    };
-                }
+                Word::Comma => path = kept.last().copied().unwrap_or_default(),
                 Word::Star => self.put_import(import.named("", path, "")),
                 _ if matches!(front(behind), Word::Colon) => path.go(word),
                 _ => {
@@ -100,7 +100,7 @@ impl<'a> Scopes<'a> {
 
     /// Adds another file's words, of which nothing is known.
     pub(super) fn add_include(&mut self, import: Import<'a>) {
-        let mut path = Path::new();
+        let mut path = Path::default();
         path.go(INCLUDE);
         self.put_import(Import {
             is_public: true,
@@ -118,7 +118,7 @@ impl<'a> Scopes<'a> {
         self.put_import(Import {
             is_crate: true,
             is_public: true,
-            ..import.named(name, Path::new(), own)
+            ..import.named(name, Path::default(), own)
         });
     }
 }

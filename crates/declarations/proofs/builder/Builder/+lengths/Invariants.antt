@@ -13,8 +13,5 @@ decreases-named_number l = 16 * l.depth + 10
 abbrev pub decreases-number : goal.decreases-number
 decreases-number l = 16 * l.depth + 2
 
-abbrev pub decreases-there_is : goal.decreases-there_is
-decreases-there_is l = 16 * l.depth + 8
-
 abbrev pub decreases-value_of : goal.decreases-value_of
 decreases-value_of l = 16 * l.depth + 7
