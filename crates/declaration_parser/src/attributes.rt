@@ -137,10 +137,7 @@ pub fn passed_over(tokens: &[Token]) -> Option<(&[Token], &[Token])> {
 
 /// The content of the marks after the first word. Between which they are is one to serde.
 pub fn held(words: &[Token]) -> &[Token] {
-    match group(behind_first(words)) {
-        Some((inside, _)) => inside,
-        None => &[],
-    }
+    group(behind_first(words)).unwrap_or((&[], &[])).0
 }
 
 /// An attribute: its words, and the condition under which it is there; empty if there is none.
@@ -177,19 +174,13 @@ impl<'a> AttributeWalk<'a> {
                 let condition = self.condition;
                 return Some(ConditionedAttribute { words, condition });
             }
-            let Some((words, behind)) = attribute(self.rest) else {
-                let [_, behind @ ..] = self.rest else {
-                    break;
-                };
-                self.rest = behind;
-                continue;
-            };
+            // what is no attribute is a comment that marks
+            let (words, behind) = attribute(self.rest).unwrap_or((&[], behind_first(self.rest)));
             self.rest = behind;
-            if first_word(words) != "cfg_attr" {
-                let condition: &[Token] = &[];
-                return Some(ConditionedAttribute { words, condition });
-            }
-            let (condition, parts) = first_part(held(words));
+            let (condition, parts) = match first_word(words) {
+                "cfg_attr" => first_part(held(words)),
+                _ => words.split_at(0),
+            };
             self.condition = condition;
             self.parts = parts;
         }
@@ -228,18 +219,16 @@ pub fn renamed_derive(tokens: &[Token]) -> Option<&Token> {
     let mut is_other = false;
     let mut rest = tokens;
     for _ in 0..tokens.len() {
-        if let [of, first, ..] = rest
-            && matches!(of.word, Word::Import)
-        {
-            is_other = is_among(first.text.as_str(), NOT_OF_SERDE);
-        }
-        if let [own, by, name, ..] = rest
-            && matches!(by.word, Word::As)
-            && (is_among(own.text.as_str(), NOT_OF_SERDE)
-                || (!is_other && matches!(own.word, Word::Serialize | Word::Deserialize)))
-            && is_derived(tokens, name.text.as_str())
-        {
-            return Some(name);
+        match rest {
+            [of, first, ..] if matches!(of.word, Word::Import) => {
+                is_other = is_among(first.text.as_str(), NOT_OF_SERDE);
+            }
+            [own, by, name, ..]
+                if matches!(by.word, Word::As)
+                    && (is_among(own.text.as_str(), NOT_OF_SERDE)
+                        || (!is_other && matches!(own.word, Word::Serialize | Word::Deserialize)))
+                    && is_derived(tokens, name.text.as_str()) => return Some(name),
+            _ => {}
         }
         rest = behind_first(rest);
     }

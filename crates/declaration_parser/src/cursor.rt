@@ -105,6 +105,13 @@ impl<'a> Cursor<'a> {
         self.faults.put("`: ");
     }
 
+    /// Turns to these tokens, unless something is wrong.
+    pub fn turn_to(&mut self, rest: &'a [Token]) {
+        if !self.is_wrong {
+            self.rest = rest;
+        }
+    }
+
     /// Notes why a word is wrong: what is said after it.
     pub fn refuse(&mut self, word: &str, why: &str) {
         self.wrong(&["`", word, why]);

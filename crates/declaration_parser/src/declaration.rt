@@ -87,6 +87,9 @@ pub struct Declaration<'a> {
     pub parameters: Vec<&'a str>,
     /// Those of them that are lengths.
     pub lengths: Vec<&'a str>,
+    /// The words of all, with `<` and `>`, and those of the bounds after `where`.
+    pub generics: &'a [Token],
+    pub bounds: &'a [Token],
     pub body: Body<'a>,
     pub marks: Marks,
     /// Why it can't be read, a line each; empty if it can.

@@ -90,15 +90,6 @@ impl<'a> Faults<'a> {
         self.failed = self.failed || failed;
     }
 
-    /// Appends what others say.
-    pub fn add(&mut self, others: Faults<'_>)
-        ensures silent { SaysNothing self.new → SaysNothing self.old }
-        ensures others { SaysNothing self.new → SaysNothing others.entry }
-    {
-        self.note(others.failed);
-        self.put(others.whole.as_str());
-    }
-
     /// Whether nothing is wrong.
     pub fn is_empty(&self) -> bool
         ensures { SaysNothing self.now → IsTrue result }

@@ -58,44 +58,34 @@ impl<'a> Marking<'a> {
             }
             self.marks.written = self.marks.written || is_written;
             self.marks.read = self.marks.read || !is_written;
-            self.add_condition(condition);
+            self.is_conditional = self.is_conditional || !condition.is_empty();
+            match self.condition {
+                Some(first) if !same_words(first, condition) => self.has_others = true,
+                _ => self.condition = Some(condition),
+            }
             if !matches!(name.word, Word::Serialize | Word::Deserialize) {
                 self.other = Some(name);
             }
         }
     }
 
-    /// Adds the condition of a derive that marks.
-    fn add_condition(&mut self, condition: &'a [Token]) {
-        self.is_conditional = self.is_conditional || !condition.is_empty();
-        match self.condition {
-            Some(first) if !same_words(first, condition) => self.has_others = true,
-            _ => self.condition = Some(condition),
-        }
-    }
-
-    /// Adds what a comment `// message` marks.
+    /// Adds what a comment marks, all if it has no words.
     fn add_comment(&mut self, comment: &'a Token) {
-        let Some((_, words)) = comment.text.as_str().split_once(':') else {
-            self.is_derived = false;
-            self.marks.written = true;
-            self.marks.read = true;
-            return;
+        let words = match comment.text.as_str().split_once(':') {
+            Some((_, words)) => words,
+            None => "Serialize, Deserialize",
         };
         for word in words.split(',') {
-            self.add_word(comment.line, word.trim());
+            let word = word.trim();
+            let is_written = word == "Serialize";
+            if is_written || word == "Deserialize" {
+                self.marks.written = self.marks.written || is_written;
+                self.marks.read = self.marks.read || !is_written;
+                self.is_derived = false;
+            } else if self.wrong.is_none() {
+                self.wrong = Some((comment.line, word));
+            }
         }
-    }
-
-    /// Adds what a word after `// message:` marks.
-    fn add_word(&mut self, line: usize, word: &'a str) {
-        match word {
-            "Serialize" => self.marks.written = true,
-            "Deserialize" => self.marks.read = true,
-            _ if self.wrong.is_none() => self.wrong = Some((line, word)),
-            _ => {}
-        }
-        self.is_derived = self.is_derived && !is_among(word, &["Serialize", "Deserialize"]);
     }
 
     /// What attributes and comments mark.

@@ -145,23 +145,29 @@ impl<'a> Walk<'a> {
         }
     }
 
-    /// Adds a scope, and gives its place.
-    pub fn add_scope(&mut self, scope: Scope<'a>) -> usize {
-        let place = self.scopes.len();
-        self.failed = self.scopes.push(scope).is_err() || self.failed;
-        place
-    }
-
     /// Adds the scope of a file after those of others.
     pub fn add_file(&mut self, name: &'a str) {
+        self.scope = self.scopes.len();
+        self.add_scope(Kind::File, name, 0);
+    }
+
+    /// Adds a scope in this one, which ends there, and gives its place.
+    fn add_scope(&mut self, kind: Kind, name: &'a str, end: usize) -> usize {
         let place = self.scopes.len();
-        self.add_scope(Scope {
-            kind: Kind::File,
+        let outer = self.scope;
+        let file = match self.scopes.get(outer) {
+            Some(it) => it.file,
+            None => outer,
+        };
+        let scope = Scope {
+            kind,
             name,
-            file: place,
-            outer: place,
-            end: 0,
-        });
+            file,
+            outer,
+            end,
+        };
+        self.failed = self.scopes.push(scope).is_err() || self.failed;
+        place
     }
 
     /// Adds the items of a file, whose scope is at this place.
@@ -209,29 +215,6 @@ impl<'a> Walk<'a> {
         }
     }
 
-    /// Turns to a scope in this one, which ends there.
-    fn enter(&mut self, kind: Kind, name: &'a str, end: usize) {
-        let outer = self.scope;
-        let file = match self.scopes.get(outer) {
-            Some(it) => it.file,
-            None => 0,
-        };
-        self.scope = self.add_scope(Scope {
-            kind,
-            name,
-            file,
-            outer,
-            end,
-        });
-    }
-
-    /// Adds a scope in this one, none of whose words are here.
-    fn note(&mut self, kind: Kind, name: &'a str) {
-        let outer = self.scope;
-        self.enter(kind, name, 0);
-        self.scope = outer;
-    }
-
     /// Reads what follows attributes: a call of a macro, words of an item, or what begins one.
     fn read_words(&mut self, item: &mut Item<'a>, words: &'a [Token]) -> &'a [Token] {
         let is_quiet = words.len() > self.quiet;
@@ -254,41 +237,37 @@ impl<'a> Walk<'a> {
             return behind_first(words);
         }
         item.is_public = matches!(front(words), Word::Public);
-        let words = behind_public(words);
-        self.read_item(item, words, behind_first(words))
+        self.read_item(item, behind_public(words))
     }
 
     /// Reads what an item begins with, and gives what follows: at its name.
-    fn read_item(
-        &mut self,
-        item: &mut Item<'a>,
-        words: &'a [Token],
-        rest: &'a [Token],
-    ) -> &'a [Token] {
+    fn read_item(&mut self, item: &mut Item<'a>, words: &'a [Token]) -> &'a [Token] {
+        let rest = behind_first(words);
         let is_named = name_at(rest).is_some();
         match front(words) {
             Word::Module if is_named => return self.read_module(item, rest),
-            Word::Struct | Word::Enum | Word::Union if is_named => {
-                let body = self.take(item, ItemKind::Type, rest, BODY);
-                self.quiet = behind(body).len();
-            }
-            Word::Alias if is_named => {
-                self.take(item, ItemKind::Alias, rest, &[";"]);
-            }
-            Word::Constant if is_named => self.read_constant(item, ItemKind::Constant, rest),
-            Word::Static if first_word(rest) == "mut" => {
-                self.read_constant(item, ItemKind::Static, behind_first(rest));
-            }
-            Word::Static if is_named => self.read_constant(item, ItemKind::Static, rest),
-            Word::Import if first_word(rest) != "<" => {
-                self.take(item, ItemKind::Import, rest, &[";"]);
-            }
             Word::Function if is_named => self.read_body(Kind::Body, rest),
             Word::Impl => self.read_body(Kind::Impl, rest),
-            Word::Extern if first_word(rest) == "crate" => {
-                self.take(item, ItemKind::Crate, behind_first(rest), &[";"]);
-            }
             Word::Brace => self.open(Kind::Body, "", words),
+            Word::Struct | Word::Enum | Word::Union if is_named => self.take(
+                item,
+                ItemKind::Type,
+                rest,
+            ),
+            Word::Alias if is_named => self.take(item, ItemKind::Alias, rest),
+            Word::Constant if is_named => self.take(item, ItemKind::Constant, rest),
+            Word::Static if first_word(rest) == "mut" => self.take(
+                item,
+                ItemKind::Static,
+                behind_first(rest),
+            ),
+            Word::Static if is_named => self.take(item, ItemKind::Static, rest),
+            Word::Import if first_word(rest) != "<" => self.take(item, ItemKind::Import, rest),
+            Word::Extern if first_word(rest) == "crate" => self.take(
+                item,
+                ItemKind::Crate,
+                behind_first(rest),
+            ),
             // Attributes may follow a `pub` that begins none of these.
             _ if item.is_public => return words,
             _ => {}
@@ -296,37 +275,34 @@ impl<'a> Walk<'a> {
         rest
     }
 
-    /// Takes the words of an item up to one of these, and gives what follows them.
-    fn take(
-        &mut self,
-        item: &mut Item<'a>,
-        kind: ItemKind,
-        words: &'a [Token],
-        ends: &[&str],
-    ) -> &'a [Token] {
-        let (whole, rest) = up_to(words, ends);
+    /// Takes the words of an item from its name on, up to a type's body or a semicolon. What the value of a constant or a static
+    /// holds may declare types for itself.
+    fn take(&mut self, item: &mut Item<'a>, kind: ItemKind, words: &'a [Token]) {
+        let has_value = matches!(kind, ItemKind::Constant | ItemKind::Static);
+        if has_value && !matches!(front(behind_first(words)), Word::Colon) {
+            return;
+        }
+        let is_type = kind == ItemKind::Type;
+        let (whole, rest) = up_to(words, if is_type { BODY } else { &[";"] });
         item.kind = kind;
         item.words = whole;
-        self.quiet = rest.len();
-        rest
+        self.quiet = if is_type {
+            behind(rest).len()
+        } else {
+            rest.len()
+        };
+        if has_value {
+            let (_, value) = up_to(whole, &["="]);
+            self.quiet = rest.len().saturating_add(value.len());
+            self.scope = self.add_scope(Kind::Body, "", rest.len());
+        }
     }
 
     /// Turns to the scope of the group at the start, if there is one.
     fn open(&mut self, kind: Kind, name: &'a str, words: &'a [Token]) {
         if let Some((_, after)) = group(words) {
-            self.enter(kind, name, after.len());
+            self.scope = self.add_scope(kind, name, after.len());
         }
-    }
-
-    /// Reads a constant or a static, at its name. What its value holds may declare types for itself.
-    fn read_constant(&mut self, item: &mut Item<'a>, kind: ItemKind, words: &'a [Token]) {
-        if !matches!(front(behind_first(words)), Word::Colon) {
-            return;
-        }
-        let end = self.take(item, kind, words, &[";"]).len();
-        let (_, value) = up_to(item.words, &["="]);
-        self.quiet = end.saturating_add(value.len());
-        self.enter(Kind::Body, "", end);
     }
 
     /// Reads a function, or what belongs to a type, up to its body or a semicolon. Lengths in braces may precede these.
@@ -341,23 +317,24 @@ impl<'a> Walk<'a> {
         let name = name_at(words).unwrap_or("");
         let rest = behind_first(words);
         if item.has("cfg") {
-            self.note(Kind::Conditional, name);
+            self.add_scope(Kind::Conditional, name, 0);
         }
         let is_moved = rest.len() > self.moved;
-        if let Some((_, after)) = group(rest) {
-            if !is_moved && item.has("path") {
-                self.moved = after.len();
-            }
-            self.open(Kind::Module, name, rest);
-            return behind_first(rest);
-        }
-        let kind = if is_moved || item.has("path") {
-            Kind::Misnamed
-        } else {
-            Kind::Outline
+        let is_misnamed = is_moved || item.has("path");
+        let Some((_, after)) = group(rest) else {
+            let kind = if is_misnamed {
+                Kind::Misnamed
+            } else {
+                Kind::Outline
+            };
+            self.add_scope(kind, name, 0);
+            return rest;
         };
-        self.note(kind, name);
-        rest
+        if is_misnamed && !is_moved {
+            self.moved = after.len();
+        }
+        self.open(Kind::Module, name, rest);
+        behind_first(rest)
     }
 }
 

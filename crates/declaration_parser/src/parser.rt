@@ -5,15 +5,11 @@ mod said;
 use crate::attributes::{attribute, front, group, line_at, plain_name, type_up_to, up_to};
 use crate::cursor::Cursor;
 use crate::declaration::{Body, Declaration, Field, Fields, Form, VariantOf};
-use crate::faults::Faults;
 use crate::head::{Head, Marking};
 use crate::items::behind_public;
 use crate::tokens::{Read, Token, Word, is_lifetime, is_listed, is_name};
-use crate::words::{
-    MOST_FIELDS, NO_MARK, OF_IMPLEMENTATIONS, ONLY_FIELD, OTHER_DERIVE, TOO_MANY, USED,
-};
+use crate::words::{MOST_FIELDS, NO_MARK, OF_IMPLEMENTATIONS, ONLY_FIELD, OTHER_DERIVE, USED};
 use by_hand::ByHand;
-use said::At;
 use std::alloc::Global;
 
 /// What ends the type of a field.
@@ -36,7 +32,8 @@ pub struct Parser<'a> {
     file: &'a Read,
     /// What marks the declaration.
     marking: Marking<'a>,
-    at: Cursor<'a>,
+    /// What is read, and what is wrong with it.
+    pub at: Cursor<'a>,
 }
 
 impl<'a> Parser<'a> {
@@ -66,26 +63,11 @@ impl<'a> Parser<'a> {
         }
     }
 
-    /// What is wrong.
-    pub fn finished(self) -> Faults<'a> {
-        self.at.faults
-    }
-
     /// Refuses a word if implementations are to be written.
     fn refuse_in_code(&mut self, is_wrong: bool, word: &str, why: &str) {
         if is_wrong && self.purpose == Purpose::Implementations {
             self.at.refuse(word, why);
         }
-    }
-
-    /// Takes a name.
-    fn word(&mut self) -> &'a str {
-        let word = self.at.step();
-        if !is_name(word) {
-            self.at
-                .wrong(&["a name is wanted in place of `", word, "`"]);
-        }
-        word
     }
 
     /// Takes attributes, and gives all of them.
@@ -104,7 +86,11 @@ impl<'a> Parser<'a> {
 
     /// Takes a name that may be written `r#name`, and isn't one that the implementations use, if it can't be.
     fn name_of(&mut self, is_free: bool) -> &'a str {
-        let word = self.word();
+        let word = self.at.step();
+        if !is_name(word) {
+            self.at
+                .wrong(&["a name is wanted in place of `", word, "`"]);
+        }
         let name = plain_name(word);
         self.refuse_in_code(
             name.len() != word.len(),
@@ -122,16 +108,15 @@ impl<'a> Parser<'a> {
             [.., token] => self.at.line = token.line,
             _ => self.at.wrong(&["a type is wanted"]),
         }
-        if !self.at.is_wrong {
-            self.at.rest = rest;
-        }
+        self.at.turn_to(rest);
         words
     }
 
     /// Takes a field; nothing if it isn't sent.
     fn item(&mut self, place: usize, named: bool) -> Option<Field<'a>> {
         if place == MOST_FIELDS && self.purpose == Purpose::Implementations {
-            self.at.wrong(&[TOO_MANY]);
+            self.at
+                .wrong(&["more than 36 fields: make some of them a struct"]);
         }
         let attributes = self.attributes();
         self.at.rest = behind_public(self.at.rest);
@@ -141,7 +126,7 @@ impl<'a> Parser<'a> {
             self.at.owe(":");
         }
         self.at.field = Some((place, name));
-        let said = self.said(attributes, At::Field);
+        let said = self.said(attributes);
         let is_left_out = self.is_left_out(said);
         let of = self.type_words();
         if !self.at.is_wrong {
@@ -169,13 +154,6 @@ impl<'a> Parser<'a> {
         };
         self.at.rest = inside;
         behind
-    }
-
-    /// Turns to what follows a group that is read, unless something is wrong.
-    fn leave(&mut self, behind: &'a [Token]) {
-        if !self.at.is_wrong {
-            self.at.rest = behind;
-        }
     }
 
     /// Takes the comma before what is next in a list, if something is.
@@ -208,7 +186,7 @@ impl<'a> Parser<'a> {
             count = place.saturating_add(1);
             self.go_on();
         }
-        self.leave(behind);
+        self.at.turn_to(behind);
         Fields { form, items, count }
     }
 
@@ -217,7 +195,7 @@ impl<'a> Parser<'a> {
         let attributes = self.attributes();
         let name = self.name_of(true);
         self.at.variant = name;
-        self.said(attributes, At::Variant);
+        self.said(attributes);
         let fields = self.fields();
         if self.at.take("=") {
             let (_, rest) = up_to(self.at.rest, &[","]);
@@ -243,7 +221,7 @@ impl<'a> Parser<'a> {
             self.go_on();
         }
         self.at.variant = "";
-        self.leave(behind);
+        self.at.turn_to(behind);
         variants
     }
 
@@ -294,29 +272,31 @@ impl<'a> Parser<'a> {
         (parameters, lengths)
     }
 
-    /// Takes `where` and its bounds, in which there may be lengths in braces, up to the fields or a semicolon.
-    fn bounds(&mut self) {
-        if self.at.take("where") {
-            let (_, rest) = type_up_to(self.at.rest, &["{", ";"]);
-            self.at.rest = rest;
+    /// Takes `where` and gives its bounds, in which there may be lengths in braces, up to the fields or a semicolon.
+    fn bounds(&mut self) -> &'a [Token] {
+        if !self.at.take("where") {
+            return &[];
         }
+        let (bounds, rest) = type_up_to(self.at.rest, &["{", ";"]);
+        self.at.rest = rest;
+        bounds
     }
 
-    /// Takes what is declared.
-    fn body(&mut self, is_enum: bool) -> Body<'a> {
-        self.bounds();
+    /// Takes what is declared, and gives the bounds that follow fields in parentheses.
+    fn body(&mut self, is_enum: bool) -> (Body<'a>, &'a [Token]) {
         if is_enum {
-            return Body::Enum(self.variants());
+            return (Body::Enum(self.variants()), &[]);
         }
         let fields = self.fields();
+        if matches!(fields.form, Form::Named) {
+            return (Body::Struct(fields), &[]);
+        }
         if matches!(fields.form, Form::Tuple) && fields.count == 1 && fields.items.is_empty() {
             self.at.refuse("skip", ONLY_FIELD);
         }
-        if !matches!(fields.form, Form::Named) {
-            self.bounds();
-            self.at.owe(";");
-        }
-        Body::Struct(fields)
+        let bounds = self.bounds();
+        self.at.owe(";");
+        (Body::Struct(fields), bounds)
     }
 
     /// Takes a declaration, after its attributes, of a file that has these types by hand.
@@ -331,16 +311,18 @@ impl<'a> Parser<'a> {
         self.at.name = name;
         let line = self.at.line;
         // What is wrong hides what follows it, and those who use the type need its parameters.
+        let (generics, _) = type_up_to(self.at.rest, &["where", "(", "{", ";"]);
         let (parameters, lengths) = self.parameters();
         self.at.line = line;
-        let said = self.said(attributes, At::Item);
+        let said = self.said(attributes);
         if let Some(derive) = self.marking.other {
             self.at.line = derive.line;
             self.at.refuse(derive.text.as_str(), OTHER_DERIVE);
             self.at.line = line;
         }
         self.check_by_hand(by_hand);
-        let body = self.body(is_enum);
+        let before = self.bounds();
+        let (body, after) = self.body(is_enum);
         self.at.line = line;
         self.check_transparent(said, &body);
         Declaration {
@@ -351,6 +333,8 @@ impl<'a> Parser<'a> {
             line,
             parameters,
             lengths,
+            generics,
+            bounds: if before.is_empty() { after } else { before },
             body,
             marks: self.marking.marks,
             wrong: String::new(self.alloc),

@@ -9,10 +9,11 @@ use crate::declaration::Declaration;
 use crate::faults::Faults;
 use crate::head::{Head, head_of};
 use crate::items::{Item, ItemKind, Walk};
+use crate::marks::is_mark;
 use crate::parser::by_hand::ByHand;
 use crate::parser::{Parser, Purpose};
-use crate::tokens::{Read, Token, is_comment_mark};
-use crate::words::{ALMOST, IN_MACRO, IN_WORDS, NO_MESSAGES_MARKED, RENAMES};
+use crate::tokens::{Read, Token};
+use crate::words::{ALMOST, IN_MACRO, IN_WORDS, RENAMES};
 use std::alloc::{AllocError, Global};
 
 /// What the declarations of a file are read with.
@@ -29,7 +30,7 @@ fn first_mark(tokens: &[Token]) -> Option<&Token>
     ensures { result ≡ None → NoMark tokens.now }
 {
     for token in tokens {
-        if is_comment_mark(token.text.as_str()) {
+        if is_mark(token.text.as_str()) {
             return Some(token);
         }
     }
@@ -122,7 +123,7 @@ fn add_declaration<'a>(
     let (words, _) = head.behind.split_at(length);
     let mut parser = Parser::new(job.alloc, job.purpose, job.file, head, words);
     let declaration = parser.declaration(head.attributes, job.by_hand);
-    let wrong = parser.finished();
+    let wrong = parser.at.faults;
     refuse_mark(words, IN_WORDS, faults);
     keep(declaration, head.attributes, words, wrong, found, faults);
     length
@@ -224,7 +225,7 @@ fn refuse_nothing<'a>(files: &'a [Read], finds_none: bool, faults: &mut Faults<'
         faults.turn_to(file.file.as_str());
     }
     faults.put_line_number(1);
-    faults.put(NO_MESSAGES_MARKED);
+    faults.put("nothing is marked: write `// message` in a line of its own before a declaration\n");
 }
 
 /// Returns the marked declarations of files, and what is wrong with others, a line each; or that there are none.

@@ -1,5 +1,5 @@
 //! Types of the language, and those that aren't read, with what they are sent as.
-use crate::tokens::is_listed;
+use crate::tokens::{is_listed, row_of};
 
 /// Types of the language.
 const PRIMITIVE: &str = "bool char f32 f64 i8 i16 i32 i64 i128 isize str u8 u16 u32 u64 u128 usize";
@@ -38,8 +38,7 @@ pub fn sent_as(word: &str) -> Option<&'static str> {
     if word.starts_with("NonZero") || (word.starts_with("Atomic") && word != "AtomicBool") {
         return Some("the integer in it");
     }
-    let row = SENT_AS.iter().find(|row| is_listed(word, row.0))?;
-    Some(row.1)
+    row_of(SENT_AS, word)
 }
 
 /// Whether a word is a type of the language.

@@ -1,7 +1,4 @@
 //! The words and marks of a file.
-ghost use Rattle.std.specs.Prelude.{◌≡◌};
-ghost use Rattle.declaration_parser.specs.Marked.{is_marking};
-
 use crate::faults::Faults;
 use crate::marks::{is_almost_way, is_mark, way_of};
 use crate::words::{ALMOST, ALMOST_WAY};
@@ -151,7 +148,11 @@ pub fn tokens_of<'a>(alloc: Global, file: &'a str, text: &'a str) -> Result<Read
         }
         tokens.read_next();
     }
-    tokens.finished(name)
+    Ok(Read {
+        file: name,
+        tokens: tokens.found,
+        faults: tokens.faults.finished()?,
+    })
 }
 
 /// Whether a character can be in a word or a number.
@@ -162,13 +163,6 @@ pub fn is_of_word(character: char) -> bool {
 /// Whether a word is a lifetime, and no character.
 pub fn is_lifetime(word: &str) -> bool {
     word.starts_with('\'') && !word.ends_with('\'')
-}
-
-/// Whether a token is a comment that marks a declaration.
-pub fn is_comment_mark(token: &str) -> bool
-    ensures { result ≡ is_marking token.now }
-{
-    is_mark(token)
 }
 
 /// Which of the words that are compared a token is, by its text.
@@ -188,6 +182,12 @@ pub fn is_among(word: &str, words: &[&str]) -> bool {
 /// Whether a word is in a list, which has blanks between them.
 pub fn is_listed(word: &str, list: &str) -> bool {
     list.split_whitespace().any(|known| known == word)
+}
+
+/// What the first of these rows that lists a word says of it.
+pub fn row_of(rows: &[(&str, &'static str)], word: &str) -> Option<&'static str> {
+    let row = rows.iter().find(|row| is_listed(word, row.0))?;
+    Some(row.1)
 }
 
 /// The first letter of a word.
@@ -232,14 +232,6 @@ fn hashes(text: &str) -> usize {
     length_before(text, text.trim_start_matches('#'))
 }
 
-/// The line at the start of a text.
-fn first_line(text: &str) -> &str {
-    match text.split_once('\n') {
-        Some((line, _)) => line,
-        None => text,
-    }
-}
-
 /// How long the comment is that begins a text with `/*`, if a `*/` ends it.
 fn comment_length(text: &str) -> Option<usize> {
     let mut rest = text;
@@ -276,36 +268,37 @@ fn text_length(text: &str, wanted: Option<usize>) -> Option<usize> {
     None
 }
 
+/// How long the character or the lifetime is that begins a text with `'`.
+fn quoted_length(text: &str) -> usize {
+    let inside = behind(text, 1);
+    let second = behind_one(inside);
+    let rest = if inside.starts_with('\\') {
+        behind_one(behind_one(second).trim_start_matches(|c: char| c != '\'' && c != '\n'))
+    } else if second.starts_with('\'') {
+        behind_one(second)
+    } else {
+        inside.trim_start_matches(is_of_word)
+    };
+    length_before(text, rest)
+}
+
 impl<'a> Tokens<'a> {
-    /// Takes so many bytes.
-    fn skip(&mut self, length: usize) {
-        self.rest = behind(self.rest, length);
-    }
-
-    /// Takes a character, and counts lines.
-    fn skip_one(&mut self) {
-        if self.rest.starts_with('\n') {
-            self.line = self.line.saturating_add(1);
-            self.is_behind_code = false;
-        }
-        self.rest = behind_one(self.rest);
-    }
-
     /// Reads what is next: a blank, a comment or a token.
     fn read_next(&mut self) {
-        let Some(first) = first_letter(self.rest) else {
+        let text = self.rest;
+        let Some(first) = first_letter(text) else {
             return;
         };
         if first.is_whitespace() {
-            self.skip_one();
-        } else if self.rest.starts_with("//") {
+            self.take(first.len_utf8());
+        } else if text.starts_with("//") {
             self.read_comment();
-        } else if self.rest.starts_with("/*") {
-            self.take(comment_length(self.rest));
+        } else if text.starts_with("/*") {
+            self.take_closed(comment_length(text));
         } else if first == '"' {
             self.read_text(0, None);
         } else if first == '\'' {
-            self.read_quoted();
+            self.read_token(quoted_length(text));
         } else if is_of_word(first) {
             self.read_word();
         } else {
@@ -313,120 +306,92 @@ impl<'a> Tokens<'a> {
         }
     }
 
-    /// Reads a comment up to the end of its line.
+    /// Reads a comment up to the end of its line. One that marks what is after it is a token, in a line of its own. What one says
+    /// of how the field after it is sent is an attribute: `#[with = ".."]`, or with all its words as one token, `#[with ..]`, if it
+    /// only seems meant to.
     fn read_comment(&mut self) {
-        let comment = first_line(self.rest);
-        let length = comment.len();
-        let comment = comment.trim_end();
-        if is_mark(comment) {
-            self.read_mark(comment);
-        } else if is_almost_way(comment) {
-            self.read_way(comment);
-        }
-        self.skip(length);
-    }
-
-    /// Appends a comment that marks what is after it, in a line of its own.
-    fn read_mark(&mut self, comment: &str) {
-        if self.is_behind_code {
-            self.faults.refuse(self.line, comment, ALMOST);
-        } else {
-            self.put(comment, self.line);
-        }
-    }
-
-    /// Appends what a comment says of how the field after it is sent, as an attribute: `#[with = ".."]`, or with all its words
-    /// as one token, `#[with ..]`, if it only seems meant to.
-    fn read_way(&mut self, comment: &str) {
+        let whole = self.rest.lines().next().unwrap_or("");
+        self.rest = behind(self.rest, whole.len());
+        let comment = whole.trim_end();
         let way = way_of(comment);
         if self.is_behind_code {
-            if way.is_some() {
+            if is_mark(comment) {
+                self.faults.refuse(self.line, comment, ALMOST);
+            } else if way.is_some() {
                 self.faults.refuse(self.line, comment, ALMOST_WAY);
                 self.faults.put("\n");
             }
-            return;
-        }
-        let words = comment.trim_start_matches('/').trim_start();
-        let equals = if way.is_some() { "=" } else { "" };
-        for word in ["#", "[", "with", equals, way.unwrap_or(words), "]"] {
-            if !word.is_empty() {
-                self.put(word, self.line);
+        } else if is_mark(comment) {
+            self.put(comment, self.line);
+        } else if is_almost_way(comment) {
+            let words = comment.trim_start_matches('/').trim_start();
+            let equals = if way.is_some() { "=" } else { "" };
+            for word in ["#", "[", "with", equals, way.unwrap_or(words), "]"] {
+                if !word.is_empty() {
+                    self.put(word, self.line);
+                }
             }
         }
     }
 
-    /// Reads a character or a lifetime.
-    fn read_quoted(&mut self) {
-        let text = behind(self.rest, 1);
-        let second = behind_one(text);
-        if text.starts_with('\\') {
-            let rest = behind_one(second);
-            let rest = behind_one(rest.trim_start_matches(|c: char| c != '\'' && c != '\n'));
-            self.read_token(length_before(self.rest, rest));
-        } else if second.starts_with('\'') {
-            self.read_token(length_before(self.rest, behind_one(second)));
-        } else {
-            let rest = text.trim_start_matches(is_of_word);
-            self.read_token(length_before(self.rest, rest));
-        }
-    }
-
-    /// Reads a word, or a text with letters before it.
+    /// Reads a word, or a text or a character with letters before it.
     fn read_word(&mut self) {
         let after = self.rest.trim_start_matches(is_of_word);
         let length = length_before(self.rest, after);
-        let word = self.rest.get(..length).unwrap_or("");
         let hashes = hashes(after);
-        let is_raw = is_among(word, &["r", "br", "cr"]);
-        if is_raw && behind(after, hashes).starts_with('"') {
-            self.read_text(length.saturating_add(hashes), Some(hashes));
-        } else if is_among(word, &["b", "c"]) && after.starts_with('"') {
-            self.read_text(length, None);
-        } else if word == "b" && after.starts_with('\'') {
-            self.skip(length);
-            self.read_quoted();
-        } else if word == "r" && hashes == 1 {
-            let rest = behind(after, 1).trim_start_matches(is_of_word);
-            self.read_name(length_before(self.rest, rest));
-        } else {
-            self.read_name(length);
+        match (self.rest.get(..length).unwrap_or(""), first_letter(after)) {
+            ("r" | "br" | "cr", _) if behind(after, hashes).starts_with('"') => {
+                self.read_text(length.saturating_add(hashes), Some(hashes));
+            }
+            ("b" | "c", Some('"')) => self.read_text(length, None),
+            ("b", Some('\'')) => {
+                self.take(length);
+                self.read_token(quoted_length(self.rest));
+            }
+            ("r", _) if hashes == 1 => {
+                let rest = behind(after, 1).trim_start_matches(is_of_word);
+                self.read_token(length_before(self.rest, rest));
+            }
+            _ => self.read_token(length),
         }
-    }
-
-    /// Takes so many bytes as a name. To Rust its letters are one name however their dots and accents are written.
-    fn read_name(&mut self, length: usize) {
-        let text = self.rest.get(..length).unwrap_or("");
-        if text.is_ascii() {
-            return self.read_token(length);
-        }
-        let Ok(name) = to_nfc(self.alloc, text) else {
-            return self.faults.note(true);
-        };
-        self.skip(length);
-        self.put_code(name.as_str(), self.line);
     }
 
     /// Reads a text, before whose `"` so many bytes stand, and which one with so many `#` ends.
     fn read_text(&mut self, before: usize, wanted: Option<usize>) {
         let line = self.line;
-        self.skip(before);
-        let text = self.take(text_length(self.rest, wanted));
-        self.skip(wanted.unwrap_or(0));
-        self.put_code(text, line);
+        self.take(before);
+        let text = self.take_closed(text_length(self.rest, wanted));
+        self.take(wanted.unwrap_or(0));
+        self.put(text, line);
     }
 
-    /// Takes so much of a comment or a text, all if nothing ends it, and refuses a mark in it.
-    fn take(&mut self, length: Option<usize>) -> &'a str {
+    /// Reads so many bytes as a token. To Rust its letters are one name however their dots and accents are written.
+    fn read_token(&mut self, length: usize) {
+        let line = self.line;
+        let text = self.take(length);
+        if text.is_ascii() {
+            return self.put(text, line);
+        }
+        match to_nfc(self.alloc, text) {
+            Ok(name) => self.put(name.as_str(), line),
+            Err(_) => self.faults.note(true),
+        }
+    }
+
+    /// Takes so many bytes of a comment or a text; all if nothing ends it, which is refused.
+    fn take_closed(&mut self, length: Option<usize>) -> &'a str {
         if length.is_none() {
             self.faults.put_line_number(self.line);
             self.faults
                 .put("a comment or a text begins here that isn't ended\n");
         }
-        let text = match length {
-            Some(length) => self.rest.get(..length).unwrap_or(""),
-            None => self.rest,
-        };
-        self.skip(text.len());
+        self.take(length.unwrap_or(self.rest.len()))
+    }
+
+    /// Takes so many bytes, counts their lines, and refuses a mark in them.
+    fn take(&mut self, length: usize) -> &'a str {
+        let text = self.rest.get(..length).unwrap_or("");
+        self.rest = behind(self.rest, length);
         for (place, line) in text.split('\n').enumerate() {
             if place > 0 {
                 self.line = self.line.saturating_add(1);
@@ -439,37 +404,10 @@ impl<'a> Tokens<'a> {
         text
     }
 
-    /// Takes so many bytes as a token.
-    fn read_token(&mut self, length: usize) {
-        let text = self.rest.get(..length).unwrap_or("");
-        self.skip(length);
-        self.put_code(text, self.line);
-    }
-
-    /// Appends a token of code.
-    fn put_code(&mut self, text: &str, line: usize) {
-        self.is_behind_code = true;
-        self.put(text, line);
-    }
-
-    /// Appends a token.
+    /// Appends a token. One that ends a group says in the one that begins it how many tokens there are.
     fn put(&mut self, text: &str, line: usize) {
+        self.is_behind_code = true;
         let word = word_of(text);
-        self.count_group(word);
-        let Ok(text) = String::from_str(self.alloc, text) else {
-            return self.faults.note(true);
-        };
-        let token = Token {
-            text,
-            word,
-            line,
-            span: 0,
-        };
-        self.faults.note(self.found.push(token).is_err());
-    }
-
-    /// Notes where a group begins, with the token that is next, or how many tokens it has.
-    fn count_group(&mut self, word: Word) {
         let place = self.found.len();
         match word {
             Word::Paren | Word::Bracket | Word::Brace => {
@@ -484,14 +422,16 @@ impl<'a> Tokens<'a> {
             }
             _ => {}
         }
-    }
-
-    /// What was read, if there was memory for it.
-    fn finished(self, file: String) -> Result<Read, AllocError> {
-        Ok(Read {
-            file,
-            tokens: self.found,
-            faults: self.faults.finished()?,
-        })
+        let Ok(text) = String::from_str(self.alloc, text) else {
+            return self.faults.note(true);
+        };
+        let span = 0;
+        let token = Token {
+            text,
+            word,
+            line,
+            span,
+        };
+        self.faults.note(self.found.push(token).is_err());
     }
 }

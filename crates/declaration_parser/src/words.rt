@@ -3,16 +3,9 @@
 /// How many fields a struct or a variant can have.
 pub const MOST_FIELDS: usize = 36;
 
-/// What is said of more.
-pub const TOO_MANY: &str = "more than 36 fields: make some of them a struct";
-
 /// What is said of another word of a mark.
 pub const NO_MARK: &str =
     "` marks nothing: a message is marked for `Serialize`, `Deserialize`, or both, and has all else by itself";
-
-/// What is said of a file without marks.
-pub const NO_MESSAGES_MARKED: &str =
-    "nothing is marked: write `// message` in a line of its own before a declaration\n";
 
 /// What is said of a mark before what is no declaration, or after code.
 pub const ALMOST: &str =

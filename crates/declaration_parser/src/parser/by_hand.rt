@@ -1,7 +1,7 @@
 //! Types that are written by hand where they aren't derived: on one side, or under a condition.
 use super::Parser;
-use crate::attributes::{behind_first, front, group, plain_name, type_up_to, up_to};
-use crate::tokens::{Read, Token, Word};
+use crate::attributes::{behind_first, group, plain_name, type_up_to, up_to};
+use crate::tokens::{Read, Token, Word, is_among};
 use crate::words::BY_HAND;
 use std::alloc::{AllocError, Global};
 use std::collections::BTreeMap;
@@ -24,97 +24,93 @@ pub struct ByHand<'a> {
 }
 
 impl<'a> Implemented<'a> {
-    /// No types, of a trait that has this name.
-    fn new(alloc: Global, of: Word, name: &'a str) -> Result<Implemented<'a>, AllocError> {
-        let mut names = Vec::new(alloc);
-        names.push(name)?;
-        Ok(Implemented {
+    /// The types of these files that implement a trait of this name. An item may name what another one declares, so all are gone
+    /// over while more is found.
+    fn of(
+        alloc: Global,
+        of: Word,
+        name: &'a str,
+        files: &'a [Read],
+    ) -> Result<Implemented<'a>, AllocError> {
+        let mut found = Implemented {
             of,
-            names,
+            names: Vec::new(alloc),
             types: BTreeMap::new(alloc),
             is_by_macros: false,
-        })
-    }
-
-    /// Goes over the tokens of a file.
-    fn go_over(&mut self, step: u32, tokens: &'a [Token]) -> Result<(), AllocError> {
-        let mut rest = tokens;
-        for _ in 0..tokens.len() {
-            match step {
-                0 => self.add_name(rest)?,
-                1 => self.add_impl(rest)?,
-                _ => self.add_others(rest)?,
+        };
+        found.names.push(name)?;
+        for _ in 0..u32::MAX {
+            let before = found.count();
+            for file in files {
+                let mut rest: &'a [Token] = &file.tokens;
+                for _ in 0..file.tokens.len() {
+                    found.add_front(rest)?;
+                    rest = behind_first(rest);
+                }
             }
-            rest = behind_first(rest);
+            if found.count() == before {
+                break;
+            }
         }
-        Ok(())
+        Ok(found)
     }
 
-    /// Adds the name at the start that the trait has, or notes a macro of another crate that may implement it by its name.
-    fn add_name(&mut self, tokens: &'a [Token]) -> Result<(), AllocError> {
+    /// How much was found.
+    fn count(&self) -> usize {
+        let found = self.names.len().saturating_add(self.types.len());
+        found.saturating_add(usize::from(self.is_by_macros))
+    }
+
+    /// Adds what the words at the start say: another name of the trait or of a type that was found, what a macro is handed, or an
+    /// `impl`.
+    fn add_front(&mut self, tokens: &'a [Token]) -> Result<(), AllocError> {
         match tokens {
-            [own, by, name, ..] if own.word == self.of && matches!(by.word, Word::As) => {
-                self.names.push(name.text.as_str())?;
+            [own, by, name, ..] if matches!(by.word, Word::As) => {
+                if self.has(name) {
+                    self.types.insert(plain_name(own.text.as_str()), ())?;
+                }
+                if own.word == self.of && !is_among(name.text.as_str(), &self.names) {
+                    self.names.push(name.text.as_str())?;
+                }
+                Ok(())
             }
-            [name, mark, ..] if matches!(mark.word, Word::Bang) => {
+            [name, mark, rest @ ..] if matches!(mark.word, Word::Bang) => {
+                // one of another crate may implement it by its name
                 self.is_by_macros = self.is_by_macros || name.text.as_str().contains("serialize");
+                match group(rest) {
+                    Some((inside, _)) if self.is_by_macros => self.add(inside),
+                    _ => Ok(()),
+                }
             }
-            _ => {}
+            [of, name, rest @ ..] if matches!(of.word, Word::Alias) && self.has(name) => {
+                let (words, _) = up_to(rest, &[";"]);
+                self.add(words)
+            }
+            [of, ..] if matches!(of.word, Word::Impl) => self.add_impl(tokens),
+            _ => Ok(()),
         }
-        Ok(())
     }
 
-    /// Adds the names of types among these tokens.
-    fn add(&mut self, tokens: &'a [Token]) -> Result<(), AllocError> {
-        for token in tokens {
-            if self
-                .types
-                .insert(plain_name(token.text.as_str()), ())
-                .is_err()
-            {
-                return Err(AllocError);
-            }
-        }
-        Ok(())
-    }
-
-    /// Adds the names that the `impl` of this trait at the start is for: of a type, all of the path that leads to it.
+    /// Adds the names that the `impl` at the start is for, if it is of this trait: of a type, all of the path that leads to it.
     fn add_impl(&mut self, tokens: &'a [Token]) -> Result<(), AllocError> {
-        if !matches!(front(tokens), Word::Impl) {
-            return Ok(());
-        }
         let (head, _) = type_up_to(tokens, &["{", ";"]);
         let (head, of) = type_up_to(head, &["for"]);
         let (_, named) = type_up_to(head, &self.names);
         if named.is_empty() {
             return Ok(());
         }
-        for token in of {
-            self.is_by_macros = self.is_by_macros || matches!(token.word, Word::Dollar);
-        }
+        let is_by_macro = of.iter().any(|token| token.word == Word::Dollar);
+        self.is_by_macros = self.is_by_macros || is_by_macro;
         let (path, _) = up_to(behind_first(of), &["<", "where"]);
         self.add(path)
     }
 
-    /// Adds what is at the start: the types of a call of a macro, or those to which an alias or a `use` gives a name that was
-    /// found.
-    fn add_others(&mut self, tokens: &'a [Token]) -> Result<(), AllocError> {
-        match tokens {
-            [_, mark, rest @ ..] if self.is_by_macros && matches!(mark.word, Word::Bang) =>
-                match group(rest) {
-                    Some((inside, _)) => self.add(inside),
-                    None => Ok(()),
-                },
-            [own, by, name, ..] if matches!(by.word, Word::As) && self.has(name) => {
-                let (own, _) = tokens.split_at(1);
-                self.add(own)
-            }
-            [of, name, rest @ ..] if matches!(of.word, Word::Alias) && self.has(name) => {
-                let (words, _) = up_to(rest, &[";"]);
-                self.add(words)
-            }
-            _ => Ok(()),
+    /// Adds the names of types among these tokens.
+    fn add(&mut self, tokens: &'a [Token]) -> Result<(), AllocError> {
+        for token in tokens {
+            self.types.insert(plain_name(token.text.as_str()), ())?;
         }
+        Ok(())
     }
 
     /// Whether a type of this name was found.
@@ -126,22 +122,10 @@ impl<'a> Implemented<'a> {
 impl<'a> ByHand<'a> {
     /// That of these files.
     pub fn of(alloc: Global, files: &'a [Read]) -> Result<ByHand<'a>, AllocError> {
-        let mut written = Implemented::new(alloc, Word::Serialize, "Serialize")?;
-        let mut read = Implemented::new(alloc, Word::Deserialize, "Deserialize")?;
-        let mut count: usize = 0;
-        // names of the traits, then types, then what these are called otherwise, while there are more of those
-        for step in 0..u32::MAX {
-            for file in files {
-                written.go_over(step, &file.tokens)?;
-                read.go_over(step, &file.tokens)?;
-            }
-            let now = written.types.len().saturating_add(read.types.len());
-            if step > 1 && now == count {
-                break;
-            }
-            count = now;
-        }
-        Ok(ByHand { written, read })
+        Ok(ByHand {
+            written: Implemented::of(alloc, Word::Serialize, "Serialize", files)?,
+            read: Implemented::of(alloc, Word::Deserialize, "Deserialize", files)?,
+        })
     }
 }
 
@@ -149,16 +133,14 @@ impl<'a> Parser<'a> {
     /// Refuses a type that is written by hand on a side that isn't derived, or is so under a condition.
     pub(super) fn check_by_hand(&mut self, by_hand: &ByHand<'_>) {
         let marking = self.marking;
-        if !marking.is_derived {
-            return;
-        }
-        let may_be_written = !marking.marks.written || marking.is_conditional;
-        let may_be_read = !marking.marks.read || marking.is_conditional;
-        if may_be_written && by_hand.written.types.contains_key(self.at.name) {
-            self.at.refuse("Serialize", BY_HAND);
-        }
-        if may_be_read && by_hand.read.types.contains_key(self.at.name) {
-            self.at.refuse("Deserialize", BY_HAND);
+        for (is_marked, side, word) in [
+            (marking.marks.written, &by_hand.written, "Serialize"),
+            (marking.marks.read, &by_hand.read, "Deserialize"),
+        ] {
+            let may_be = marking.is_derived && (!is_marked || marking.is_conditional);
+            if may_be && side.types.contains_key(self.at.name) {
+                self.at.refuse(word, BY_HAND);
+            }
         }
     }
 }

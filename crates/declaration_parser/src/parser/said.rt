@@ -1,23 +1,15 @@
 //! What attributes say of the bytes.
 use super::Parser;
 use crate::attributes::{
-    AttributeWalk, attribute, behind_first, first_part, first_word, front, held, is_derived,
-    last_word, up_to,
+    AttributeWalk, ConditionedAttribute, attribute, behind_first, first_part, first_word, front,
+    held, is_derived, last_word, up_to,
 };
 use crate::declaration::{Body, Field, Layout};
-use crate::tokens::{Token, Word, is_listed};
+use crate::tokens::{Token, Word, is_listed, row_of};
 use crate::words::{
     ALMOST_WAY, LEFT_OUT, NO_BYTES, OF_ITEMS, OF_SERDE, ON_SOME_DEVICES, ONE_SIDE, OTHER_CONDITION,
     TOOLS, TRANSPARENT, UNKNOWN, WAY_OF_SERDE,
 };
-
-/// The position of an attribute.
-#[derive(Clone, Copy, Drop)]
-pub(super) enum At {
-    Item,
-    Variant,
-    Field,
-}
 
 /// What attributes say of the bytes of a field, or of a type.
 #[derive(Clone, Copy, Drop)]
@@ -47,9 +39,17 @@ fn is_phantom(field: &Field<'_>) -> bool {
     last_word(path) == "PhantomData"
 }
 
+/// Whether an attribute of a declaration is of the language or a tool's, or the helper of a derive among these. A helper is one
+/// word, and a path is a macro's, which may rewrite the declaration.
+fn is_harmless(words: &[Token], all: &[Token]) -> bool {
+    let name = first_word(words);
+    let is_path = matches!(front(behind_first(words)), Word::Colon);
+    is_listed(name, TOOLS) || (!is_path && (is_listed(name, OF_ITEMS) || is_derived(all, name)))
+}
+
 impl<'a> Parser<'a> {
     /// Reads attributes, and gathers what they say of the bytes. What is wrong is reported by their lines.
-    pub(super) fn said(&mut self, attributes: &'a [Token], at: At) -> Said {
+    pub(super) fn said(&mut self, attributes: &'a [Token]) -> Said {
         let mut said = Said {
             is_transparent: false,
             not_written: false,
@@ -57,64 +57,48 @@ impl<'a> Parser<'a> {
             layout: Layout::Own,
         };
         let line = self.at.line;
+        let is_item = self.at.variant.is_empty() && self.at.field.is_none();
         let mut all = AttributeWalk::of(attributes);
         for _ in 0..attributes.len() {
             let Some(it) = all.next() else {
                 break;
             };
+            let name = first_word(it.words);
             if let [word, ..] = it.words {
                 self.at.line = word.line;
             }
-            let is_other = !it.condition.is_empty() && !self.marking.is_under(it.condition);
-            self.read_attribute(it.words, attributes, at, is_other, &mut said);
+            match name {
+                "serde" => self.read_serde(it, &mut said),
+                "serde_as" | "serde_with" if last_word(it.words) == "serde_as" => {}
+                // that of a derive has parentheses
+                "with" if held(it.words).is_empty() => self.read_way(it.words, &mut said),
+                "cfg" | "cfg_attr" if !is_item => self.at.refuse(name, ON_SOME_DEVICES),
+                _ if name.starts_with("serde") || (is_item && !is_harmless(it.words, attributes)) =>
+                    self.at.refuse(name, UNKNOWN),
+                _ => {}
+            }
         }
         self.at.line = line;
         said
     }
 
-    /// Reads an attribute, and whether it has another condition than the derives. One of a declaration has to be of the language,
-    /// or the helper of a derive among these whose path begins with its name.
-    fn read_attribute(
-        &mut self,
-        words: &'a [Token],
-        all: &'a [Token],
-        at: At,
-        is_other: bool,
-        said: &mut Said,
-    ) {
-        let name = first_word(words);
-        let is_item = matches!(at, At::Item);
-        // a helper of a derive is one word, and a path is a macro's, which may rewrite the declaration
-        let is_path = matches!(front(behind_first(words)), Word::Colon);
-        let is_helper = is_listed(name, OF_ITEMS) || is_derived(all, name);
-        let is_free = !is_item || is_listed(name, TOOLS) || (is_helper && !is_path);
-        match name {
-            "serde" => self.read_serde(held(words), at, is_other, said),
-            "serde_as" | "serde_with" if last_word(words) == "serde_as" => {}
-            // that of a derive has parentheses
-            "with" if held(words).is_empty() => self.read_way(words, at, said),
-            _ if name.starts_with("serde") || !is_free => self.at.refuse(name, UNKNOWN),
-            "cfg" | "cfg_attr" if !is_item => self.at.refuse(name, ON_SOME_DEVICES),
-            _ => {}
-        }
-    }
-
     /// Reads a comment that says how a field is sent, or only seems meant to.
-    fn read_way(&mut self, words: &'a [Token], at: At, said: &mut Said) {
+    fn read_way(&mut self, words: &'a [Token], said: &mut Said) {
         match words {
             [_, comment] if !self.marking.is_derived => {
                 self.at.wrong(&["`// ", comment.text.as_str(), ALMOST_WAY]);
             }
             [_, _] => {}
             _ if self.marking.is_derived => self.at.refuse("with", WAY_OF_SERDE),
-            _ => self.read_changing("with", words, at, said),
+            _ => self.read_changing("with", words, said),
         }
     }
 
     /// Reads the words of an attribute of serde's.
-    fn read_serde(&mut self, words: &'a [Token], at: At, is_other: bool, said: &mut Said) {
-        let mut rest = words;
-        for _ in 0..words.len() {
+    fn read_serde(&mut self, it: ConditionedAttribute<'a>, said: &mut Said) {
+        let is_other = !it.condition.is_empty() && !self.marking.is_under(it.condition);
+        let mut rest = held(it.words);
+        for _ in 0..rest.len() {
             let (part, behind) = first_part(rest);
             // An attribute in an attribute is what a comment was.
             let part = match attribute(part) {
@@ -124,7 +108,7 @@ impl<'a> Parser<'a> {
             let name = first_word(part);
             said.is_transparent = said.is_transparent || name == "transparent";
             if !name.is_empty() && !is_listed(name, NO_BYTES) {
-                self.read_changing(name, part, at, said);
+                self.read_changing(name, part, said);
                 if is_other {
                     self.at.refuse(name, OTHER_CONDITION);
                 }
@@ -134,12 +118,12 @@ impl<'a> Parser<'a> {
     }
 
     /// Reads a word of serde's that may change the bytes, with what follows it.
-    fn read_changing(&mut self, name: &str, words: &'a [Token], at: At, said: &mut Said) {
+    fn read_changing(&mut self, name: &str, words: &'a [Token], said: &mut Said) {
         let value = match words {
             [_, equals, value] if equals.text.as_str() == "=" => value.text.as_str(),
             _ => "",
         };
-        let is_field = matches!(at, At::Field);
+        let is_field = self.at.field.is_some();
         match (name, value) {
             ("with", way) if is_field && layout_of(way).is_some() => {
                 said.layout = layout_of(way).unwrap_or(Layout::Own);
@@ -151,30 +135,23 @@ impl<'a> Parser<'a> {
             ("skip_serializing", "") if is_field => said.not_written = true,
             ("skip_deserializing", "") if is_field => said.not_read = true,
             ("skip_serializing_if", _) if is_field && !self.marking.marks.written => {}
-            _ => self.refuse_serde(name),
-        }
-    }
-
-    /// Refuses a word of serde's, with what to write.
-    fn refuse_serde(&mut self, name: &str) {
-        match OF_SERDE.iter().find(|row| is_listed(name, row.0)) {
-            Some(row) => self.at.refuse(name, row.1),
-            None => self.at.refuse(name, UNKNOWN),
+            _ => self
+                .at
+                .refuse(name, row_of(OF_SERDE, name).unwrap_or(UNKNOWN)),
         }
     }
 
     /// Refuses a transparent type that has more fields than the one that serde sends.
     pub(super) fn check_transparent(&mut self, said: Said, body: &Body<'_>) {
-        let Body::Struct(fields) = body else {
-            return;
-        };
-        let mut count: usize = 0;
-        for field in &fields.items {
-            if !is_phantom(field) {
-                count = count.saturating_add(1);
-            }
-        }
-        if said.is_transparent && count > 1 {
+        if let Body::Struct(fields) = body
+            && said.is_transparent
+            && fields
+                .items
+                .iter()
+                .filter(|field| !is_phantom(field))
+                .count()
+                > 1
+        {
             self.at.refuse("transparent", TRANSPARENT);
         }
     }
