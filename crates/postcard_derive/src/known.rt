@@ -1,6 +1,6 @@
 //! Types that no message can hold, and what to use instead.
 use declaration_parser::sent::sent_as;
-use declaration_parser::tokens::is_listed;
+use declaration_parser::tokens::row_of;
 
 /// Words, with blanks between them, and what is said of each: what begins with `` ` `` follows the word, else it is what to write,
 /// between [`NOT_HERE`] and such a mark.
@@ -52,22 +52,12 @@ const NO_MESSAGES: Rows = &[
     ("Instant", NO_TYPE),
 ];
 
-/// What these rows say of a word; empty if none has it.
-pub fn said_of(rows: Rows, word: &str) -> &'static str {
-    for (words, why) in rows {
-        if is_listed(word, words) {
-            return why;
-        }
-    }
-    ""
-}
-
 /// Why a type that isn't the crate's own can't be in a message, by where it is from and its name; empty if it can.
 pub fn no_message(from: &str, name: &str) -> &'static str {
-    let of_heapless = said_of(OF_HEAPLESS, name);
-    match sent_as(name) {
-        _ if from == "heapless" && !of_heapless.is_empty() => of_heapless,
-        Some(sent) => sent,
-        None => said_of(NO_MESSAGES, name),
-    }
+    let of_heapless = match from {
+        "heapless" => row_of(OF_HEAPLESS, name),
+        _ => None,
+    };
+    let known = sent_as(name).or(row_of(NO_MESSAGES, name));
+    of_heapless.or(known).unwrap_or("")
 }

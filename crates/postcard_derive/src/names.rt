@@ -1,12 +1,27 @@
 //! The fields of declarations in rows, and the names that their implementations bring in.
-use crate::parameters::bounding;
 use crate::scope::{OF_THE_CRATE, Origins, PathWord, is_capital, words_of};
-use declaration_parser::declaration::{Body, Declaration, Field, Layout};
+use declaration_parser::declaration::{Body, Declaration, Field};
 use declaration_parser::tokens::is_among;
 use std::alloc::{AllocError, Global};
 
 /// Names of the language that are in types, unless the file gives them to others.
 const OF_TYPES: &[&str] = &["Box", "Option", "Result", "String", "Vec"];
+
+/// The names of `postcard` that implementations may bring in, in order, and what is in those that do.
+const OF_POSTCARD: &[(&str, &str)] = &[
+    ("AsShape", "= AsShape;"),
+    ("Last", ".{Last};"),
+    ("MatchesShape", "MatchesShape for"),
+    ("Readable", "Readable for"),
+    ("Serialize", "&mut Serializer<F>"),
+    ("Serializer", "&mut Serializer<F>"),
+    ("ShapeOf", "<ShapeOf<Self>"),
+    ("Shaped", "Shaped for"),
+    ("Variant", ".{This, Other};"),
+    ("Variants4", ".{V0, V1, V2, V3, More};"),
+    ("fixint", "fixint::LE("),
+    ("fixint", "fixint::BE("),
+];
 
 /// A field, and before it its variant, whose name is empty in a struct.
 pub type NamedField<'a> = (&'a str, Field<'a>);
@@ -60,9 +75,8 @@ pub fn uses_of<'a>(
     for it in all {
         uses.push(("", it.name))?;
         let mut parts = Vec::new(alloc);
-        for tokens in bounding(it) {
-            parts.push(("", tokens))?;
-        }
+        parts.push(("", it.generics))?;
+        parts.push(("", it.bounds))?;
         for (_, field) in &rows_of(alloc, it)? {
             parts.push((it.name, field.of))?;
         }
@@ -95,37 +109,15 @@ pub fn names_of<'a>(alloc: Global, uses: &[Use<'a>]) -> Result<Vec<&'a str>, All
     Ok(names)
 }
 
-/// The names that the implementations of these bring in of `postcard`.
-pub fn of_postcard(alloc: Global, all: &[Declaration]) -> Result<Vec<Use<'static>>, AllocError> {
-    let mut uses = Vec::new(alloc);
-    for it in all {
-        let count = match &it.body {
-            Body::Struct(_) => 0,
-            Body::Enum(variants) => variants.len(),
-        };
-        let mut is_fixed = false;
-        for (_, field) in &rows_of(alloc, it)? {
-            is_fixed = is_fixed || matches!(field.layout, Layout::Little | Layout::Big);
-        }
-        for (is_used, name) in [
-            (true, "AsShape"),
-            (count > 0, "Last"),
-            (true, "MatchesShape"),
-            (true, "Readable"),
-            (it.marks.written, "Serialize"),
-            (it.marks.written, "Serializer"),
-            (true, "ShapeOf"),
-            (true, "Shaped"),
-            (count > 0 && count % 4 != 1, "Variant"),
-            (count > 4, "Variants4"),
-            (is_fixed, "fixint"),
-        ] {
-            if is_used {
-                uses.push(("", name))?;
-            }
+/// The names that these implementations bring in of `postcard`.
+pub fn names_of_postcard(alloc: Global, written: &str) -> Result<Vec<&'static str>, AllocError> {
+    let mut names = Vec::new(alloc);
+    for (name, sign) in OF_POSTCARD {
+        if written.contains(*sign) {
+            put(&mut names, name)?;
         }
     }
-    Ok(uses)
+    Ok(names)
 }
 
 /// Whether a type of this name holds itself, also by way of others.

@@ -5,21 +5,6 @@ use declaration_parser::attributes::{behind_first, first_word, type_up_to};
 use declaration_parser::declaration::Declaration;
 use declaration_parser::tokens::{Token, is_lifetime};
 
-/// What is between the marks round the parameters of a declaration, and its bounds after `where`.
-pub fn bounding<'a>(it: &Declaration<'a>) -> [&'a [Token]; 2] {
-    let (_, declared) = type_up_to(it.words, &["struct", "enum"]);
-    let (parameters, behind) = match declared {
-        [_, _, open, rest @ ..] if open.text.as_str() == "<" => type_up_to(rest, &[">"]),
-        _ => declared.split_at(0),
-    };
-    let (_, bounds) = type_up_to(behind, &["where", "{", ";"]);
-    if first_word(bounds) != "where" {
-        return [parameters, &[]];
-    }
-    let (bounds, _) = type_up_to(behind_first(bounds), &["{", ";"]);
-    [parameters, bounds]
-}
-
 impl Text {
     /// Appends the words of a type or of bounds; one that begins a path which leads from the module above is another here.
     pub fn put_words(&mut self, tokens: &[Token]) {
@@ -70,10 +55,10 @@ impl Text {
 
     /// Appends the parameters of a declaration, each as [`put_parameter`](Text::put_parameter) has it.
     pub fn put_parameters(&mut self, it: &Declaration, bound: Option<&str>) {
-        let [mut rest, _] = bounding(it);
+        let mut rest = behind_first(it.generics);
         let mut before = "<";
         for _ in 0..rest.len() {
-            let (parameter, behind) = type_up_to(rest, &[","]);
+            let (parameter, behind) = type_up_to(rest, &[",", ">"]);
             if !parameter.is_empty() {
                 self.put(before);
                 self.put_parameter(parameter, bound);

@@ -1,7 +1,6 @@
 //! From declarations to implementations, which `rt fmt` lays out.
 use crate::fields::{ROW, SEEN, SENT, SENT_ALONE, TAKEN, TYPE};
-use crate::names::{Use, names_of, of_postcard};
-use crate::parameters::bounding;
+use crate::names::{Use, names_of, names_of_postcard};
 use crate::text::Text;
 use declaration_parser::declaration::{Body, Declaration, Field, Fields};
 use declaration_parser::tokens::is_among;
@@ -126,17 +125,16 @@ impl Text {
     /// with their bounds, and types with this one too; the bounds after `where`; or what its fields or variants have for it.
     /// Another stands for itself.
     fn put_part(&mut self, it: &Declaration, word: &str) {
-        let [_, bounds] = bounding(it);
         match word {
             "name" => self.put(it.name),
             "names" => self.put_each("<", &it.parameters, ">"),
             "alias" => self.put_parameters(it, None),
             "plain" => self.put_parameters(it, Some("")),
             "Readable" | "Serialize" => self.put_parameters(it, Some(word)),
-            "where" if bounds.is_empty() => {}
+            "where" if it.bounds.is_empty() => {}
             "where" => {
                 self.put(" where ");
-                self.put_words(bounds);
+                self.put_words(it.bounds);
             }
             "types" | "seen" | "taken" | "apart" | "value" | "made" | "sent" => match &it.body {
                 Body::Struct(fields) => self.put_of_struct(it.name, fields, word),
@@ -188,21 +186,23 @@ pub fn implementations(
     with_schemas: bool,
     all: &[Declaration],
 ) -> Result<String, AllocError> {
-    let names = names_of(alloc, &of_postcard(alloc, all)?)?;
-    let is_written = is_among("Serialize", &names);
-    let in_tables = with_schemas && all.iter().any(|it| it.marks.read);
     let mut text = Text::new(alloc);
-    text.put_all(&[HEAD, if in_tables { OF_TABLES } else { "" }, LEMMAS]);
-    text.put_each("use super::{", &names_of(alloc, uses)?, "};\n");
-    if is_written {
-        text.put("use postcard::ser_flavors::Flavor;\n");
-    }
-    text.put_each("use postcard::{", &names, "};\n");
-    if in_tables {
-        text.put("use schemas::SchemaOfShape;\n");
-    }
     for it in all {
         text.put_declaration(it, path, with_schemas);
     }
-    text.made.finished()
+    let written = text.made.finished()?;
+    let names = names_of_postcard(alloc, written.as_str())?;
+    let in_tables = with_schemas && all.iter().any(|it| it.marks.read);
+    let mut whole = Text::new(alloc);
+    whole.put_all(&[HEAD, if in_tables { OF_TABLES } else { "" }, LEMMAS]);
+    whole.put_each("use super::{", &names_of(alloc, uses)?, "};\n");
+    if is_among("Serialize", &names) {
+        whole.put("use postcard::ser_flavors::Flavor;\n");
+    }
+    whole.put_each("use postcard::{", &names, "};\n");
+    if in_tables {
+        whole.put("use schemas::SchemaOfShape;\n");
+    }
+    whole.put(written.as_str());
+    whole.made.finished()
 }

@@ -1,11 +1,11 @@
 //! What can't be implemented of declarations, a line each. Why a thing can't be is a text, which is empty if it can.
-use crate::known::{HOLDS_ITSELF, NO_TYPE, NO_WORDS, NOT_HERE, no_message, said_of};
+use crate::known::{HOLDS_ITSELF, NO_TYPE, NO_WORDS, NOT_HERE, no_message};
 use crate::names::{NamedField, Use, holds_itself, rows_of};
 use crate::scope::{OF_THE_CRATE, Origins, PathWord, is_capital, is_small, is_wordy, words_of};
 use crate::text::Text;
 use declaration_parser::declaration::{Declaration, Layout};
 use declaration_parser::sent::is_primitive;
-use declaration_parser::tokens::{is_among, is_lifetime};
+use declaration_parser::tokens::{is_among, is_lifetime, row_of};
 use std::alloc::{AllocError, Global};
 
 /// The text of the word at a place; nothing if there is none.
@@ -18,24 +18,25 @@ fn text_at<'a>(words: &[PathWord<'a>], place: usize) -> &'a str {
 
 /// Whether these texts are at a place.
 fn are_at(words: &[PathWord], place: usize, wanted: &[&str]) -> bool {
-    for (step, text) in wanted.iter().enumerate() {
-        if text_at(words, place.saturating_add(step)) != *text {
-            return false;
-        }
-    }
-    true
+    let mut places = wanted.iter().enumerate();
+    places.all(|(step, text)| text_at(words, place.saturating_add(step)) == *text)
 }
 
-/// Why a field of these words can't be sent as its attribute says.
-fn layout_refusal(layout: Layout, words: &[PathWord]) -> &'static str {
+/// Why a field of these words can't be sent as its attribute says, whose crate the file may hide by a name of its own.
+fn layout_refusal(scope: &Origins, layout: Layout, words: &[PathWord]) -> &'static str {
     let first = text_at(words, 0);
     let fixed = &["u16", "u32", "u64", "u128", "i16", "i32", "i64", "i128"];
     let is_integer = words.len() == 1 && (is_among(first, fixed) || is_capital(first));
     let is_bytes = are_at(words, words.len().saturating_sub(4), &["Vec", "<", "u8"])
         || (first == "&" && are_at(words, 2, &["[", "u8", "]"]));
+    let is_hidden = |krate: &str| !is_among(scope.origin(krate), &["", krate]);
     match layout {
         Layout::Little | Layout::Big if !is_integer =>
             "` can't be sent as its bytes: `postcard::fixint` has integers of 16 to 128 bits; write the type that is on the wire",
+        Layout::Little | Layout::Big if is_hidden("postcard") =>
+            "` is sent by `postcard::fixint`, but this file has another `postcard`: call that otherwise",
+        Layout::Buffer if is_hidden("serde_bytes") =>
+            "` is sent by `serde_bytes`, but this file has another one: call that otherwise",
         Layout::Buffer if !is_bytes =>
             "` can't be sent by `serde_bytes` here: write `Vec<u8>` or `&'a [u8]`, which have those bytes",
         Layout::Array if first != "[" => "` is no array, which its `with` wants: write `[T; N]`",
@@ -94,8 +95,7 @@ fn word_refusal(
     let Some(word) = words.get(place) else {
         return "";
     };
-    let why = said_of(NO_WORDS, word.text);
-    if !why.is_empty() {
+    if let Some(why) = row_of(NO_WORDS, word.text) {
         why
     } else if word.text == "&" {
         reference_refusal(it, words, place)
@@ -130,7 +130,7 @@ impl Text {
     ) -> Result<(), AllocError> {
         let (variant, field) = row;
         let words = words_of(self.alloc, field.of)?;
-        let mut why = layout_refusal(field.layout, &words);
+        let mut why = layout_refusal(scope, field.layout, &words);
         for (place, word) in words.iter().enumerate() {
             if why.is_empty() {
                 why = word_refusal(scope, it, &words, place);

@@ -1,5 +1,5 @@
 //! Where the names of a file come from, and the words of a type with the paths that they are in.
-use declaration_parser::tokens::{Token, first_letter, is_among, is_of_word};
+use declaration_parser::tokens::{Token, Word, first_letter, is_among, is_listed, is_of_word};
 use std::alloc::{AllocError, Global};
 
 /// What begins a path within the crate.
@@ -20,10 +20,7 @@ impl<'a> Origins<'a> {
         let mut head = "";
         for token in tokens {
             let word = token.text.as_str();
-            if is_among(
-                before,
-                &["struct", "enum", "union", "type", "mod", "trait", "const"],
-            ) {
+            if is_listed(before, "struct enum union type mod trait const") {
                 origins.push((word, "self"))?;
             } else if !head.is_empty() && is_among(word, &[";", ",", "}"]) {
                 origins.push((before, head))?;
@@ -65,7 +62,7 @@ pub struct PathWord<'a> {
 /// What follows `::` at the start of these tokens, if they begin so.
 fn behind_colons(tokens: &[Token]) -> Option<&[Token]> {
     match tokens {
-        [first, second, behind @ ..] if first.text.as_str() == ":" && second.text.as_str() == ":" =>
+        [one, two, behind @ ..] if matches!((one.word, two.word), (Word::Colon, Word::Colon)) =>
             Some(behind),
         _ => None,
     }
