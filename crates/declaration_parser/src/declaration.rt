@@ -2,9 +2,10 @@
 use crate::tokens::{Read, Token};
 
 /// How the bytes of a field are arranged.
-#[derive(Clone, Copy, PartialEq, Eq, Drop)]
+#[derive(Clone, Copy, Default, PartialEq, Eq, Drop)]
 pub enum Layout {
     /// As its type has it.
+    #[default]
     Own,
     /// An integer's, the lowest first, all of them.
     Little,
@@ -65,7 +66,7 @@ pub enum Body<'a> {
 }
 
 /// What a declaration is marked for: one of them at least.
-#[derive(Clone, Copy, Drop)]
+#[derive(Clone, Copy, Default, Drop)]
 pub struct Marks {
     pub written: bool,
     pub read: bool,

@@ -7,7 +7,7 @@ use crate::tokens::{Token, Word, is_among};
 use crate::words::NOT_OF_SERDE;
 
 /// What marks add up to.
-#[derive(Clone, Copy, Drop)]
+#[derive(Clone, Copy, Default, Drop)]
 pub struct Marking<'a> {
     pub marks: Marks,
     /// The condition of the first derive that marks, if there is one; empty if it has none.
@@ -91,16 +91,8 @@ impl<'a> Marking<'a> {
     /// What attributes and comments mark.
     fn of(attributes: &'a [Token]) -> Marking<'a> {
         let mut marking = Marking {
-            marks: Marks {
-                written: false,
-                read: false,
-            },
-            condition: None,
-            has_others: false,
-            is_conditional: false,
             is_derived: true,
-            wrong: None,
-            other: None,
+            ..Marking::default()
         };
         for token in attributes {
             if matches!(token.word, Word::Mark) {

@@ -16,7 +16,7 @@ use std::alloc::Global;
 const ENDS: &[&str] = &[",", ">", ";", "="];
 
 /// What declarations are read for.
-#[derive(Clone, Copy, Debug, PartialEq, Eq, Drop)]
+#[derive(Clone, Copy, Drop)]
 pub enum Purpose {
     /// To write implementations: names that these use are refused, raw names, fields that are left out, and too many.
     Implementations,
@@ -65,7 +65,7 @@ impl<'a> Parser<'a> {
 
     /// Refuses a word if implementations are to be written.
     fn refuse_in_code(&mut self, is_wrong: bool, word: &str, why: &str) {
-        if is_wrong && self.purpose == Purpose::Implementations {
+        if is_wrong && matches!(self.purpose, Purpose::Implementations) {
             self.at.refuse(word, why);
         }
     }
@@ -114,7 +114,7 @@ impl<'a> Parser<'a> {
 
     /// Takes a field; nothing if it isn't sent.
     fn item(&mut self, place: usize, named: bool) -> Option<Field<'a>> {
-        if place == MOST_FIELDS && self.purpose == Purpose::Implementations {
+        if place == MOST_FIELDS && matches!(self.purpose, Purpose::Implementations) {
             self.at
                 .wrong(&["more than 36 fields: make some of them a struct"]);
         }

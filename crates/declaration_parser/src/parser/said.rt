@@ -12,7 +12,7 @@ use crate::words::{
 };
 
 /// What attributes say of the bytes of a field, or of a type.
-#[derive(Clone, Copy, Drop)]
+#[derive(Clone, Copy, Default, Drop)]
 pub(super) struct Said {
     /// Whether one field alone is sent, if there are more.
     pub(super) is_transparent: bool,
@@ -50,12 +50,7 @@ fn is_harmless(words: &[Token], all: &[Token]) -> bool {
 impl<'a> Parser<'a> {
     /// Reads attributes, and gathers what they say of the bytes. What is wrong is reported by their lines.
     pub(super) fn said(&mut self, attributes: &'a [Token]) -> Said {
-        let mut said = Said {
-            is_transparent: false,
-            not_written: false,
-            not_read: false,
-            layout: Layout::Own,
-        };
+        let mut said = Said::default();
         let line = self.at.line;
         let is_item = self.at.variant.is_empty() && self.at.field.is_none();
         let mut all = AttributeWalk::of(attributes);
@@ -124,10 +119,11 @@ impl<'a> Parser<'a> {
             _ => "",
         };
         let is_field = self.at.field.is_some();
+        if let ("with", true, Some(layout)) = (name, is_field, layout_of(value)) {
+            said.layout = layout;
+            return;
+        }
         match (name, value) {
-            ("with", way) if is_field && layout_of(way).is_some() => {
-                said.layout = layout_of(way).unwrap_or(Layout::Own);
-            }
             ("skip", "") if is_field => {
                 said.not_written = true;
                 said.not_read = true;
