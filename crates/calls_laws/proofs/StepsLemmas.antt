@@ -4,6 +4,7 @@ use Rattle.std.specs.Prelude.{IfSome}
 use Rattle.std.proofs.lemmas.Bool.{eqb-true}
 use Rattle.postcard_tree.specs.Tree.{Tree}
 use Rattle.line_io.specs.Device.{LineState}
+use Rattle.link.specs.Filled.{Filled}
 use Rattle.link.specs.Listening.{IsReceived, HasGiven}
 use Rattle.link.specs.Each.{HasReadNow, IsHeardNow, gave_now}
 use Rattle.link.specs.declared.reception.Reception.{Reception}
@@ -106,7 +107,7 @@ pub front_read : (end : Option End) (old new : List ℕ) (f g c d : ℕ) (bytes 
 front_read end old new f g c d bytes h =
     (gave_now (telling old f c) (telling new g d) end bytes h).came
 
-module _ {D V : Type 0} (inside : D → List ℕ) (holds : List ℕ → Tree → Type 0) (reads : Tree → V → Type 0) (limit s : ℕ) (r : Reception D) (bytes : List ℕ) (answers : List (Answer V)) where
+module _ {D V : Type 0} (inside : D → Filled) (holds : List ℕ → Tree → Type 0) (reads : Tree → V → Type 0) (limit s : ℕ) (r : Reception D) (bytes : List ℕ) (answers : List (Answer V)) where
   -- nothing was lost
   none_lost : HasGiven holds reads limit s answers bytes → HeardOn holds reads limit s answers bytes
   none_lost h = record { losses = []; later = answers; rest = bytes; said = refl; parts = refl; given = h }

@@ -15,8 +15,8 @@ mod window;
 pub use decoder::CobsDecoder;
 pub use heapless::CobsDecoderHeapless;
 pub use in_place::{
-    decode_in_place, decode_in_place_report, decode_in_place_report_with_sentinel,
-    decode_in_place_with_sentinel,
+    decode_clear_in_place, decode_in_place, decode_in_place_report,
+    decode_in_place_report_with_sentinel, decode_in_place_with_sentinel,
 };
 pub use owned::CobsDecoderOwned;
 pub use report::{DecodeError, DecodeReport, DecodeVecError, DecodingResult};

@@ -6,6 +6,7 @@ use Rattle.line_io.specs.Device.{LineState, Wrote}
 use Rattle.line_io.specs.Calls.{Wrote-then, WentOut-none}
 use Rattle.line_io.specs.Transfers.{Writing, whole, broken}
 use Rattle.line_io.specs.declared.transfers.WriteFault.{WriteFault}
+use Rattle.link.specs.Filled.{Filled}
 use Rattle.link.specs.Judged.{Judging}
 use Rattle.link.specs.Each.{IsAsked}
 use Rattle.link.specs.Listening.{Hears}
@@ -20,7 +21,7 @@ use Rattle.framed_lib.proofs.LinesLemmas.{all-same}
 use Rattle.framed_lib.proofs.OutputLemmas.{put-went}
 
 -- a receiver that was given nothing
-pub asked_for : {D H A : Type 0} (inside : D → List ℕ) (growing : Bool) (hears : H → List (Answer (String A)) → H → Type 0) (enough : H → Bool) (settled : H → Type 0) (r : Reception D) (strict : Bool) (sentinel : ℕ)
+pub asked_for : {D H A : Type 0} (inside : D → Filled) (growing : Bool) (hears : H → List (Answer (String A)) → H → Type 0) (enough : H → Bool) (settled : H → Type 0) (r : Reception D) (strict : Bool) (sentinel : ℕ)
     (h k : H) (answers : List (Answer (String A))) (bytes : List ℕ)
     → Hears inside (holds_text strict) (reads_text {A = A}) 1024 sentinel r [] []
     → IsAsked inside (record { holds = holds_text strict; reads = reads_text {A = A}; growing = growing }) hears enough settled 1024 r h k answers bytes

@@ -4,6 +4,7 @@ use Rattle.std.specs.Prelude.{Vec}
 use Rattle.std.specs.List.{AllZip}
 use Rattle.line_io.specs.Device.{LineState}
 use Rattle.postcard_tree.specs.Tree.{Tree}
+use Rattle.link.specs.Filled.{Filled}
 use Rattle.link.specs.Link.{Verdict, IsAnswer, Answers, cut_answers, unfinished, IsJudged, Judging, Matches, HasAllButLast, HasBegun, IsReceived, EndsAtLoss, EndsFor, begun_answers, Given, ended, IsLost}
 use Rattle.line_io.specs.Transfers.{HasRead}
 use Rattle.link.specs.Each.{HasReadNow, IsReceivedNow, MayLackMemory, IsAsked, WasAsked}
@@ -182,7 +183,7 @@ module _ {V A : Type 0} (holds : List ℕ → Tree → Type 0) (reads : Tree →
   ends_by (Some ReadFault) false k n m f e = cc
   ends_by (Some NoMemory) false k n m f e = inr (m, subst (λ y. EndsAtLoss holds reads limit s y stream) (all_kept old list answers o k) (f refl))
 
-module _ {D H V : Type 0} (inside : D → List ℕ) (judging : Judging V) (hears : H → List (Answer V) → H → Type 0) (enough : H → Bool) (settled : H → Type 0) (room : ℕ) (r : Reception D) (h k : H) (answers : List (Answer V)) (bytes : List ℕ) (limit s : ℕ) (stream : List ℕ) (had : List (Answer V)) (heard : Hears inside judging.holds judging.reads limit s r had stream) where
+module _ {D H V : Type 0} (inside : D → Filled) (judging : Judging V) (hears : H → List (Answer V) → H → Type 0) (enough : H → Bool) (settled : H → Type 0) (room : ℕ) (r : Reception D) (h k : H) (answers : List (Answer V)) (bytes : List ℕ) (limit s : ℕ) (stream : List ℕ) (had : List (Answer V)) (heard : Hears inside judging.holds judging.reads limit s r had stream) where
   -- nothing was read
   early_none : (xs : List (Answer V)) → bytes ≡ [] → HasAllButLast judging.holds judging.reads limit s room (had ++ xs) (stream ++ bytes)
   early_none xs e = record {

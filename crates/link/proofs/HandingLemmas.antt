@@ -3,6 +3,7 @@ use Rattle.std.proofs.Common.{◌≡◌, ◌-◌, ◌<◌, ◌≤◌, ◌+◌, B
 use Rattle.line_io.specs.Device.{LineState, Gave}
 use Rattle.line_io.specs.Calls.{Gave-then, Failed-later}
 use Rattle.postcard_tree.specs.Tree.{Tree}
+use Rattle.link.specs.Filled.{Filled}
 use Rattle.link.specs.Link.{IsBehind, Judging, IsLost, Answered, kept, over, begun, EndsBetween, IsAt}
 use Rattle.line_io.specs.Transfers.{HasRead}
 use Rattle.link.specs.Listening.{KeepsAnswer, Hears, IsHeard, Loss, through, answers_before, bytes_through, StopsAt, Recovers}
@@ -32,7 +33,7 @@ module _ {H V : Type 0} (hears : H → List (Answer V) → H → Type 0) (laws :
   pub handed_as : (h k : H) (P Q : List (Answer V) → Type 0) → Handed hears h k P → ((xs : List (Answer V)) → P xs → Q xs) → Handed hears h k Q
   handed_as h k P Q p f = record { answers = p.answers; heard = p.heard; so = f p.answers p.so }
 
-module _ {D H V : Type 0} (inside : D → List ℕ) (judging : Judging V) (hears : H → List (Answer V) → H → Type 0) (enough : H → Bool) (settled : H → Type 0) (room : ℕ) (r : Reception D) (h k : H) where
+module _ {D H V : Type 0} (inside : D → Filled) (judging : Judging V) (hears : H → List (Answer V) → H → Type 0) (enough : H → Bool) (settled : H → Type 0) (room : ℕ) (r : Reception D) (h k : H) where
   -- it was asked before a read
   pub was_asked : (m : Reception D) (l : H) (a b : List ℕ) (more : List (Answer V)) (p : Adds inside judging hears a r m h k) → hears k more l → enough k ≡ false → (settled h → settled k) → length b ≤ room → WasAsked inside judging hears enough settled room r h l (p.answers ++ more) (a ++ b)
   was_asked m l a b more p q n still short = record {
@@ -71,7 +72,7 @@ module _ {D H V : Type 0} (inside : D → List ℕ) (judging : Judging V) (hears
   })
 
 -- answers, and then others
-abbrev pub adds_then : {D H V : Type 0} (inside : D → List ℕ) (judging : Judging V)
+abbrev pub adds_then : {D H V : Type 0} (inside : D → Filled) (judging : Judging V)
     (hears : H → List (Answer V) → H → Type 0) (laws : HearerLaws hears) (on : Bool) (a b : List ℕ)
     (r m s : Reception D) (h k l : H) (end : Option End) → Adds inside judging hears a r m h k
     → AddsBy inside judging hears on b m s k l end → AddsBy inside judging hears on (a ++ b) r s h l end
@@ -86,7 +87,7 @@ adds_then inside judging hears laws on a b r m s h k l end p q = record {
 }
 
 -- where a receiver stands of which this is heard
-pub stands_by : {D V : Type 0} (inside : D → List ℕ) (holds : List ℕ → Tree → Type 0) (reads : Tree → V → Type 0) (limit s : ℕ) (end : End) (r : Reception D) (answers : List (Answer V)) (stream : List ℕ)
+pub stands_by : {D V : Type 0} (inside : D → Filled) (holds : List ℕ → Tree → Type 0) (reads : Tree → V → Type 0) (limit s : ℕ) (end : End) (r : Reception D) (answers : List (Answer V)) (stream : List ℕ)
     → IsHeard inside holds reads limit s false end r answers stream → IsBehind inside limit s r stream
 stands_by inside holds reads limit s Ended r answers stream h = h.after
 stands_by inside holds reads limit s ReadFault r answers stream h = h.after
@@ -99,7 +100,7 @@ keeps_behind (Ok (Some a)) old more k = ap (λ x. old ++ x) k
 keeps_behind (Err e) old more k = absurd k
 
 -- no byte came, and nothing was handed on
-pub nothing_more : {D V : Type 0} (inside : D → List ℕ) (holds : List ℕ → Tree → Type 0) (reads : Tree → V → Type 0) (limit s : ℕ) (r : Reception D) (given : List (Answer V)) (stream bytes : List ℕ) → bytes ≡ []
+pub nothing_more : {D V : Type 0} (inside : D → Filled) (holds : List ℕ → Tree → Type 0) (reads : Tree → V → Type 0) (limit s : ℕ) (r : Reception D) (given : List (Answer V)) (stream bytes : List ℕ) → bytes ≡ []
     → Hears inside holds reads limit s r given stream → Hears inside holds reads limit s r (given ++ []) (stream ++ bytes)
 nothing_more inside holds reads limit s r given stream bytes e h =
     subst (λ xs. Hears inside holds reads limit s r xs (stream ++ bytes)) (sym (append-nil given))
@@ -170,7 +171,7 @@ module _ {V : Type 0} {holds : List ℕ → Tree → Type 0} {reads : Tree → V
   ends_through : (l : Loss holds reads limit s) → EndsBetween s (through l)
   ends_through l = inr (l.front ++ l.lost.front, ap (λ x. l.front ++ x) l.lost.bytes ∙ sym (append_assoc l.front l.lost.front (s ∷ [])))
 
-module _ {D V : Type 0} (inside : D → List ℕ) (holds : List ℕ → Tree → Type 0) (reads : Tree → V → Type 0) (limit s : ℕ) where
+module _ {D V : Type 0} (inside : D → Filled) (holds : List ℕ → Tree → Type 0) (reads : Tree → V → Type 0) (limit s : ℕ) where
   answers_then : (ls : List (Loss holds reads limit s)) (l : Loss holds reads limit s) → answers_before (ls ++ l ∷ []) ≡ answers_before ls ++ l.answers
   answers_then [] l = append-nil l.answers
   answers_then (k ∷ ls) l = ap (λ x. k.answers ++ x) (answers_then ls l) ∙ sym (append_assoc k.answers (answers_before ls) l.answers)

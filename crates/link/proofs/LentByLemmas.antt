@@ -2,6 +2,7 @@
 use Rattle.std.proofs.Common.{ℕ, ◌<◌, ◌≤◌, List, length, refl, sym, ◌∙◌, subst, Bool}
 use Rattle.std.specs.Borrow.{Bor}
 use Rattle.postcard_tree.specs.Tree.{Tree}
+use Rattle.link.specs.Filled.{Filled}
 use Rattle.link.specs.Link.{Holds, begun, IsAt}
 use Rattle.link.specs.Steps.{course_of}
 use Rattle.link.specs.Lending.{ReadsLent, AdvancesToEvent, Leads, AnswersBy, StandsBy}
@@ -11,7 +12,7 @@ use Rattle.link.specs.declared.receiver.Pushed.{Pushed}
 use Rattle.link.specs.Finds.{IsSpan}
 use Rattle.link.specs.Lemmas.AnswerLaws.{behind_after, answered, stretch_of}
 
-module _ {D V : Type 0} (inside : D → List ℕ) (takes : Tree → Type 0) (reads : Tree → V → Type 0) (grows : Bool) (r : Reception D) (piece : List ℕ) (taken : Taken (Bor (List ℕ))) (result : Pushed V) (a : AdvancesToEvent inside r piece taken) (h : ReadsLent takes reads grows taken result) where
+module _ {D V : Type 0} (inside : D → Filled) (takes : Tree → Type 0) (reads : Tree → V → Type 0) (grows : Bool) (r : Reception D) (piece : List ℕ) (taken : Taken (Bor (List ℕ))) (result : Pushed V) (a : AdvancesToEvent inside r piece taken) (h : ReadsLent takes reads grows taken result) where
   -- what is lent is answered as a push is
   pub lent_answers : AnswersBy inside takes reads grows r piece result
   lent_answers = record {

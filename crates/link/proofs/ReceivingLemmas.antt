@@ -10,7 +10,8 @@ use Rattle.link.specs.Lemmas.MaskLaws.{masked_length, nonzero as unlike, NoZero-
 use Rattle.link.specs.declared.receiver.Answer.TheVariants.{Cut}
 use Rattle.link.specs.Steps.{event_at, ended, RunsOn}
 use Rattle.link.specs.Finds.{IsSpan}
-use Rattle.link.specs.Lemmas.RunLaws.{above, over_on, run_of, sentinel_behind}
+use Rattle.link.specs.Lemmas.RunLaws.{over_on, run_of, sentinel_behind}
+use Rattle.link.proofs.BufferLemmas.{front_written, written_length}
 
 -- the limit is how long the buffer is
 pub limit_at : (limit s : ℕ) (buffer : List ℕ) (count : ℕ) (past : _) (b : Begun) → IsAtBy limit s buffer count past b → length buffer ≡ limit
@@ -69,41 +70,17 @@ module _ (limit s : ℕ) (buffer : List ℕ) (count : ℕ) (past : Bool) where
   finish_some (kept (x ∷ p)) e n h = refl
   finish_some over e n h = let k : past ≡ true = h.0 in cc
 
--- a buffer after a run was written behind what it held
-front_of_both : (x rest : List ℕ) → take (length x) (x ++ rest) ≡ x
-front_of_both [] rest = refl
-front_of_both (b ∷ x) rest = ap (λ y. b ∷ y) (front_of_both x rest)
-
-front_written : (n m : ℕ) (old x rest : List ℕ) → n ≤ length old → m ≡ n + length x → take m (take n old ++ (x ++ rest)) ≡ take n old ++ x
-front_written zero m old x rest l e = ap (λ k. take k (x ++ rest)) (omega (arith, e)) ∙ front_of_both x rest
-front_written (suc n) m [] x rest l e = absurd (omega (arith, l))
-front_written (suc n) zero (b ∷ old) x rest l e = absurd (omega (arith, e))
-front_written (suc n) (suc m) (b ∷ old) x rest l e = ap (λ y. b ∷ y) (front_written n m old x rest (omega (arith, l)) (omega (arith, e)))
-
-written_length : (n : ℕ) (old x : List ℕ) → n + length x ≤ length old → length (written_over n x old) ≡ length old
-written_length n old x l =
-    omega (arith, l, length-append (take n old) (x ++ drop (n + length x) old), length-append x (drop (n + length x) old), length-drop (n + length x) old, length-take-le n old (omega (arith, l)))
-
-pub has_run : (limit s : ℕ) (old new : List ℕ) (count n m : ℕ) (p x : List ℕ) → Has limit s old count p → n ≡ count → m ≡ n + length x → NoZero x → count + length x ≤ limit
-    → new ≡ written_over n x old → Has limit s new m (p ++ x)
-has_run limit s old new count n m p x h e r z l w =
-    let short : n + length x ≤ length old = omega (arith, l, h.room, e) in
-    let front : take m new ≡ take n old ++ x = ap (take m) w ∙ front_written n m old x (drop (n + length x) old) (omega (arith, short)) r in
+pub has_run : (limit s : ℕ) (old new : List ℕ) (count m : ℕ) (p x : List ℕ) → Has limit s old count p → m ≡ count + length x → NoZero x → count + length x ≤ limit
+    → new ≡ written_over count x old → Has limit s new m (p ++ x)
+has_run limit s old new count m p x h r z l w =
+    let short : count + length x ≤ length old = omega (arith, l, h.room) in
     record {
-      room = ap length w ∙ written_length n old x short ∙ h.room;
-      held = front ∙ ap (λ y. y ++ x) (ap (λ k. take k old) e ∙ h.held);
-      counted = omega (arith, e, r, h.counted, length-append p x);
+      room = ap length w ∙ written_length count old x short ∙ h.room;
+      held = ap (take m) w ∙ front_written count m old x (drop (count + length x) old) (omega (arith, short)) r ∙ ap (λ y. y ++ x) h.held;
+      counted = omega (arith, r, h.counted, length-append p x);
       within = omega (arith, l, h.counted, length-append p x);
       nonzero = NoZero-append p x h.nonzero z;
     }
-
--- what is decoded of what a buffer holds
-stretch_clear : (p : List ℕ) → NoZero p → stretch p ≡ p
-stretch_clear [] z = refl
-stretch_clear (b ∷ p) z = rw (ne_eqb b 0 (above b z.0)) (ap (λ x. b ∷ x) (stretch_clear p z.1))
-
-pub held_stretch : (limit s : ℕ) (buffer : List ℕ) (count n : ℕ) (p : List ℕ) → Has limit s buffer count p → n ≡ count → stretch (take n buffer) ≡ p
-held_stretch limit s buffer count n p h e = ap (λ k. stretch (take k buffer)) e ∙ ap stretch h.held ∙ stretch_clear p h.nonzero
 
 -- a sentinel behind bytes that were begun ends them
 pub sentinel_ends : (limit s : ℕ) (buffer : List ℕ) (count : ℕ) (past : Bool) (b : Begun) → past ≡ false → (count ≡ 0 → ⊥) → IsAtBy limit s buffer count past b
@@ -111,10 +88,6 @@ pub sentinel_ends : (limit s : ℕ) (buffer : List ℕ) (count : ℕ) (past : Bo
 sentinel_ends limit s buffer count past (kept []) e n h = absurd (n h.1.counted)
 sentinel_ends limit s buffer count past (kept (x ∷ p)) e n h = (x ∷ p, refl, omega arith, rw (eq-eqb s s refl) refl)
 sentinel_ends limit s buffer count past over e n h = let k : past ≡ true = h.0 in absurd (cc)
-
--- how many bytes are held
-pub held_count : (limit s : ℕ) (buffer : List ℕ) (count n room : ℕ) (p : List ℕ) → Has limit s buffer count p → n ≡ min count room → room ≡ length buffer → n ≡ count
-held_count limit s buffer count n room p h e r = omega (arith, e, r, h.room, h.within, h.counted)
 
 -- a stretch that isn't empty, and its message
 pub some_bytes : (p : List ℕ) → 0 < length p → p ≡ [] → ⊥

@@ -2,6 +2,7 @@
 use Rattle.std.specs.Prelude.{◌≡◌, ℕ, ◌+◌, ◌≤◌, ◌⊎◌, List, [], ◌++◌, length, Bool, true, false, Option, Some, None, Result, IsErr}
 use Rattle.line_io.specs.Device.{LineState, Gave}
 use Rattle.postcard_tree.specs.Tree.{Tree}
+use Rattle.link.specs.Filled.{Filled}
 use Rattle.link.specs.Receivers.{IsBehind}
 use Rattle.link.specs.Judged.{Judging}
 use Rattle.link.specs.Steps.{Event}
@@ -79,7 +80,7 @@ pub record UsesFew (old new : LineState) (last : ℕ) : Type 0 where
   pub few : old.calls_left ≤ new.calls_left + length bytes + last
 
 -- A receiver was given this stream, and these were its answers; or it had no memory for values, and went on behind them or not.
-abbrev pub IsHeardNow : {D V : Type 0} → (D → List ℕ) → (List ℕ → Tree → Type 0)
+abbrev pub IsHeardNow : {D V : Type 0} → (D → Filled) → (List ℕ → Tree → Type 0)
     → (Tree → V → Type 0) → ℕ → ℕ → Bool → Option End → Reception D → List (Answer V) → List ℕ → Type 0
 IsHeardNow inside holds reads limit s on None r answers stream =
     Hears inside holds reads limit s r answers stream
@@ -100,7 +101,7 @@ MayLackMemory grows (Some Ended) = Unit {0}
 MayLackMemory grows (Some ReadFault) = Unit {0}
 MayLackMemory grows (Some NoMemory) = grows ≡ true
 
-module _ {D H V : Type 0} (inside : D → List ℕ) (judging : Judging V)
+module _ {D H V : Type 0} (inside : D → Filled) (judging : Judging V)
     (hears : H → List (Answer V) → H → Type 0) where
   -- What was handed on are the answers that these bytes add to whatever the receiver had heard.
   abbrev pub Adds : List ℕ → Reception D → Reception D → H → H → Type 0
@@ -222,13 +223,13 @@ listener_place line reader receiver hearer =
     record { line = line reader; receiver = receiver; hearer = hearer }
 
 -- Between these places the reader gave bytes, until the listening ended so, and what was handed on are the answers that they add.
-abbrev pub ListensTo : {D H V : Type 0} → (D → List ℕ) → Judging V
+abbrev pub ListensTo : {D H V : Type 0} → (D → Filled) → Judging V
     → (H → List (Answer V) → H → Type 0) → ListenerPlace D H → ListenerPlace D H → Option End → Type 0
 ListensTo inside judging hears before after end = Listens inside judging hears
     before.line after.line before.receiver after.receiver before.hearer after.hearer end
 
 -- The same to the reader's end, or until the hearer had enough, with what the end adds.
-abbrev pub ListensOut : {D H V : Type 0} → (D → List ℕ) → Judging V → Hearing H V
+abbrev pub ListensOut : {D H V : Type 0} → (D → Filled) → Judging V → Hearing H V
     → ListenerPlace D H → ListenerPlace D H → Option End → Type 0
 ListensOut inside judging h before after end = HearsOut inside judging h.hears h.enough h.settled
     before.line after.line before.receiver after.receiver before.hearer after.hearer end

@@ -6,6 +6,7 @@ pub mod Pushes
 pub mod Finds
 pub mod Judged
 pub mod Decoding
+pub mod Filled
 pub mod Receivers
 pub mod Framing
 pub mod Framed

@@ -8,7 +8,8 @@ pub use Rattle.link.specs.Stream.{HoldsExactly}
 pub use Rattle.link.specs.Stream.{Verdict, value, damaged, too_long, cut, Given, Answers, Begun, kept, over, begun, IsAnswer, begun_answers, cut_answers, ended, unfinished, pieces}
 -- A receiver stands behind a stream, under its limit and sentinel; no stretch is begun; limit and sentinel stay.
 pub use Rattle.link.specs.Receivers.{IsBehind, OnBegun, IsBetween, limit_of, sentinel_of, SameTerms, IsAt}
-pub use Rattle.link.specs.Decoding.{IsMessageOf, in_array, in_owner}
+pub use Rattle.link.specs.Filled.{Filled, IsMessageOf}
+pub use Rattle.link.specs.Decoding.{in_array, in_owner}
 pub use Rattle.link.specs.Listening.{ReceiverFitsInMemory}
 -- What a push behind a stream answers, and how long the answered stretch is; what the end of the stream adds.
 pub use Rattle.link.specs.Pushes.{Answered, IsPush, IsLost, IsStretchOf, Matches, begun_length, finished, IsBegun}

@@ -1,52 +1,68 @@
 //! Where a receiver holds the bytes of a frame, so that receiving is written once.
-ghost use Rattle.std.specs.Prelude.{◌≡◌, ℕ, ◌+◌, ◌<◌, ◌≤◌, List, length, take};
+ghost use Rattle.std.specs.Prelude.{◌≡◌, ℕ, ◌+◌, ◌≤◌, length, take, vec_len};
+ghost use Rattle.std.proofs.Props.{props};
 ghost use Rattle.cobs.specs.Frames.{NoZero};
-ghost use Rattle.cobs.specs.InPlace.{stretch, written_over};
+ghost use Rattle.cobs.specs.InPlace.{written_over};
 ghost use Rattle.cobs.specs.Sentinel.{masked};
-ghost use Rattle.link.specs.Decoding.{IsMessageOf};
+ghost use Rattle.link.specs.Filled.{Filled, IsMessageOf};
+
+use crate::receiver::NoMemory;
+use std::alloc::Global;
 
 /// The buffer of a receiver: an array, or one that is allocated. The bytes of a frame are held, each XORed with the sentinel, and
 /// decoded at its end.
 ///
 /// Example: see [`Reception`].
 pub trait Decoding {
-    /// Its bytes.
-    ghost inside: { Self → List ℕ };
+    /// Its bytes, and how many of them it holds.
+    ghost inside: { Self → Filled };
 
-    /// Copies bytes over those of the buffer, from a position on, each XORed with the sentinel.
+    /// How many bytes it holds.
+    fn held(&self) -> usize
+        ensures count { result ≡ (inside self.now).count }
+        ensures within { result ≤ length (inside self.now).bytes };
+
+    /// Holds more bytes, each XORed with the sentinel.
     ///
     /// # Requires
-    /// They fit.
-    fn hold(&mut self, place: usize, bytes: &[u8], sentinel: u8)
-        requires room { place + length bytes.now ≤ length (inside self.old) }
-        ensures { inside self.new
-            ≡ written_over place (masked sentinel bytes.now) (inside self.old) };
+    /// No byte is the sentinel, and they fit.
+    fn hold(&mut self, bytes: &[u8], sentinel: u8)
+        requires clear { NoZero (masked sentinel bytes.now) }
+        requires room { (inside self.old).count + length bytes.now
+            ≤ length (inside self.old).bytes }
+        ensures bytes { (inside self.new).bytes ≡ written_over (inside self.old).count
+            (masked sentinel bytes.now) (inside self.old).bytes }
+        ensures count { (inside self.new).count
+            ≡ (inside self.old).count + length bytes.now };
 
-    /// Decodes the first bytes of the buffer in place, up to a zero or all, and returns the length of the message, which is then at the
-    /// start; `None` if they aren't a frame.
-    ///
-    /// # Requires
-    /// The buffer has so many bytes.
-    fn decode_held(&mut self, count: usize) -> Option<usize>
-        requires within { count ≤ length (inside self.old) }
-        ensures message { IsMessageOf (stretch (take count (inside self.old))) result
-            (inside self.new) }
-        ensures room { length (inside self.new) ≡ length (inside self.old) };
+    /// Holds nothing.
+    fn clear(&mut self)
+        ensures bytes { (inside self.new).bytes ≡ (inside self.old).bytes }
+        ensures none { (inside self.new).count ≡ 0 };
+
+    /// Decodes what it holds in place, and returns the length of the message, which is then at the start; `None` if it isn't a frame.
+    /// It holds nothing then.
+    fn decode_held(&mut self) -> Option<usize>
+        ensures message { IsMessageOf (take (inside self.old).count (inside self.old).bytes) result
+            (inside self.new).bytes }
+        ensures none { (inside self.new).count ≡ 0 }
+        ensures room { length (inside self.new).bytes ≡ length (inside self.old).bytes };
 
     /// Decodes a complete frame, without its sentinel, into the buffer, and returns the length of the message; `None` if it isn't a
-    /// frame.
+    /// frame. It holds nothing then.
     ///
     /// # Requires
     /// No byte of the frame is the sentinel, and it is no longer than the buffer.
     fn decode_whole(&mut self, frame: &[u8], sentinel: u8) -> Option<usize>
         requires clear { NoZero (masked sentinel frame.now) }
-        requires within { length frame.now ≤ length (inside self.old) }
-        ensures message { IsMessageOf (masked sentinel frame.now) result (inside self.new) }
-        ensures room { length (inside self.new) ≡ length (inside self.old) };
+        requires within { length frame.now ≤ length (inside self.old).bytes }
+        ensures message { IsMessageOf (masked sentinel frame.now) result (inside self.new).bytes }
+        ensures none { (inside self.new).count ≡ 0 }
+        ensures room { length (inside self.new).bytes ≡ length (inside self.old).bytes };
 
     /// The buffer.
     fn dest(&self) -> &[u8]
-        ensures { result.now ≡ inside self.now };
+        ensures { result.now ≡ (inside self.now).bytes };
 }
 
 /// The buffer of a receiver, of N bytes, in the receiver itself.
@@ -57,7 +73,12 @@ pub trait Decoding {
 /// ```
 #[derive(Drop)]
 pub struct ArrayBuffer<const N: usize> {
-    pub(crate) bytes: [u8; N],
+    bytes: [u8; N],
+    // how many it holds
+    count: usize,
+    ghost within: { count ≤ N },
+    // So they needn't be searched for their end.
+    ghost clear: { NoZero (take count bytes) } by { Prim.hlevel props },
 }
 
 /// The buffer of a receiver, allocated.
@@ -68,20 +89,22 @@ pub struct ArrayBuffer<const N: usize> {
 /// ```
 #[derive(Drop)]
 pub struct OwnedBuffer {
-    pub(crate) bytes: Vec<u8>,
+    bytes: Vec<u8>,
+    count: usize,
+    ghost within: { count ≤ vec_len bytes },
+    ghost clear: { NoZero (take count bytes.items) } by { Prim.hlevel props },
 }
 
 // Decodes the first bytes in place.
 #[inline(always)]
 fn decode_front(buffer: &mut [u8], count: usize) -> Option<usize>
-    requires { count ≤ length buffer.old }
-    ensures message { IsMessageOf (stretch (take count buffer.old)) result buffer.new }
+    requires within { count ≤ length buffer.old }
+    requires clear { NoZero (take count buffer.old) }
+    ensures message { IsMessageOf (take count buffer.old) result buffer.new }
     ensures room { length buffer.new ≡ length buffer.old }
 {
-    cobs::laws::shorter();
-    // the form that is compiled into its caller
-    match cobs::decode_in_place_report_with_sentinel(&mut buffer[..count], 0) {
-        Ok(report) => Some(report.frame_size()),
+    match cobs::decode_clear_in_place(&mut buffer[..count], 0) {
+        Ok(size) => Some(size),
         Err(_) => None,
     }
 }
@@ -102,20 +125,82 @@ fn decode_into(buffer: &mut [u8], frame: &[u8], sentinel: u8) -> Option<usize>
     }
 }
 
+impl<const N: usize> ArrayBuffer<N> {
+    ghost use Rattle.link.specs.Decoding.{in_array};
+
+    // One that holds nothing.
+    pub(crate) fn new() -> ArrayBuffer<N>
+        ensures none { (in_array result).count ≡ 0 }
+        ensures room { length (in_array result).bytes ≡ N }
+    {
+        ArrayBuffer {
+            bytes: [0; N],
+            count: 0,
+        }
+    }
+}
+
+impl OwnedBuffer {
+    ghost use Rattle.std.specs.Prelude.{IfOk, IsOk, OnOk, OnErr};
+    ghost use Rattle.link.specs.Decoding.{in_owner};
+
+    // One of so many bytes that holds nothing.
+    pub(crate) fn new(alloc: Global, limit: usize) -> Result<OwnedBuffer, NoMemory>
+        ensures none { IfOk result (λ b. (in_owner b).count ≡ 0) }
+        ensures room { IfOk result (λ b. length (in_owner b).bytes ≡ limit) }
+    {
+        match vec![in alloc; 0; limit] {
+            Ok(bytes) => Ok(OwnedBuffer { bytes, count: 0 }),
+            Err(_) => Err(NoMemory),
+        }
+    }
+
+    // Changes how many bytes it has.
+    pub(crate) fn resize(&mut self, limit: usize) -> Result<(), NoMemory>
+        requires none { (in_owner self.old).count ≡ 0 }
+        ensures none { (in_owner self.new).count ≡ 0 }
+        ensures room { OnOk result (length (in_owner self.new).bytes ≡ limit) }
+        ensures refused { OnErr result (length (in_owner self.new).bytes
+            ≡ length (in_owner self.old).bytes) }
+        ensures granted { limit ≤ length (in_owner self.old).bytes → IsOk result }
+    {
+        match self.bytes.resize(limit, 0) {
+            Ok(()) => Ok(()),
+            Err(_) => Err(NoMemory),
+        }
+    }
+}
+
+// What a frame needs once is a call of its own, so that taking a chunk is small enough to be compiled into each push.
 impl<const N: usize> Decoding for ArrayBuffer<N> {
     ghost use Rattle.link.specs.Decoding.{in_array};
 
     ghost inside = { in_array };
 
-    fn hold(&mut self, place: usize, bytes: &[u8], sentinel: u8) {
-        cobs::copy_over(bytes, &mut self.bytes[..], place, sentinel);
+    #[inline(always)]
+    fn held(&self) -> usize {
+        self.count
     }
 
-    fn decode_held(&mut self, count: usize) -> Option<usize> {
+    fn hold(&mut self, bytes: &[u8], sentinel: u8) {
+        cobs::copy_over(bytes, &mut self.bytes[..], self.count, sentinel);
+        self.count += bytes.len();
+    }
+
+    fn clear(&mut self) {
+        self.count = 0;
+    }
+
+    #[inline(never)]
+    fn decode_held(&mut self) -> Option<usize> {
+        let count = self.count;
+        self.count = 0;
         decode_front(&mut self.bytes[..], count)
     }
 
+    #[inline(never)]
     fn decode_whole(&mut self, frame: &[u8], sentinel: u8) -> Option<usize> {
+        self.count = 0;
         decode_into(&mut self.bytes[..], frame, sentinel)
     }
 
@@ -129,15 +214,30 @@ impl Decoding for OwnedBuffer {
 
     ghost inside = { in_owner };
 
-    fn hold(&mut self, place: usize, bytes: &[u8], sentinel: u8) {
-        cobs::copy_over(bytes, self.bytes.as_mut_slice(), place, sentinel);
+    #[inline(always)]
+    fn held(&self) -> usize {
+        self.count
     }
 
-    fn decode_held(&mut self, count: usize) -> Option<usize> {
+    fn hold(&mut self, bytes: &[u8], sentinel: u8) {
+        cobs::copy_over(bytes, self.bytes.as_mut_slice(), self.count, sentinel);
+        self.count += bytes.len();
+    }
+
+    fn clear(&mut self) {
+        self.count = 0;
+    }
+
+    #[inline(never)]
+    fn decode_held(&mut self) -> Option<usize> {
+        let count = self.count;
+        self.count = 0;
         decode_front(self.bytes.as_mut_slice(), count)
     }
 
+    #[inline(never)]
     fn decode_whole(&mut self, frame: &[u8], sentinel: u8) -> Option<usize> {
+        self.count = 0;
         decode_into(self.bytes.as_mut_slice(), frame, sentinel)
     }
 

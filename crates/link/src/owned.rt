@@ -38,15 +38,12 @@ impl Reception<OwnedBuffer> {
         ensures limit { IfOk result (λ r. limit_of in_owner r ≡ limit) }
         ensures sentinel { IfOk result (λ r. sentinel_of r ≡ sentinel) }
     {
-        match vec![in alloc; 0; limit] {
-            Ok(bytes) => Ok(Reception {
-                buffer: OwnedBuffer { bytes },
-                count: 0,
-                past: false,
-                sentinel,
-            }),
-            Err(_) => Err(NoMemory),
-        }
+        let buffer = OwnedBuffer::new(alloc, limit)?;
+        Ok(Reception {
+            buffer,
+            past: false,
+            sentinel,
+        })
     }
 
     /// Changes the limit. Earlier results stay; later bytes are received as by a new receiver of this limit.
@@ -65,7 +62,7 @@ impl Reception<OwnedBuffer> {
     ///     && takes_nothing(alloc, receiver)
     /// ```
     pub fn set_limit(&mut self, limit: usize) -> Result<(), NoMemory>
-        requires { IsBetween self.old }
+        requires { IsBetween in_owner self.old }
         ensures limit { OnOk result (limit_of in_owner self.new ≡ limit) }
         ensures refused { OnErr result (limit_of in_owner self.new ≡ limit_of in_owner self.old) }
         ensures granted { limit ≤ limit_of in_owner self.old → IsOk result }
@@ -73,12 +70,9 @@ impl Reception<OwnedBuffer> {
             → IsBehind in_owner (limit_of in_owner self.new) s self.new stream }
         ensures anew { (limit s : ℕ) (stream : List ℕ) → IsBehind in_owner limit s self.old stream
             → IsBehind in_owner (limit_of in_owner self.new) s self.new [] }
-        ensures between { IsBetween self.new }
+        ensures between { IsBetween in_owner self.new }
         ensures sentinel { sentinel_of self.new ≡ sentinel_of self.old }
     {
-        match self.buffer.bytes.resize(limit, 0) {
-            Ok(()) => Ok(()),
-            Err(_) => Err(NoMemory),
-        }
+        self.buffer.resize(limit)
     }
 }

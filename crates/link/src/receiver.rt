@@ -79,8 +79,7 @@ impl<const N: usize> Reception<ArrayBuffer<N>> {
         ensures sentinel { sentinel_of result ≡ sentinel }
     {
         Reception {
-            buffer: ArrayBuffer { bytes: [0; N] },
-            count: 0,
+            buffer: ArrayBuffer::<N>::new(),
             past: false,
             sentinel,
         }

@@ -1,5 +1,5 @@
 //! Receiving values from a stream that comes in chunks.
-ghost use Rattle.std.specs.Prelude.{◌≡◌, ◌≢◌, ℕ, min, ◌<◌, ◌≤◌, ◌↔◌, length, slice_index, List, [], take, drop, true, OnErr, IsTrue, IfSome, MatchOption};
+ghost use Rattle.std.specs.Prelude.{◌≡◌, ◌≢◌, ℕ, ◌<◌, ◌≤◌, ◌↔◌, length, slice_index, List, [], take, drop, true, OnErr, IsTrue, IfSome, MatchOption};
 ghost use Rattle.postcard.specs.Frames.{Holds};
 ghost use Rattle.cobs.specs.Frames.{NoZero};
 ghost use Rattle.cobs.specs.Sentinel.{masked};
@@ -54,10 +54,8 @@ pub(crate) struct Taken<M> {
 #[derive(Drop)]
 pub struct Reception<D> {
     // Any buffer, not a type for each: so each contract, also that of `push_ref` by hand, is proved once. It has as many bytes as
-    // the limit.
+    // the limit, and holds what is begun of a stretch.
     pub(crate) buffer: D,
-    // how many bytes of a stretch it holds, each XORed with the sentinel
-    pub(crate) count: usize,
     // whether the stretch went past the limit
     pub(crate) past: bool,
     pub(crate) sentinel: u8,
@@ -77,6 +75,7 @@ fn idle_bytes(bytes: &[u8], sentinel: u8) -> usize
 }
 
 // The result of what was found.
+#[inline(always)]
 pub(crate) fn read<V, M: MessageReader<V>>(
     messages: &M,
     alloc: Global,
@@ -117,14 +116,6 @@ impl<D: Decoding> Reception<D> {
         self.sentinel
     }
 
-    // How many bytes of a stretch it holds: all, since that many fit.
-    #[inline(always)]
-    fn held(&self) -> usize
-        ensures { result ≡ min self.now.count (limit_of D.inside self.now) }
-    {
-        self.count.min(self.limit())
-    }
-
     // Ends a stretch.
     fn close(&mut self) -> Found<usize>
         ensures found { (limit s : ℕ) (p : List ℕ) → IsAt D.inside limit s self.old (kept p)
@@ -134,9 +125,7 @@ impl<D: Decoding> Reception<D> {
         ensures within { IsWithin (length (buffer_in D.inside self.new)) result }
         ensures same { SameTerms D.inside self.old self.new }
     {
-        let count = self.held();
-        self.count = 0;
-        match self.buffer.decode_held(count) {
+        match self.buffer.decode_held() {
             Some(size) => Found::Whole(size),
             None => Found::Damaged,
         }
@@ -155,7 +144,7 @@ impl<D: Decoding> Reception<D> {
             self.past = false;
             return Found::Nothing;
         }
-        if self.count == 0 {
+        if self.buffer.held() == 0 {
             return Found::Nothing;
         }
         self.close()
@@ -164,8 +153,8 @@ impl<D: Decoding> Reception<D> {
     // Takes a run without sentinels. If it exceeds the limit: how many of its bytes were used, with the one past the limit.
     #[inline(always)]
     fn take_run(&mut self, run: &[u8]) -> Option<usize>
-        ensures runs { (limit s : ℕ) (b : Begun) → NoZero (masked s run.now)
-            → IsAt D.inside limit s self.old b
+        requires { NoZero (masked self.old.sentinel run.now) }
+        ensures runs { (limit s : ℕ) (b : Begun) → IsAt D.inside limit s self.old b
             → MatchOption result (RunsOn limit s b run.now (IsAt D.inside limit s self.new))
             (λ used. RunsPast limit s b run.now used (IsAt D.inside limit s self.new)) }
         ensures within { IfSome result (λ used. (0 < used) × (used ≤ length run.now)) }
@@ -174,15 +163,13 @@ impl<D: Decoding> Reception<D> {
         if self.past {
             return None;
         }
-        let held = self.held();
-        let left = self.limit() - held;
+        let left = self.limit() - self.buffer.held();
         if run.len() > left {
             self.past = true;
-            self.count = 0;
+            self.buffer.clear();
             return Some(left + 1);
         }
-        self.count = held + run.len();
-        self.buffer.hold(held, run, self.sentinel);
+        self.buffer.hold(run, self.sentinel);
         None
     }
 
@@ -286,7 +273,7 @@ impl<D: Decoding> Reception<D> {
                 found: Found::Nothing,
             };
         }
-        let stretch = self.count;
+        let stretch = self.buffer.held();
         Taken {
             used: size + 1,
             stretch,
@@ -354,6 +341,7 @@ impl<D: Decoding> Reception<D> {
     }
 
     // The same with the message of a frame, which is at the front of the buffer.
+    #[inline(always)]
     pub(crate) fn lend(&self, taken: Taken<usize>) -> Taken<&[u8]>
         requires { IsWithin (length (buffer_in D.inside self.now)) taken.found }
         ensures same { (limit : ℕ) (k : Course)
@@ -482,17 +470,17 @@ impl<D: Decoding> Reception<D> {
     ///
     /// Example: see [`Receiver`].
     pub fn is_between(&self) -> bool
-        ensures state { IsTrue result ↔ IsBetween self.now }
+        ensures state { IsTrue result ↔ IsBetween D.inside self.now }
         ensures begun { OnBegun D.inside self.now (λ b. IsTrue result ↔ (b ≡ kept [])) }
     {
-        !self.past && self.count == 0
+        !self.past && self.buffer.held() == 0
     }
 
     /// How many bytes a begun stretch has so far: 0 if none is begun, and after a `TooLong`.
     pub fn begun_bytes(&self) -> usize
         ensures { OnBegun D.inside self.now (λ b. result ≡ begun_length b) }
     {
-        self.count
+        self.buffer.held()
     }
 
     // What the end of the stream adds.
@@ -502,7 +490,7 @@ impl<D: Decoding> Reception<D> {
         if self.past {
             return None;
         }
-        if self.count == 0 {
+        if self.buffer.held() == 0 {
             return None;
         }
         Some(Answer::Cut)
@@ -521,12 +509,12 @@ impl<D: Decoding> Reception<D> {
         ensures answer { OnBegun D.inside self.old (λ b. result ≡ finished b) }
         ensures anew { (limit s : ℕ) (stream : List ℕ) → IsBehind D.inside limit s self.old stream
             → IsBehind D.inside limit s self.new [] }
-        ensures between { IsBetween self.new }
+        ensures between { IsBetween D.inside self.new }
         ensures same { SameTerms D.inside self.old self.new }
     {
         let answer = self.ending();
         self.past = false;
-        self.count = 0;
+        self.buffer.clear();
         answer
     }
 }

@@ -1,7 +1,10 @@
 //! `cobs`: decoders over a borrowed buffer, an array and a vector, also for any sentinel.
 use crate::checks::{all_true, are_equal, check, check_all, fails, gives, goes_on, takes};
 use arrayvec::ArrayVec;
-use cobs::{CobsDecoder, CobsDecoderHeapless, CobsDecoderOwned, DecodeError, decode_clear};
+use cobs::{
+    CobsDecoder, CobsDecoderHeapless, CobsDecoderOwned, DecodeError, decode_clear,
+    decode_clear_in_place,
+};
 
 // 10, 11, 0, 12 as a frame for the sentinel 10
 const FRAME: [u8; 5] = [9, 0, 1, 8, 6];
@@ -117,6 +120,30 @@ fn frames_without_sentinels(rt: HostRuntime) {
                 DecodeError::InvalidFrame { decoded_bytes: 253 },
             ),
             gives(decode_clear(&long[..255], &mut message, 0), 254),
+        ],
+    );
+}
+
+// The same in place: of a sentinel, one that ends inside a block, one of 255 bytes and a longer one.
+#[test]
+fn frames_without_sentinels_in_place(rt: HostRuntime) {
+    let mut frame = [8, 8, 8, 15];
+    let mut long = [2; 300];
+    long[0] = 255;
+    let mut longer = long;
+    check_all(
+        &rt,
+        [
+            gives(decode_clear_in_place(&mut frame, 10), 3),
+            are_equal(&frame, &[2, 0, 5, 15]),
+            fails(
+                decode_clear_in_place(&mut [3, 1], 0),
+                DecodeError::InvalidFrame { decoded_bytes: 1 },
+            ),
+            gives(decode_clear_in_place(&mut long[..255], 0), 254),
+            long[253] == 2,
+            gives(decode_clear_in_place(&mut longer[..299], 0), 297),
+            are_equal(&longer[254..258], &[2, 0, 2, 0]),
         ],
     );
 }

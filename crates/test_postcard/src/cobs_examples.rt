@@ -77,6 +77,9 @@ fn decoded_in_chunks(rt: HostRuntime) {
     let mut message = [0; 4];
     check(&rt, gives(decode_clear(&[2, 7], &mut message, 0), 1));
     check(&rt, message[0] == 7);
+    let mut frame = [3, 7, 8, 2, 9];
+    check(&rt, gives(decode_clear_in_place(&mut frame, 0), 4));
+    check(&rt, are_equal(&frame[..4], &[7, 8, 0, 9]));
     let mut buffer = [7; 4];
     copy_over(&[10, 11], &mut buffer, 1, 10);
     check(&rt, are_equal(&buffer, &[7, 0, 1, 7]));

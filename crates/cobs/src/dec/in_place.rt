@@ -1,6 +1,6 @@
 //! Decoding a buffer in place: the first 256 bytes are one window; longer frames, and rows of codes 01, have a loop.
 ghost use Rattle.std.specs.Prelude.{◌≡◌, ◌≢◌, ℕ, ◌<◌, ◌≤◌, List, [], length, take, drop, slice_index, IfOk, OnErr};
-ghost use Rattle.cobs.specs.Frames.{Frame, part};
+ghost use Rattle.cobs.specs.Frames.{Frame, NoZero, part};
 ghost use Rattle.cobs.specs.Reports.{frame_size};
 ghost use Rattle.cobs.specs.InPlace.{stretch, in_place, in_place_length, overwritten};
 ghost use Rattle.cobs.specs.Sentinel.{masked};
@@ -214,4 +214,61 @@ pub fn decode_in_place_with_sentinel(buf: &mut [u8], sentinel: u8) -> Result<usi
 {
     mask(buf, sentinel);
     decode_in_place(buf)
+}
+
+// Shows that a byte is below 256.
+#[inline(always)]
+fn all_bytes(bytes: &[u8])
+    ensures { (k : ℕ) → slice_index bytes.now k < 256 }
+{}
+
+// As `decode_in_place_report_with_sentinel`, of bytes without a sentinel: of a short frame none is searched.
+#[inline(always)]
+fn decode_clear_report(frame: &mut [u8], sentinel: u8) -> Result<DecodeReport, DecodeError>
+    requires { NoZero (masked sentinel frame.old) }
+    ensures answer { result ≡ in_place (stretch (masked sentinel frame.old)) }
+    ensures buffer { frame.new
+        ≡ overwritten (part (stretch (masked sentinel frame.old))) frame.old }
+    ensures bytes { (k : ℕ) → slice_index frame.old k < 256 }
+{
+    all_bytes(frame);
+    let end = frame.len();
+    if 255 < end {
+        return apart(decode_long_in_place::<1>(frame, sentinel));
+    }
+    decode_short_in_place(frame, end, sentinel)
+}
+
+/// Decodes a complete frame in place, without its sentinel, each byte XORed with it, and returns the message's length.
+///
+/// The message is then at the start of the buffer. The result and the buffer are those of
+/// [`decode_in_place_report_with_sentinel`], but a short frame isn't searched for its end.
+///
+/// # Errors
+/// `InvalidFrame`, as [`decode_in_place_report`].
+///
+/// # Requires
+/// No byte of the frame is the sentinel.
+///
+/// # Example
+/// ```rust
+/// let mut frame = [3, 7, 8, 2, 9];
+/// check(&rt, gives(decode_clear_in_place(&mut frame, 0), 4));
+/// check(&rt, are_equal(&frame[..4], &[7, 8, 0, 9]));
+/// ```
+// It is compiled into each path of a receiver.
+#[inline(always)]
+pub fn decode_clear_in_place(frame: &mut [u8], sentinel: u8) -> Result<usize, DecodeError>
+    requires { NoZero (masked sentinel frame.old) }
+    ensures answer { result ≡ in_place_length (masked sentinel frame.old) }
+    ensures frame { let p = masked sentinel frame.old in
+        IfOk result (λ n. p ≢ [] → Frame p (take n frame.new)) }
+    ensures no_frame { OnErr result ((m : List ℕ) → Frame (masked sentinel frame.old) m → ⊥) }
+    ensures buffer { frame.new ≡ overwritten (part (masked sentinel frame.old)) frame.old }
+    ensures within { IfOk result (λ n. n ≤ length frame.old) }
+{
+    match decode_clear_report(frame, sentinel) {
+        Ok(told) => Ok(told.frame_size()),
+        Err(error) => Err(error),
+    }
 }

@@ -4,6 +4,7 @@ use Rattle.std.specs.List.{AllZip}
 use Rattle.std.proofs.lemmas.Bool.{cases_lt, lt-ltb, le-ltb}
 use Rattle.std.proofs.lemmas.Slice.Zip.{all_zipped_more}
 use Rattle.postcard_tree.specs.Tree.{Tree}
+use Rattle.link.specs.Filled.{Filled}
 use Rattle.link.specs.Link.{Verdict, cut, begun_answers, cut_answers, unfinished, begun, kept, over, Given, Answers, Matches, Answered, finished, IsBehind, HasGiven, HasAnswered, Hears, KeepsAnswer}
 use Rattle.link.specs.declared.reception.Reception.{Reception}
 use Rattle.link.specs.declared.receiver.Answer.{Answer}
@@ -35,7 +36,7 @@ module _ {V : Type 0} (holds : List ℕ → Tree → Type 0) (reads : Tree → V
   kept_given (Err e) g h k = absurd k
 
   -- a receiver that a push has led on hears what the push answers
-  pub heard_behind : {D : Type 0} (inside : D → List ℕ) (old later : Reception D)
+  pub heard_behind : {D : Type 0} (inside : D → Filled) (old later : Reception D)
       (answer : Result (Option (Answer V)) NoMemory)
       → Hears inside holds reads limit s old answers front
       → IsBehind inside limit s later (front ++ take used rest)
