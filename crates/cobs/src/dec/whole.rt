@@ -77,36 +77,6 @@ fn front(source: &[u8], room: usize, sentinel: u8) -> usize
     source.len()
 }
 
-// The same by a search if they don't all fit.
-#[inline(always)]
-fn reach(source: &[u8], room: usize, sentinel: u8) -> usize
-    ensures within { result ≤ length source.now }
-    ensures all { length (stretch (masked sentinel source.now)) ≤ result }
-{
-    if has_room(source, room) {
-        return source.len();
-    }
-    before_sentinel(source, sentinel)
-}
-
-// Decodes the bytes of a source before its first sentinel, each XORed with it, by `take_source`. Its result goes through memory
-// that is set to zero first: where this is compiled into its caller, so that the faster paths don't pay for it.
-#[inline(always)]
-fn decode_many<const COPY: usize>(
-    bytes: &[u8],
-    dest: &mut [u8],
-    sentinel: u8,
-) -> (Result<usize, DecodeError>, usize)
-    requires some { 0 < length bytes.now }
-    requires room { length bytes.now ≤ length dest.old + 1 }
-    requires begins { slice_index bytes.now 0 ≢ sentinel }
-    ensures { DecodesFront dest.old (stretch (masked sentinel bytes.now)) dest.new result.0
-        result.1 }
-{
-    let (Progress { state, len }, end) = take_source::<COPY>(bytes, dest, sentinel);
-    (answer_behind(state, len), end)
-}
-
 // Decodes the bytes of a source before its first sentinel, each XORed with it, if there are some and those looked at
 // fit. Also returns how many they are. It is compiled once for each caller, into which it is inlined.
 //
@@ -129,12 +99,13 @@ fn decode_part<const CALL: usize, const COPY: usize>(
         return None;
     }
     if is_short(bytes, sentinel) {
-        return Some(decode_near::<CALL, false>(bytes, dest, sentinel));
+        return Some(decode_near::<CALL>(bytes, dest, sentinel));
     }
     if begins_with_row(bytes, sentinel) {
         return None;
     }
-    Some(decode_many::<COPY>(bytes, dest, sentinel))
+    let (Progress { state, len }, end) = take_source::<COPY>(bytes, dest, sentinel);
+    Some((answer_behind(state, len), end))
 }
 
 // Whether a source is short, fits and begins with a frame.
@@ -147,23 +118,6 @@ fn is_few(source: &[u8], room: usize, sentinel: u8) -> bool
 {
     let len = source.len();
     0 < len && len <= 64 && len - 1 <= room && source[0] != sentinel
-}
-
-// As `decode_part`, of such a source.
-#[inline(always)]
-fn decode_few<const CALL: usize>(
-    source: &[u8],
-    dest: &mut [u8],
-    sentinel: u8,
-) -> (Result<usize, DecodeError>, usize)
-    requires some { 0 < length source.now }
-    requires few { length source.now ≤ 65 }
-    requires room { length source.now ≤ length dest.old + 1 }
-    requires begins { slice_index source.now 0 ≢ sentinel }
-    ensures { DecodesFront dest.old (stretch (masked sentinel source.now)) dest.new result.0
-        result.1 }
-{
-    decode_near::<CALL, true>(source, dest, sentinel)
 }
 
 // As `decode`, by a decoder to which what follows leading zeros is pushed, and then a zero: it sees which byte
@@ -204,22 +158,13 @@ fn decode_slowly(source: &[u8], dest: &mut [u8]) -> Result<DecodeReport, DecodeE
     if begins_with_row(rest, 0) {
         return decode_pushed(source, rest, dest);
     }
-    match decode_part::<3, 2>(rest, reach(rest, dest.len(), 0), dest, 0) {
+    match decode_part::<3, 2>(rest, before_sentinel(rest, 0), dest, 0) {
         Some((answer, end)) => {
             let parsed = source.len().min(source.len() - rest.len() + end + 1);
             with_parsed(answer, parsed)
         }
         None => decode_pushed(source, rest, dest),
     }
-}
-
-// The same, by itself as `decode_many` is.
-#[inline(always)]
-fn decode_else(source: &[u8], dest: &mut [u8]) -> Result<DecodeReport, DecodeError>
-    ensures answer { result ≡ decoded_from (length dest.old) source.now }
-    ensures dest { dest.new ≡ overwritten (part (frame_in source.now)) dest.old }
-{
-    apart(decode_slowly(source, dest))
 }
 
 /// Decodes the first frame of a source into `dest`, and returns both sizes.
@@ -248,13 +193,13 @@ pub fn decode(source: &[u8], dest: &mut [u8]) -> Result<DecodeReport, DecodeErro
     ensures dest { dest.new ≡ overwritten (part (frame_in source.now)) dest.old }
 {
     if is_few(source, dest.len(), 0) {
-        let (answer, end) = decode_few::<0>(source, dest, 0);
+        let (answer, end) = decode_near::<0>(source, dest, 0);
         return with_parsed(answer, source.len().min(end + 1));
     }
     let looked_at = front(source, dest.len(), 0);
     match decode_part::<0, 0>(source, looked_at, dest, 0) {
         Some((answer, end)) => with_parsed(answer, source.len().min(end + 1)),
-        None => decode_else(source, dest),
+        None => apart(decode_slowly(source, dest)),
     }
 }
 
@@ -272,16 +217,6 @@ fn decode_stretch(source: &[u8], dest: &mut [u8], sentinel: u8) -> Result<usize,
     }
 }
 
-// The same, by itself as `decode_many` is.
-#[inline(always)]
-fn decode_stretch_else(source: &[u8], dest: &mut [u8], sentinel: u8) -> Result<usize, DecodeError>
-    ensures answer { result
-        ≡ decoded_into (length dest.old) (stretch (masked sentinel source.now)) }
-    ensures dest { dest.new ≡ overwritten (part (stretch (masked sentinel source.now))) dest.old }
-{
-    apart(decode_stretch(source, dest, sentinel))
-}
-
 // As `decode_with_sentinel`, by the copy of that number: that for zero alone XORs nothing.
 #[inline(always)]
 fn decode_before<const CALL: usize, const COPY: usize>(
@@ -294,12 +229,12 @@ fn decode_before<const CALL: usize, const COPY: usize>(
     ensures dest { dest.new ≡ overwritten (part (stretch (masked sentinel source.now))) dest.old }
 {
     if is_few(source, dest.len(), sentinel) {
-        return decode_few::<CALL>(source, dest, sentinel).0;
+        return decode_near::<CALL>(source, dest, sentinel).0;
     }
     let looked_at = front(source, dest.len(), sentinel);
     match decode_part::<CALL, COPY>(source, looked_at, dest, sentinel) {
         Some((answer, _)) => answer,
-        None => decode_stretch_else(source, dest, sentinel),
+        None => apart(decode_stretch(source, dest, sentinel)),
     }
 }
 

@@ -1,4 +1,4 @@
-use Rattle.std.proofs.Common.{refl, ◌∙◌, ap, length}
+use Rattle.std.proofs.Common.{refl, ◌∙◌, ap, length, arith}
 use Rattle.cobs.specs.Frames.{part}
 use Rattle.cobs.specs.InPlace.{overwritten}
 use Rattle.cobs.specs.Whole.{frame_in, decoded_from}
@@ -33,4 +33,4 @@ pub decode_pushed-requires-in-None-clause-rest : goal.decode_pushed-requires-in-
 decode_pushed-requires-in-None-clause-rest c = c.behind_zeros-rest.ensures.value
 
 pub decode_part-requires-clause-all : goal.decode_part-requires-clause-all
-decode_part-requires-clause-all c = c.reach.ensures.all
+decode_part-requires-clause-all c = omega (arith, c.before_sentinel.ensures.before)
