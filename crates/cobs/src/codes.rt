@@ -18,9 +18,7 @@ ghost use Rattle.cobs.specs.Codes.{InBlock, Coded, Marks, Stepped};
 ghost use Rattle.cobs.specs.InPlace.{written_over};
 ghost use Rattle.cobs.specs.Sentinel.{masked};
 
-use crate::moves::{
-    copy_clear, copy_clear_64, copy_few, copy_marked_ends, row_over, zeros_of_ends, zeros_of_some,
-};
+use crate::moves::{copy_clear, copy_clear_64, copy_marked, marks_of, row_over, zeros_of_ends};
 
 // The lowest bit that is set, and the others.
 #[inline(always)]
@@ -120,49 +118,6 @@ fn are_all_marked(marks: u64, n: usize) -> bool
         return marks == u64::MAX;
     }
     n <= marks.trailing_ones() as usize
-}
-
-// The marks of the zeros of 1 to 64 bytes, each XORed with the sentinel.
-#[inline(always)]
-fn marks_of(bytes: &[u8], sentinel: u8) -> u64
-    requires some { 0 < length bytes.now }
-    requires few { length bytes.now ≤ 64 }
-    ensures { Marks result 0 (masked sentinel bytes.now) }
-{
-    if 4 <= bytes.len() {
-        zeros_of_some(bytes, sentinel)
-    } else if 2 <= bytes.len() {
-        zeros_of_ends::<2>(bytes, sentinel)
-    } else {
-        zeros_of_ends::<1>(bytes, sentinel)
-    }
-}
-
-// Copies 1 to 64 bytes over a buffer, from a position on, each XORed with the sentinel, and returns the marks of those that are
-// zero.
-#[inline(always)]
-fn copy_marked(bytes: &[u8], buffer: &mut [u8], place: usize, sentinel: u8) -> u64
-    requires some { 0 < length bytes.now }
-    requires few { length bytes.now ≤ 64 }
-    requires room { place + length bytes.now ≤ length buffer.old }
-    ensures marks { Marks result 0 (masked 0 bytes.now) }
-    ensures copied { buffer.new ≡ written_over place (masked sentinel bytes.now) buffer.old }
-{
-    if 16 <= bytes.len() {
-        if 32 <= bytes.len() {
-            return copy_marked_ends::<32>(bytes, buffer, place, sentinel);
-        }
-        return copy_marked_ends::<16>(bytes, buffer, place, sentinel);
-    }
-    if 8 <= bytes.len() {
-        return copy_marked_ends::<8>(bytes, buffer, place, sentinel);
-    }
-    if 4 <= bytes.len() {
-        return copy_marked_ends::<4>(bytes, buffer, place, sentinel);
-    }
-    let marks = marks_of(bytes, 0);
-    copy_few(bytes, buffer, place, sentinel);
-    marks
 }
 
 // Writes a code at each zero of n bytes that are in the buffer, for the sentinel zero, and returns the position of the

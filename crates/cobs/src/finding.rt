@@ -1,5 +1,5 @@
-//! The position of the first sentinel: by 255 bytes as long as they have none, by 64, by a mask of the last ones, by a loop
-//! under 4. Up to 64 bytes are searched where the call is.
+//! The position of the first sentinel: by 255 bytes as long as they have none, by 64, by a mask of the last ones. Up to
+//! 64 bytes are searched where the call is.
 //!
 //! Rejected: `memchr`, which goes by a vector a step, and takes nearly twice as many instructions.
 ghost use Rattle.std.specs.Prelude.{◌≡◌, ◌≢◌, ℕ, ◌<◌, ◌≤◌, length, slice_index};
@@ -7,25 +7,10 @@ ghost use Rattle.cobs.specs.InPlace.{stretch};
 ghost use Rattle.cobs.specs.Sentinel.{masked};
 
 use crate::codes::lowest;
-use crate::moves::{is_clear, is_clear_255, zeros_of_some};
+use crate::moves::{is_clear, is_clear_255, marks_of};
 
-// How many of a few bytes come before the first sentinel.
-#[inline(always)]
-pub(crate) fn before_near(bytes: &[u8], sentinel: u8) -> usize
-    ensures within { result ≤ length bytes.now }
-    ensures none { (k : ℕ) → k < result → slice_index bytes.now k ≢ sentinel }
-    ensures end { result < length bytes.now → slice_index bytes.now result ≡ sentinel }
-{
-    for (end, byte) in bytes.iter().enumerate() {
-        if *byte == sentinel {
-            return end;
-        }
-    }
-    bytes.len()
-}
-
-// The same of at most 64 bytes. The clause that a byte is below 256 is needed for a buffer that is borrowed on, of
-// which nothing else says it.
+// How many of at most 64 bytes come before the first sentinel. The clause that a byte is below 256 is needed for a
+// buffer that is borrowed on, of which nothing else says it.
 #[inline(always)]
 pub(crate) fn before_few(bytes: &[u8], sentinel: u8) -> usize
     requires { length bytes.now ≤ 64 }
@@ -34,10 +19,10 @@ pub(crate) fn before_few(bytes: &[u8], sentinel: u8) -> usize
     ensures end { result < length bytes.now → slice_index bytes.now result ≡ sentinel }
     ensures bytes { (k : ℕ) → slice_index bytes.now k < 256 }
 {
-    if bytes.len() < 4 {
-        return before_near(bytes, sentinel);
+    if bytes.is_empty() {
+        return 0;
     }
-    let marks = zeros_of_some(bytes, sentinel);
+    let marks = marks_of(bytes, sentinel);
     if marks == 0 {
         return bytes.len();
     }

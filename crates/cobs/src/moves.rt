@@ -8,6 +8,36 @@ ghost use Rattle.cobs.specs.Sentinel.{masked};
 
 use std::simd::prelude::*;
 
+// A call by the widest vectors of which so many bytes, at least one, fill one; or something else for fewer than 4.
+macro_rules! by_width {
+    ($n:expr, $call:ident($($argument:expr),*)) => {
+        by_width!(
+            $n,
+            $call($($argument),*),
+            if 2 <= $n {
+                $call::<2>($($argument),*)
+            } else {
+                $call::<1>($($argument),*)
+            }
+        )
+    };
+    ($n:expr, $call:ident($($argument:expr),*), $fewer:expr) => {
+        if 16 <= $n {
+            if 32 <= $n {
+                $call::<32>($($argument),*)
+            } else {
+                $call::<16>($($argument),*)
+            }
+        } else if 8 <= $n {
+            $call::<8>($($argument),*)
+        } else if 4 <= $n {
+            $call::<4>($($argument),*)
+        } else {
+            $fewer
+        }
+    };
+}
+
 // The bytes from a position on.
 #[inline(always)]
 fn load<const W: usize>(bytes: &[u8], at: usize) -> Simd<u8, W>
@@ -60,19 +90,11 @@ pub(crate) fn copy_few(bytes: &[u8], buffer: &mut [u8], place: usize, sentinel: 
     requires room { place + length bytes.now ≤ length buffer.old }
     ensures { buffer.new ≡ written_over place (masked sentinel bytes.now) buffer.old }
 {
-    if 16 <= bytes.len() {
-        if 32 <= bytes.len() {
-            copy_ends::<32>(bytes, buffer, place, sentinel);
-        } else {
-            copy_ends::<16>(bytes, buffer, place, sentinel);
-        }
-    } else if 8 <= bytes.len() {
-        copy_ends::<8>(bytes, buffer, place, sentinel);
-    } else if 4 <= bytes.len() {
-        copy_ends::<4>(bytes, buffer, place, sentinel);
-    } else {
-        copy_bytes(bytes, buffer, place, sentinel);
-    }
+    by_width!(
+        bytes.len(),
+        copy_ends(bytes, buffer, place, sentinel),
+        copy_bytes(bytes, buffer, place, sentinel)
+    )
 }
 
 // Puts a byte 64 times over a buffer, from a position on.
@@ -316,24 +338,14 @@ pub(crate) fn zeros_of_ends<const W: usize>(bytes: &[u8], sentinel: u8) -> u64
     zeros_at::<W>(bytes, 0, sentinel) | zeros_at::<W>(bytes, behind, sentinel) << behind
 }
 
-// The same of 4 to 64 bytes.
+// The same of 1 to 64 bytes.
 #[inline(always)]
-pub(crate) fn zeros_of_some(bytes: &[u8], sentinel: u8) -> u64
-    requires some { 4 ≤ length bytes.now }
+pub(crate) fn marks_of(bytes: &[u8], sentinel: u8) -> u64
+    requires some { 0 < length bytes.now }
     requires few { length bytes.now ≤ 64 }
     ensures { Marks result 0 (masked sentinel bytes.now) }
 {
-    if 16 <= bytes.len() {
-        if 32 <= bytes.len() {
-            zeros_of_ends::<32>(bytes, sentinel)
-        } else {
-            zeros_of_ends::<16>(bytes, sentinel)
-        }
-    } else if 8 <= bytes.len() {
-        zeros_of_ends::<8>(bytes, sentinel)
-    } else {
-        zeros_of_ends::<4>(bytes, sentinel)
-    }
+    by_width!(bytes.len(), zeros_of_ends(bytes, sentinel))
 }
 
 // Copies bytes over a buffer, from a position on, each XORed with the sentinel, if none of them is it: else nothing is written.
@@ -361,10 +373,10 @@ fn copy_clear_ends<const W: usize>(
     marks
 }
 
-// The same of 4 to 64 bytes.
+// The same of 1 to 64 bytes.
 #[inline(always)]
 pub(crate) fn copy_clear_some(bytes: &[u8], buffer: &mut [u8], place: usize, sentinel: u8) -> u64
-    requires some { 4 ≤ length bytes.now }
+    requires some { 0 < length bytes.now }
     requires few { length bytes.now ≤ 64 }
     requires room { place + length bytes.now ≤ length buffer.old }
     ensures marks { Marks result 0 (masked sentinel bytes.now) }
@@ -372,23 +384,13 @@ pub(crate) fn copy_clear_some(bytes: &[u8], buffer: &mut [u8], place: usize, sen
         → buffer.new ≡ written_over place (masked sentinel bytes.now) buffer.old }
     ensures same { result ≢ 0 → buffer.new ≡ buffer.old }
 {
-    if 16 <= bytes.len() {
-        if 32 <= bytes.len() {
-            copy_clear_ends::<32>(bytes, buffer, place, sentinel)
-        } else {
-            copy_clear_ends::<16>(bytes, buffer, place, sentinel)
-        }
-    } else if 8 <= bytes.len() {
-        copy_clear_ends::<8>(bytes, buffer, place, sentinel)
-    } else {
-        copy_clear_ends::<4>(bytes, buffer, place, sentinel)
-    }
+    by_width!(bytes.len(), copy_clear_ends(bytes, buffer, place, sentinel))
 }
 
 // Copies bytes over a buffer, from a position on, each XORed with the sentinel, and returns the bits of those that are zero. As
 // many as one to two vectors have.
 #[inline(always)]
-pub(crate) fn copy_marked_ends<const W: usize>(
+fn copy_marked_ends<const W: usize>(
     bytes: &[u8],
     buffer: &mut [u8],
     place: usize,
@@ -404,6 +406,21 @@ pub(crate) fn copy_marked_ends<const W: usize>(
     let marks = zeros_of_ends::<W>(bytes, 0);
     copy_ends::<W>(bytes, buffer, place, sentinel);
     marks
+}
+
+// The same of 1 to 64 bytes.
+#[inline(always)]
+pub(crate) fn copy_marked(bytes: &[u8], buffer: &mut [u8], place: usize, sentinel: u8) -> u64
+    requires some { 0 < length bytes.now }
+    requires few { length bytes.now ≤ 64 }
+    requires room { place + length bytes.now ≤ length buffer.old }
+    ensures marks { Marks result 0 (masked 0 bytes.now) }
+    ensures copied { buffer.new ≡ written_over place (masked sentinel bytes.now) buffer.old }
+{
+    by_width!(
+        bytes.len(),
+        copy_marked_ends(bytes, buffer, place, sentinel)
+    )
 }
 
 // Moves n bytes towards the front, from one position to another: as many as one to two vectors have.
@@ -445,19 +462,11 @@ fn move_few(buffer: &mut [u8], from: usize, n: usize, place: usize, sentinel: u8
     ensures { buffer.new
         ≡ written_over place (masked sentinel (take n (drop from buffer.old))) buffer.old }
 {
-    if 16 <= n {
-        if 32 <= n {
-            move_ends::<32>(buffer, from, n, place, sentinel);
-        } else {
-            move_ends::<16>(buffer, from, n, place, sentinel);
-        }
-    } else if 8 <= n {
-        move_ends::<8>(buffer, from, n, place, sentinel);
-    } else if 4 <= n {
-        move_ends::<4>(buffer, from, n, place, sentinel);
-    } else {
-        move_bytes(buffer, from, n, place, sentinel);
-    }
+    by_width!(
+        n,
+        move_ends(buffer, from, n, place, sentinel),
+        move_bytes(buffer, from, n, place, sentinel)
+    )
 }
 
 // The same of any number.

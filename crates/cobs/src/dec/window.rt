@@ -77,7 +77,7 @@ pub(crate) fn copy_frame_until<const CALL: usize>(
     ensures buffer { buffer.new
         ≡ written_over place (take result (masked sentinel bytes.now)) buffer.old }
 {
-    if bytes.len() < 4 || 64 < bytes.len() {
+    if bytes.is_empty() || 64 < bytes.len() {
         return copy_until(bytes, buffer, place, sentinel);
     }
     let marks = copy_clear_some(bytes, buffer, place, sentinel);

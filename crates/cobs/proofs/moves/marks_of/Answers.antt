@@ -1,6 +1,6 @@
 use Rattle.std.proofs.lemmas.Grind.{common_steps}
 use Rattle.std.proofs.Common.{arith}
-use Rattle.cobs.proofs.codes.marks_of.Goals as goal
+use Rattle.cobs.proofs.moves.marks_of.Goals as goal
 
 pub zeros_of_ends-requires-clause-wide : goal.zeros_of_ends-requires-clause-wide
 zeros_of_ends-requires-clause-wide c = grind (arith, common_steps)
