@@ -8,19 +8,8 @@ ghost use Rattle.cobs.specs.Sentinel.{masked};
 
 use std::simd::prelude::*;
 
-// A call by the widest vectors of which so many bytes, at least one, fill one; or something else for fewer than 4.
+// A call by the widest vectors of which so many bytes fill one; something else for fewer than 8.
 macro_rules! by_width {
-    ($n:expr, $call:ident($($argument:expr),*)) => {
-        by_width!(
-            $n,
-            $call($($argument),*),
-            if 2 <= $n {
-                $call::<2>($($argument),*)
-            } else {
-                $call::<1>($($argument),*)
-            }
-        )
-    };
     ($n:expr, $call:ident($($argument:expr),*), $fewer:expr) => {
         if 16 <= $n {
             if 32 <= $n {
@@ -30,12 +19,20 @@ macro_rules! by_width {
             }
         } else if 8 <= $n {
             $call::<8>($($argument),*)
-        } else if 4 <= $n {
-            $call::<4>($($argument),*)
         } else {
             $fewer
         }
     };
+}
+
+// XORs every byte with the sentinel. It isn't inlined: its vectors take registers that its callers would have to save.
+#[inline(never)]
+pub(crate) fn mask(bytes: &mut [u8], sentinel: u8)
+    ensures { bytes.new ≡ masked sentinel bytes.old }
+{
+    for byte in bytes.iter_mut() {
+        *byte = sentinel ^ *byte;
+    }
 }
 
 // The bytes from a position on.
@@ -93,7 +90,11 @@ pub(crate) fn copy_few(bytes: &[u8], buffer: &mut [u8], place: usize, sentinel: 
     by_width!(
         bytes.len(),
         copy_ends(bytes, buffer, place, sentinel),
-        copy_bytes(bytes, buffer, place, sentinel)
+        if 4 <= bytes.len() {
+            copy_ends::<4>(bytes, buffer, place, sentinel);
+        } else {
+            copy_bytes(bytes, buffer, place, sentinel);
+        }
     )
 }
 
@@ -172,17 +173,6 @@ pub(crate) fn copy_block(bytes: &[u8], buffer: &mut [u8], place: usize, sentinel
     }
 }
 
-// The lesser bytes of two vectors, lane by lane.
-#[inline(always)]
-fn lesser(a: u8x64, b: u8x64) -> u8x64
-    requires { length a ≡ length b }
-    ensures long { length result ≡ length a }
-    ensures first { (k : ℕ) → k < length a → slice_index result k ≤ slice_index a k }
-    ensures second { (k : ℕ) → k < length a → slice_index result k ≤ slice_index b k }
-{
-    a.simd_min(b)
-}
-
 // The least bytes of four vectors, lane by lane: one by one, so that each is loaded where it is compared.
 #[inline(always)]
 fn least_of_four(a: u8x64, b: u8x64, c: u8x64, d: u8x64) -> u8x64
@@ -192,9 +182,9 @@ fn least_of_four(a: u8x64, b: u8x64, c: u8x64, d: u8x64) -> u8x64
         → (slice_index result j ≤ slice_index a j) × (slice_index result j ≤ slice_index b j)
         × (slice_index result j ≤ slice_index c j) × (slice_index result j ≤ slice_index d j) }
 {
-    let first = lesser(a, b);
-    let second = lesser(first, c);
-    lesser(second, d)
+    let first = a.simd_min(b);
+    let second = first.simd_min(c);
+    second.simd_min(d)
 }
 
 // 64 bytes from a position on, each XORed with the sentinel.
@@ -338,6 +328,20 @@ pub(crate) fn zeros_of_ends<const W: usize>(bytes: &[u8], sentinel: u8) -> u64
     zeros_at::<W>(bytes, 0, sentinel) | zeros_at::<W>(bytes, behind, sentinel) << behind
 }
 
+// The same of 4 to 64 bytes.
+#[inline(always)]
+pub(crate) fn zeros_of_some(bytes: &[u8], sentinel: u8) -> u64
+    requires some { 4 ≤ length bytes.now }
+    requires few { length bytes.now ≤ 64 }
+    ensures { Marks result 0 (masked sentinel bytes.now) }
+{
+    by_width!(
+        bytes.len(),
+        zeros_of_ends(bytes, sentinel),
+        zeros_of_ends::<4>(bytes, sentinel)
+    )
+}
+
 // The same of 1 to 64 bytes.
 #[inline(always)]
 pub(crate) fn marks_of(bytes: &[u8], sentinel: u8) -> u64
@@ -345,7 +349,13 @@ pub(crate) fn marks_of(bytes: &[u8], sentinel: u8) -> u64
     requires few { length bytes.now ≤ 64 }
     ensures { Marks result 0 (masked sentinel bytes.now) }
 {
-    by_width!(bytes.len(), zeros_of_ends(bytes, sentinel))
+    if 4 <= bytes.len() {
+        zeros_of_some(bytes, sentinel)
+    } else if 2 <= bytes.len() {
+        zeros_of_ends::<2>(bytes, sentinel)
+    } else {
+        zeros_of_ends::<1>(bytes, sentinel)
+    }
 }
 
 // Copies bytes over a buffer, from a position on, each XORed with the sentinel, if none of them is it: else nothing is written.
@@ -373,10 +383,10 @@ fn copy_clear_ends<const W: usize>(
     marks
 }
 
-// The same of 1 to 64 bytes.
+// The same of 4 to 64 bytes.
 #[inline(always)]
 pub(crate) fn copy_clear_some(bytes: &[u8], buffer: &mut [u8], place: usize, sentinel: u8) -> u64
-    requires some { 0 < length bytes.now }
+    requires some { 4 ≤ length bytes.now }
     requires few { length bytes.now ≤ 64 }
     requires room { place + length bytes.now ≤ length buffer.old }
     ensures marks { Marks result 0 (masked sentinel bytes.now) }
@@ -384,7 +394,11 @@ pub(crate) fn copy_clear_some(bytes: &[u8], buffer: &mut [u8], place: usize, sen
         → buffer.new ≡ written_over place (masked sentinel bytes.now) buffer.old }
     ensures same { result ≢ 0 → buffer.new ≡ buffer.old }
 {
-    by_width!(bytes.len(), copy_clear_ends(bytes, buffer, place, sentinel))
+    by_width!(
+        bytes.len(),
+        copy_clear_ends(bytes, buffer, place, sentinel),
+        copy_clear_ends::<4>(bytes, buffer, place, sentinel)
+    )
 }
 
 // Copies bytes over a buffer, from a position on, each XORed with the sentinel, and returns the bits of those that are zero. As
@@ -419,7 +433,14 @@ pub(crate) fn copy_marked(bytes: &[u8], buffer: &mut [u8], place: usize, sentine
 {
     by_width!(
         bytes.len(),
-        copy_marked_ends(bytes, buffer, place, sentinel)
+        copy_marked_ends(bytes, buffer, place, sentinel),
+        if 4 <= bytes.len() {
+            copy_marked_ends::<4>(bytes, buffer, place, sentinel)
+        } else if 2 <= bytes.len() {
+            copy_marked_ends::<2>(bytes, buffer, place, sentinel)
+        } else {
+            copy_marked_ends::<1>(bytes, buffer, place, sentinel)
+        }
     )
 }
 
@@ -465,7 +486,11 @@ fn move_few(buffer: &mut [u8], from: usize, n: usize, place: usize, sentinel: u8
     by_width!(
         n,
         move_ends(buffer, from, n, place, sentinel),
-        move_bytes(buffer, from, n, place, sentinel)
+        if 4 <= n {
+            move_ends::<4>(buffer, from, n, place, sentinel);
+        } else {
+            move_bytes(buffer, from, n, place, sentinel);
+        }
     )
 }
 

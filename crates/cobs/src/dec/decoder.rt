@@ -6,7 +6,6 @@ ghost use Rattle.cobs.specs.Sentinel.{masked};
 
 use super::progress::Progress;
 use super::report::{DecodeError, DecodeReport};
-use super::window::write_over;
 
 /// Decodes frames that arrive in chunks, into a borrowed buffer.
 ///
@@ -118,6 +117,6 @@ impl<'a> CobsDecoder<'a> {
         ensures sentinel { sentinel_of self.new ≡ sentinel_of self.old }
         ensures lent { lent_name self.new ≡ lent_name self.old }
     {
-        write_over(self.dest, place, bytes);
+        self.dest[place..place + bytes.len()].copy_from_slice(bytes);
     }
 }

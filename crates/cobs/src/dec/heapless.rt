@@ -6,7 +6,6 @@ ghost use Rattle.cobs.specs.Sentinel.{masked};
 
 use super::progress::Progress;
 use super::report::{DecodeError, DecodeReport};
-use super::window::write_over;
 use arrayvec::ArrayVec;
 
 /// Decodes frames that arrive in chunks, into an array of N bytes of its own.
@@ -151,7 +150,8 @@ impl<const N: usize> CobsDecoderHeapless<N> {
         ensures progress { array_progress self.new ≡ array_progress self.old }
         ensures sentinel { array_sentinel self.new ≡ array_sentinel self.old }
     {
-        write_over(self.array.as_mut_slice(), place, bytes);
+        let buffer = self.array.as_mut_slice();
+        buffer[place..place + bytes.len()].copy_from_slice(bytes);
     }
 }
 

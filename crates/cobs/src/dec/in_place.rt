@@ -11,8 +11,7 @@ use super::report::{DecodeError, DecodeReport};
 use super::state::by_code;
 use super::window::put_zeros;
 use crate::finding::{before_by_64, before_few};
-use crate::masks::mask;
-use crate::moves::{is_clear_255, move_down};
+use crate::moves::{is_clear_255, mask, move_down};
 
 // Decodes the bytes at the start of a buffer that are in a frame, each XORed with the sentinel, in place: those of
 // one window. After the code of a full block no byte is outside it.
@@ -41,28 +40,6 @@ fn decode_short_in_place(
     move_down(buf, 1, len, 0, sentinel);
     let state = put_zeros(&mut buf[..len], code - 1);
     with_parsed(answer_behind(state, len), end)
-}
-
-// The position of the first sentinel of more than 64 bytes, if it is among the first 256 and they don't begin with a
-// row of codes 01, which are filled faster than they are put one by one; otherwise 256. The first byte and the 64th
-// show a row. The clause that a byte is below 256 is needed for a buffer that is borrowed on, of which nothing else
-// says it.
-#[inline(always)]
-fn near_end(bytes: &[u8], sentinel: u8) -> usize
-    requires { 64 < length bytes.now }
-    ensures few { result ≤ 256 }
-    ensures within { result < 256 → result ≤ length bytes.now }
-    ensures none { result < 256 → (k : ℕ) → k < result → slice_index bytes.now k ≢ sentinel }
-    ensures end { result < 256 → result < length bytes.now
-        → slice_index bytes.now result ≡ sentinel }
-    ensures begins { result ≡ 256 → slice_index bytes.now 0 ≢ sentinel }
-    ensures bytes { (k : ℕ) → slice_index bytes.now k < 256 }
-{
-    let one = sentinel ^ 1;
-    if bytes[0] == one && bytes[63] == one {
-        return 256;
-    }
-    before_by_64(&bytes[..bytes.len().min(256)], sentinel)
 }
 
 // As `decode_in_place_report_with_sentinel`, of a buffer that doesn't begin with the sentinel: 255 bytes are searched
@@ -94,6 +71,12 @@ fn decode_long_in_place<const COPY: usize>(
     with_parsed(answer_behind(state, len), read)
 }
 
+// Shows that a byte is below 256: of a buffer that is borrowed on nothing else says it.
+#[inline(always)]
+fn all_bytes(bytes: &[u8])
+    ensures { (k : ℕ) → slice_index bytes.now k < 256 }
+{}
+
 // As `decode_in_place_report_with_sentinel`, by the copy of that number. A short frame is searched for its end, and
 // then moved.
 #[inline(always)]
@@ -105,11 +88,17 @@ pub(crate) fn decode_by<const COPY: usize>(
     ensures buffer { buf.new ≡ overwritten (part (stretch (masked sentinel buf.old))) buf.old }
     ensures bytes { (k : ℕ) → slice_index buf.old k < 256 }
 {
+    all_bytes(buf);
     if buf.len() <= 64 {
         let few = before_few(buf, sentinel);
         return decode_short_in_place(buf, few, sentinel);
     }
-    let end = near_end(buf, sentinel);
+    // A row of codes 01, which the first byte and the 64th show, is filled faster than it is put one by one.
+    let one = sentinel ^ 1;
+    if buf[0] == one && buf[63] == one {
+        return apart(decode_long_in_place::<COPY>(buf, sentinel));
+    }
+    let end = before_by_64(&buf[..buf.len().min(256)], sentinel);
     if end == 256 {
         return apart(decode_long_in_place::<COPY>(buf, sentinel));
     }
@@ -215,12 +204,6 @@ pub fn decode_in_place_with_sentinel(buf: &mut [u8], sentinel: u8) -> Result<usi
     mask(buf, sentinel);
     decode_in_place(buf)
 }
-
-// Shows that a byte is below 256.
-#[inline(always)]
-fn all_bytes(bytes: &[u8])
-    ensures { (k : ℕ) → slice_index bytes.now k < 256 }
-{}
 
 // As `decode_in_place_report_with_sentinel`, of bytes without a sentinel: of a short frame none is searched.
 #[inline(always)]

@@ -6,7 +6,6 @@ ghost use Rattle.cobs.specs.Sentinel.{masked};
 
 use super::progress::Progress;
 use super::report::{DecodeError, DecodeReport};
-use super::window::write_over;
 use std::alloc::{AllocError, Global};
 
 /// Decodes frames that arrive in chunks, into a buffer of its own.
@@ -104,7 +103,7 @@ impl CobsDecoderOwned {
         ensures buffer { owned_buffer self.new ≡ owned_buffer self.old }
         ensures sentinel { owned_sentinel self.new ≡ owned_sentinel self.old }
     {
-        self.progress.reset();
+        self.progress = Progress::new();
     }
 
     /// Returns whether no frame has begun.
@@ -170,6 +169,7 @@ impl CobsDecoderOwned {
         ensures progress { owned_progress self.new ≡ owned_progress self.old }
         ensures sentinel { owned_sentinel self.new ≡ owned_sentinel self.old }
     {
-        write_over(self.buffer.as_mut_slice(), place, bytes);
+        let buffer = self.buffer.as_mut_slice();
+        buffer[place..place + bytes.len()].copy_from_slice(bytes);
     }
 }

@@ -35,12 +35,6 @@ impl Progress {
         }
     }
 
-    pub(crate) fn reset(&mut self)
-        ensures { HasStreamed self.new [] }
-    {
-        *self = Progress::new();
-    }
-
     pub(crate) fn is_new(&self) -> bool
         ensures idle { IsTrue result ↔ HasStreamed self.now [] }
         ensures begun { (p : List ℕ) → HasStreamed self.now p → (IsTrue result ↔ p ≡ []) }
@@ -314,7 +308,7 @@ impl Progress {
         ensures within { IfOk result (λ o. IfSome o (λ n. n ≤ room)) }
     {
         let Progress { mut state, len } = *self;
-        self.reset();
+        *self = Progress::new();
         if let DecoderState::Idle = state {
             return Ok(None);
         }

@@ -77,6 +77,24 @@ fn front(source: &[u8], room: usize, sentinel: u8) -> usize
     source.len()
 }
 
+// Decodes the bytes of a source before its first sentinel, each XORed with it, by `take_source`. Its result goes through memory
+// that is set to zero first: where this is compiled into its caller, so that the faster paths don't pay for it.
+#[inline(always)]
+fn decode_many<const COPY: usize>(
+    bytes: &[u8],
+    dest: &mut [u8],
+    sentinel: u8,
+) -> (Result<usize, DecodeError>, usize)
+    requires some { 0 < length bytes.now }
+    requires room { length bytes.now ≤ length dest.old + 1 }
+    requires begins { slice_index bytes.now 0 ≢ sentinel }
+    ensures { DecodesFront dest.old (stretch (masked sentinel bytes.now)) dest.new result.0
+        result.1 }
+{
+    let (Progress { state, len }, end) = take_source::<COPY>(bytes, dest, sentinel);
+    (answer_behind(state, len), end)
+}
+
 // Decodes the bytes of a source before its first sentinel, each XORed with it, if there are some and those looked at
 // fit. Also returns how many they are. It is compiled once for each caller, into which it is inlined.
 //
@@ -104,8 +122,7 @@ fn decode_part<const CALL: usize, const COPY: usize>(
     if begins_with_row(bytes, sentinel) {
         return None;
     }
-    let (Progress { state, len }, end) = take_source::<COPY>(bytes, dest, sentinel);
-    Some((answer_behind(state, len), end))
+    Some(decode_many::<COPY>(bytes, dest, sentinel))
 }
 
 // Whether a source is short, fits and begins with a frame.
@@ -167,6 +184,15 @@ fn decode_slowly(source: &[u8], dest: &mut [u8]) -> Result<DecodeReport, DecodeE
     }
 }
 
+// The same, by itself as `decode_many` is.
+#[inline(always)]
+fn decode_else(source: &[u8], dest: &mut [u8]) -> Result<DecodeReport, DecodeError>
+    ensures answer { result ≡ decoded_from (length dest.old) source.now }
+    ensures dest { dest.new ≡ overwritten (part (frame_in source.now)) dest.old }
+{
+    apart(decode_slowly(source, dest))
+}
+
 /// Decodes the first frame of a source into `dest`, and returns both sizes.
 ///
 /// Leading zeros are skipped; the frame ends at the next zero, or at the end of the source. `parsed_size` counts the
@@ -199,7 +225,7 @@ pub fn decode(source: &[u8], dest: &mut [u8]) -> Result<DecodeReport, DecodeErro
     let looked_at = front(source, dest.len(), 0);
     match decode_part::<0, 0>(source, looked_at, dest, 0) {
         Some((answer, end)) => with_parsed(answer, source.len().min(end + 1)),
-        None => apart(decode_slowly(source, dest)),
+        None => decode_else(source, dest),
     }
 }
 
@@ -215,6 +241,16 @@ fn decode_stretch(source: &[u8], dest: &mut [u8], sentinel: u8) -> Result<usize,
         Some((answer, _)) => answer,
         None => decode_counted(frame, dest, sentinel),
     }
+}
+
+// The same, by itself as `decode_many` is.
+#[inline(always)]
+fn decode_stretch_else(source: &[u8], dest: &mut [u8], sentinel: u8) -> Result<usize, DecodeError>
+    ensures answer { result
+        ≡ decoded_into (length dest.old) (stretch (masked sentinel source.now)) }
+    ensures dest { dest.new ≡ overwritten (part (stretch (masked sentinel source.now))) dest.old }
+{
+    apart(decode_stretch(source, dest, sentinel))
 }
 
 // As `decode_with_sentinel`, by the copy of that number: that for zero alone XORs nothing.
@@ -234,7 +270,7 @@ fn decode_before<const CALL: usize, const COPY: usize>(
     let looked_at = front(source, dest.len(), sentinel);
     match decode_part::<CALL, COPY>(source, looked_at, dest, sentinel) {
         Some((answer, _)) => answer,
-        None => apart(decode_stretch(source, dest, sentinel)),
+        None => decode_stretch_else(source, dest, sentinel),
     }
 }
 

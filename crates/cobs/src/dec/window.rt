@@ -77,7 +77,7 @@ pub(crate) fn copy_frame_until<const CALL: usize>(
     ensures buffer { buffer.new
         ≡ written_over place (take result (masked sentinel bytes.now)) buffer.old }
 {
-    if bytes.is_empty() || 64 < bytes.len() {
+    if bytes.len() < 4 || 64 < bytes.len() {
         return copy_until(bytes, buffer, place, sentinel);
     }
     let marks = copy_clear_some(bytes, buffer, place, sentinel);
@@ -139,12 +139,4 @@ pub(crate) fn decode_at_once(bytes: &[u8], out: &mut [u8], left: u8, sentinel: u
 {
     copy_over(bytes, out, 0, sentinel);
     put_zeros(out, left)
-}
-
-// Writes bytes over those of a buffer, from a position on.
-pub(crate) fn write_over(buffer: &mut [u8], place: usize, bytes: &[u8])
-    requires { place + length bytes.now ≤ length buffer.old }
-    ensures { buffer.new ≡ written_over place bytes.now buffer.old }
-{
-    buffer[place..place + bytes.len()].copy_from_slice(bytes);
 }

@@ -1,11 +1,11 @@
 //! Encoding a message in place.
-ghost use Rattle.std.specs.Prelude.{◌≡◌, true, ◌+◌, ◌<◌, ◌≤◌, [], length, take, drop};
+ghost use Rattle.std.specs.Prelude.{◌≡◌, ◌+◌, ◌<◌, ◌≤◌, [], length, take, drop};
 ghost use Rattle.cobs.specs.Frames.{shortest_frame};
 ghost use Rattle.cobs.specs.Codes.{Coding};
 ghost use Rattle.cobs.specs.Sentinel.{masked, frame_for};
 
 use crate::codes::put_codes_standing;
-use crate::masks::mask;
+use crate::moves::mask;
 
 /// Encodes a message of n bytes where it is, after a spare first byte of the buffer, and returns the frame's length,
 /// n + 1.
@@ -30,7 +30,7 @@ pub fn encode_in_place(buffer: &mut [u8], n: usize, sentinel: u8) -> usize
     ensures frame { take result buffer.new ≡ frame_for sentinel (take n (drop 1 buffer.old)) }
 {
     if n < 64 && sentinel == 0 {
-        return encode_standing::<true>(buffer, n, sentinel);
+        return encode_standing(buffer, n, sentinel);
     }
     encode_long(buffer, n, sentinel)
 }
@@ -44,20 +44,19 @@ fn encode_long(buffer: &mut [u8], n: usize, sentinel: u8) -> usize
     ensures length { result ≡ length (shortest_frame (take n (drop 1 buffer.old))) }
     ensures frame { take result buffer.new ≡ frame_for sentinel (take n (drop 1 buffer.old)) }
 {
-    encode_standing::<false>(buffer, n, sentinel)
+    encode_standing(buffer, n, sentinel)
 }
 
-// The same. A short message has a copy of its own.
+// The same, compiled into both: in the first a message is known to be short.
 #[inline(always)]
-fn encode_standing<const SHORT: bool>(buffer: &mut [u8], n: usize, sentinel: u8) -> usize
+fn encode_standing(buffer: &mut [u8], n: usize, sentinel: u8) -> usize
     requires few { n ≤ 254 }
-    requires short { SHORT ≡ true → n < 64 }
     requires room { n < length buffer.old }
     ensures plus_one { result ≡ n + 1 }
     ensures length { result ≡ length (shortest_frame (take n (drop 1 buffer.old))) }
     ensures frame { take result buffer.new ≡ frame_for sentinel (take n (drop 1 buffer.old)) }
 {
-    let code_at = put_all_codes::<SHORT>(buffer, n);
+    let code_at = put_all_codes(buffer, n);
     let end = n + 1;
     buffer[code_at] = (end - code_at) as u8;
     mask_frame(buffer, end, sentinel);
@@ -75,37 +74,10 @@ fn mask_frame(buffer: &mut [u8], end: usize, sentinel: u8)
     }
 }
 
-// Writes a code at each zero of the message, and returns the position of the last code. A short message takes no loop over its
-// bytes.
+// Writes a code at each zero of the message, and returns the position of the last code. A short message takes no step of
+// the loop.
 #[inline(always)]
-fn put_all_codes<const SHORT: bool>(buffer: &mut [u8], n: usize) -> usize
-    requires few { n ≤ 254 }
-    requires short { SHORT ≡ true → n < 64 }
-    requires room { n < length buffer.old }
-    ensures { Coding buffer.new result (n + 1) (take n (drop 1 buffer.old)) [] }
-{
-    if SHORT {
-        return put_few_codes(buffer, n);
-    }
-    put_many_codes(buffer, n)
-}
-
-// The same of fewer than 64 bytes.
-#[inline(always)]
-fn put_few_codes(buffer: &mut [u8], n: usize) -> usize
-    requires few { n < 64 }
-    requires room { n < length buffer.old }
-    ensures { Coding buffer.new result (n + 1) (take n (drop 1 buffer.old)) [] }
-{
-    if n == 0 {
-        return 0;
-    }
-    put_codes_standing(buffer, 0, 1, n)
-}
-
-// The same of any number.
-#[inline(always)]
-fn put_many_codes(buffer: &mut [u8], n: usize) -> usize
+fn put_all_codes(buffer: &mut [u8], n: usize) -> usize
     requires few { n ≤ 254 }
     requires room { n < length buffer.old }
     ensures { Coding buffer.new result (n + 1) (take n (drop 1 buffer.old)) [] }

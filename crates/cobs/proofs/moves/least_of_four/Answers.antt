@@ -1,27 +1,31 @@
-use Rattle.std.proofs.Common.{◌∙◌, ◌<◌, length, sym, arith}
+use Rattle.std.proofs.Common.{◌≡◌, ◌∙◌, ◌<◌, ◌≤◌, ℕ, List, length, get_or, sym, arith}
+use Rattle.cobs.proofs.LanesLemmas.{lesser_of, lesser_length, lesser_lane}
 use Rattle.cobs.proofs.moves.least_of_four.Goals as goal
 
-pub lesser-first-requires : goal.lesser-first-requires
-lesser-first-requires c = c.requires.0 ∙ sym c.requires.1
+-- the lesser lanes of what was met so far and of one more
+long : (a b : List ℕ) → length a ≡ 64 → length b ≡ 64 → length (lesser_of a b) ≡ 64
+long a b l m = lesser_length a b (l ∙ sym m) ∙ l
 
-pub lesser-second-requires : goal.lesser-second-requires
-lesser-second-requires c = c.lesser-first.ensures.long ∙ c.requires.0 ∙ sym c.requires.2
-
-pub lesser-requires : goal.lesser-requires
-lesser-requires c = c.lesser-second.ensures.long ∙ c.lesser-first.ensures.long ∙ c.requires.0 ∙ sym c.requires.3
+lane : (a b : List ℕ) (j : ℕ) → length a ≡ 64 → length b ≡ 64 → j < 64 → (get_or (lesser_of a b) j 0 ≤ get_or a j 0) × (get_or (lesser_of a b) j 0 ≤ get_or b j 0)
+lane a b j l m q = lesser_lane a b j (l ∙ sym m) (omega (arith, l, q))
 
 pub returns-clause-long : goal.returns-clause-long
-returns-clause-long c = c.lesser.ensures.long ∙ c.lesser-second.ensures.long ∙ c.lesser-first.ensures.long ∙ c.requires.0
+returns-clause-long c =
+    let two = long c.args.a c.args.b c.requires.0 c.requires.1 in
+    let three = long (lesser_of c.args.a c.args.b) c.args.c two c.requires.2 in
+    long (lesser_of (lesser_of c.args.a c.args.b) c.args.c) c.args.d three c.requires.3
 
 pub returns-clause-lanes : goal.returns-clause-lanes
 returns-clause-lanes c = λ j q.
-    let x : j < length c.args.a = omega (arith, c.requires.0, q) in
-    let y : j < length c.lesser-first.result = omega (arith, c.lesser-first.ensures.long, x) in
-    let z : j < length c.lesser-second.result = omega (arith, c.lesser-second.ensures.long, y) in
-    let all = c.lesser.ensures.first j z in
-    let two = c.lesser-second.ensures.first j y in (
-      omega (arith, all, two, c.lesser-first.ensures.first j x),
-      omega (arith, all, two, c.lesser-first.ensures.second j x),
-      omega (arith, all, c.lesser-second.ensures.second j y),
-      c.lesser.ensures.second j z,
+    let ab = lesser_of c.args.a c.args.b in
+    let abc = lesser_of ab c.args.c in
+    let two = long c.args.a c.args.b c.requires.0 c.requires.1 in
+    let three = long ab c.args.c two c.requires.2 in
+    let of_two = lane c.args.a c.args.b j c.requires.0 c.requires.1 q in
+    let of_three = lane ab c.args.c j two c.requires.2 q in
+    let of_all = lane abc c.args.d j three c.requires.3 q in (
+      omega (arith, of_all.0, of_three.0, of_two.0),
+      omega (arith, of_all.0, of_three.0, of_two.1),
+      omega (arith, of_all.0, of_three.1),
+      of_all.1,
     )

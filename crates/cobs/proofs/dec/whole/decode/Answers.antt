@@ -8,7 +8,7 @@ use Rattle.cobs.proofs.PushingLemmas.{told_fitting, over_fitting, unpadded_begun
 use Rattle.cobs.proofs.ShortLemmas.{decodes_front}
 use Rattle.cobs.proofs.VerdictsLemmas.{from_frame, from_no_frame, stretch_found}
 use Rattle.cobs.proofs.dec.whole.decode.Goals as goal
-use Rattle.cobs.proofs.dec.whole.decode.Goals.{After-with_parsed, After-with_parsed-in-Some, After-apart}
+use Rattle.cobs.proofs.dec.whole.decode.Goals.{After-with_parsed, After-with_parsed-in-Some, After-decode_else}
 
 -- where few bytes had room
 module _ (c : After-with_parsed) where
@@ -40,12 +40,12 @@ module _ (c : After-with_parsed-in-Some) where
       over_fitting c.args.source.now c.args.source.now c.args.dest.now c.decode_part.new.dest c.in-Some.answer c.in-Some.end (unpadded_begun c.args.source.now d.some) d
 
 -- and else
-module _ (c : After-apart) where
-  told_apart : c.apart.result ≡ decoded_from (length c.args.dest.now) c.args.source.now
-  told_apart = c.apart.ensures ∙ c.decode_slowly.ensures.answer ∙ ap (λ d. decoded_from (length d) c.args.source.now) (c.in-None.ensures.same refl)
+module _ (c : After-decode_else) where
+  told_apart : c.decode_else.result ≡ decoded_from (length c.args.dest.now) c.args.source.now
+  told_apart = c.decode_else.ensures.answer ∙ ap (λ d. decoded_from (length d) c.args.source.now) (c.in-None.ensures.same refl)
 
-  over_apart : c.decode_slowly.new.dest ≡ overwritten (part (frame_in c.args.source.now)) c.args.dest.now
-  over_apart = c.decode_slowly.ensures.dest ∙ ap (overwritten (part (frame_in c.args.source.now))) (c.in-None.ensures.same refl)
+  over_apart : c.decode_else.new.dest ≡ overwritten (part (frame_in c.args.source.now)) c.args.dest.now
+  over_apart = c.decode_else.ensures.dest ∙ ap (overwritten (part (frame_in c.args.source.now))) (c.in-None.ensures.same refl)
 
 pub returns-then-is_few-clause-answer : goal.returns-then-is_few-clause-answer
 returns-then-is_few-clause-answer c = told_few (goal.at.returns-then-is_few-clause-answer c).After-with_parsed
@@ -76,15 +76,15 @@ pub returns-in-Some-clause-no_frame : goal.returns-in-Some-clause-no_frame
 returns-in-Some-clause-no_frame c = from_no_frame c.args.source.now c.args.dest.now c.with_parsed-in-Some.result (told (goal.at.returns-in-Some-clause-no_frame c).After-with_parsed-in-Some)
 
 pub returns-in-None-clause-answer : goal.returns-in-None-clause-answer
-returns-in-None-clause-answer c = told_apart (goal.at.returns-in-None-clause-answer c).After-apart
+returns-in-None-clause-answer c = told_apart (goal.at.returns-in-None-clause-answer c).After-decode_else
 
 pub returns-in-None-clause-dest : goal.returns-in-None-clause-dest
-returns-in-None-clause-dest c = over_apart (goal.at.returns-in-None-clause-dest c).After-apart
+returns-in-None-clause-dest c = over_apart (goal.at.returns-in-None-clause-dest c).After-decode_else
 
 pub returns-in-None-clause-frame : goal.returns-in-None-clause-frame
 returns-in-None-clause-frame c =
-    let e = (goal.at.returns-in-None-clause-frame c).After-apart in
-    from_frame c.args.source.now c.args.dest.now c.apart.result c.decode_slowly.new.dest (stretch_found c.args.source.now (λ k. (c.type_inv.source k).fits)) (told_apart e) (over_apart e)
+    let e = (goal.at.returns-in-None-clause-frame c).After-decode_else in
+    from_frame c.args.source.now c.args.dest.now c.decode_else.result c.decode_else.new.dest (stretch_found c.args.source.now (λ k. (c.type_inv.source k).fits)) (told_apart e) (over_apart e)
 
 pub returns-in-None-clause-no_frame : goal.returns-in-None-clause-no_frame
-returns-in-None-clause-no_frame c = from_no_frame c.args.source.now c.args.dest.now c.apart.result (told_apart (goal.at.returns-in-None-clause-no_frame c).After-apart)
+returns-in-None-clause-no_frame c = from_no_frame c.args.source.now c.args.dest.now c.decode_else.result (told_apart (goal.at.returns-in-None-clause-no_frame c).After-decode_else)

@@ -19,9 +19,8 @@ returns-in-Some-clause-dest g c = c.in-Some.ensures.done.buffer
 
 pub returns-in-None-clause-answer : goal.returns-in-None-clause-answer
 returns-in-None-clause-answer g c =
-    c.apart.ensures
-    ∙ c.decode_stretch.ensures.answer
+    c.decode_stretch_else.ensures.answer
     ∙ ap (λ d. decoded_into (length d) (stretch (masked c.args.sentinel c.args.source.now))) (c.in-None.ensures.same refl)
 
 pub returns-in-None-clause-dest : goal.returns-in-None-clause-dest
-returns-in-None-clause-dest g c = c.decode_stretch.ensures.dest ∙ ap (overwritten (part (stretch (masked c.args.sentinel c.args.source.now)))) (c.in-None.ensures.same refl)
+returns-in-None-clause-dest g c = c.decode_stretch_else.ensures.dest ∙ ap (overwritten (part (stretch (masked c.args.sentinel c.args.source.now)))) (c.in-None.ensures.same refl)

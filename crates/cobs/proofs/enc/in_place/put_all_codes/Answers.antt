@@ -2,7 +2,7 @@ use Rattle.std.proofs.lemmas.Grind.{common_steps}
 use Rattle.std.proofs.Common.{◌≡◌, ◌+◌, ◌-◌, length, take, drop, arith, length-drop}
 use Rattle.std.proofs.lemmas.List.{length-take-le}
 use Rattle.cobs.proofs.StandingLemmas.{standing_new, standing_on, standing_all}
-use Rattle.cobs.proofs.enc.in_place.put_many_codes.Goals as goal
+use Rattle.cobs.proofs.enc.in_place.put_all_codes.Goals as goal
 
 pub loop-done-init : goal.loop-done-init
 loop-done-init c = record {
