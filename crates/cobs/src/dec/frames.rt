@@ -108,15 +108,16 @@ pub(crate) fn take_source<const COPY: usize>(
 
 // Decodes the bytes of a source before its first sentinel, each XORed with it: the source is of one window, doesn't begin with
 // the sentinel, and all of it fits. They are searched as they are copied. Also returns how many they are. Each caller has
-// a copy of its own by its number.
+// a copy of its own by its number, and one for short sources.
 #[inline(always)]
-pub(crate) fn decode_near<const CALL: usize>(
+pub(crate) fn decode_near<const CALL: usize, const SHORT: bool>(
     source: &[u8],
     dest: &mut [u8],
     sentinel: u8,
 ) -> (Result<usize, DecodeError>, usize)
     requires some { 0 < length source.now }
     requires few { length source.now ≤ 255 }
+    requires short { SHORT ≡ true → length source.now ≤ 65 }
     requires room { length source.now ≤ length dest.old + 1 }
     requires begins { slice_index source.now 0 ≢ sentinel }
     ensures end { result.1 ≡ length (stretch (masked sentinel source.now)) }
@@ -127,7 +128,7 @@ pub(crate) fn decode_near<const CALL: usize>(
     ensures dest { dest.new ≡ overwritten (part (stretch (masked sentinel source.now))) dest.old }
 {
     let code = sentinel ^ source[0];
-    let n = copy_frame_until::<CALL>(&source[1..], dest, 0, sentinel);
+    let n = copy_frame_until::<CALL, SHORT>(&source[1..], dest, 0, sentinel);
     let state = put_zeros(&mut dest[..n], code - 1);
     (answer_behind(state, n), n + 1)
 }

@@ -71,6 +71,21 @@ fn decode_long_in_place<const COPY: usize>(
     with_parsed(answer_behind(state, len), read)
 }
 
+// The same, by itself: its result goes through memory that is set to zero first, here and not on its caller's faster paths.
+#[inline(always)]
+fn decode_long_apart<const COPY: usize>(
+    buf: &mut [u8],
+    sentinel: u8,
+) -> Result<DecodeReport, DecodeError>
+    requires some { 0 < length buf.old }
+    requires begins { slice_index buf.old 0 ≢ sentinel }
+    requires bytes { (k : ℕ) → slice_index buf.old k < 256 }
+    ensures answer { result ≡ in_place (stretch (masked sentinel buf.old)) }
+    ensures buffer { buf.new ≡ overwritten (part (stretch (masked sentinel buf.old))) buf.old }
+{
+    apart(decode_long_in_place::<COPY>(buf, sentinel))
+}
+
 // Shows that a byte is below 256: of a buffer that is borrowed on nothing else says it.
 #[inline(always)]
 fn all_bytes(bytes: &[u8])
@@ -96,11 +111,11 @@ pub(crate) fn decode_by<const COPY: usize>(
     // A row of codes 01, which the first byte and the 64th show, is filled faster than it is put one by one.
     let one = sentinel ^ 1;
     if buf[0] == one && buf[63] == one {
-        return apart(decode_long_in_place::<COPY>(buf, sentinel));
+        return decode_long_apart::<COPY>(buf, sentinel);
     }
     let end = before_by_64(&buf[..buf.len().min(256)], sentinel);
     if end == 256 {
-        return apart(decode_long_in_place::<COPY>(buf, sentinel));
+        return decode_long_apart::<COPY>(buf, sentinel);
     }
     decode_short_in_place(buf, end, sentinel)
 }
@@ -217,7 +232,7 @@ fn decode_clear_report(frame: &mut [u8], sentinel: u8) -> Result<DecodeReport, D
     all_bytes(frame);
     let end = frame.len();
     if 255 < end {
-        return apart(decode_long_in_place::<1>(frame, sentinel));
+        return decode_long_apart::<1>(frame, sentinel);
     }
     decode_short_in_place(frame, end, sentinel)
 }

@@ -117,7 +117,7 @@ fn decode_part<const CALL: usize, const COPY: usize>(
         return None;
     }
     if is_short(bytes, sentinel) {
-        return Some(decode_near::<CALL>(bytes, dest, sentinel));
+        return Some(decode_near::<CALL, false>(bytes, dest, sentinel));
     }
     if begins_with_row(bytes, sentinel) {
         return None;
@@ -219,7 +219,7 @@ pub fn decode(source: &[u8], dest: &mut [u8]) -> Result<DecodeReport, DecodeErro
     ensures dest { dest.new ≡ overwritten (part (frame_in source.now)) dest.old }
 {
     if is_few(source, dest.len(), 0) {
-        let (answer, end) = decode_near::<0>(source, dest, 0);
+        let (answer, end) = decode_near::<0, true>(source, dest, 0);
         return with_parsed(answer, source.len().min(end + 1));
     }
     let looked_at = front(source, dest.len(), 0);
@@ -265,7 +265,7 @@ fn decode_before<const CALL: usize, const COPY: usize>(
     ensures dest { dest.new ≡ overwritten (part (stretch (masked sentinel source.now))) dest.old }
 {
     if is_few(source, dest.len(), sentinel) {
-        return decode_near::<CALL>(source, dest, sentinel).0;
+        return decode_near::<CALL, true>(source, dest, sentinel).0;
     }
     let looked_at = front(source, dest.len(), sentinel);
     match decode_part::<CALL, COPY>(source, looked_at, dest, sentinel) {

@@ -7,7 +7,7 @@ ghost use Rattle.cobs.specs.Sentinel.{masked};
 
 use super::state::DecoderState;
 use crate::codes::lowest;
-use crate::finding::before_few;
+use crate::finding::{before_few, before_near};
 use crate::moves::{are_all, copy_clear_some, copy_few, copy_if_clear, copy_over};
 
 // How many bytes are copied at once: what follows the code of a full block among them is of that block.
@@ -61,24 +61,21 @@ pub(crate) fn copy_until(bytes: &[u8], buffer: &mut [u8], place: usize, sentinel
     at + copy_few_until(&bytes[at..], buffer, place + at, sentinel)
 }
 
-// The same of a frame: at most 64 bytes are copied as they are searched if none is the sentinel. Each caller has a copy of
-// its own by its number.
+// The same of at most 64, which are copied as they are searched if none is the sentinel: for one frame, since it is longer.
 #[inline(always)]
-pub(crate) fn copy_frame_until<const CALL: usize>(
-    bytes: &[u8],
-    buffer: &mut [u8],
-    place: usize,
-    sentinel: u8,
-) -> usize
-    requires { place + length bytes.now ≤ length buffer.old }
+fn copy_short_until(bytes: &[u8], buffer: &mut [u8], place: usize, sentinel: u8) -> usize
+    requires few { length bytes.now ≤ 64 }
+    requires room { place + length bytes.now ≤ length buffer.old }
     ensures within { result ≤ length bytes.now }
     ensures none { (k : ℕ) → k < result → slice_index bytes.now k ≢ sentinel }
     ensures end { result < length bytes.now → slice_index bytes.now result ≡ sentinel }
     ensures buffer { buffer.new
         ≡ written_over place (take result (masked sentinel bytes.now)) buffer.old }
 {
-    if bytes.len() < 4 || 64 < bytes.len() {
-        return copy_until(bytes, buffer, place, sentinel);
+    if bytes.len() < 4 {
+        let n = before_near(bytes, sentinel);
+        copy_few(&bytes[..n], buffer, place, sentinel);
+        return n;
     }
     let marks = copy_clear_some(bytes, buffer, place, sentinel);
     if marks == 0 {
@@ -87,6 +84,28 @@ pub(crate) fn copy_frame_until<const CALL: usize>(
     let n = lowest(marks).0;
     copy_few(&bytes[..n], buffer, place, sentinel);
     n
+}
+
+// The same of a frame: of a short one all bytes are looked at together. Each caller has a copy of its own by its number.
+#[inline(always)]
+pub(crate) fn copy_frame_until<const CALL: usize, const SHORT: bool>(
+    bytes: &[u8],
+    buffer: &mut [u8],
+    place: usize,
+    sentinel: u8,
+) -> usize
+    requires few { SHORT ≡ true → length bytes.now ≤ 64 }
+    requires room { place + length bytes.now ≤ length buffer.old }
+    ensures within { result ≤ length bytes.now }
+    ensures none { (k : ℕ) → k < result → slice_index bytes.now k ≢ sentinel }
+    ensures end { result < length bytes.now → slice_index bytes.now result ≡ sentinel }
+    ensures buffer { buffer.new
+        ≡ written_over place (take result (masked sentinel bytes.now)) buffer.old }
+{
+    if SHORT {
+        return copy_short_until(bytes, buffer, place, sentinel);
+    }
+    copy_until(bytes, buffer, place, sentinel)
 }
 
 // How many bytes at the start are this one, in steps of 64.

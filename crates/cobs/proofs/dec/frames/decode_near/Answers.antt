@@ -125,8 +125,8 @@ put_zeros-state-requires-clause-short g c =
     let e = (goal.at.put_zeros-state-requires-clause-short g c).After-copy_frame_until-n in
     omega (arith, ap length (there g e), long g e, within g e, e.requires.few)
 
-pub copy_frame_until-n-requires : goal.copy_frame_until-n-requires
-copy_frame_until-n-requires g c =
+pub copy_frame_until-n-requires-clause-room : goal.copy_frame_until-n-requires-clause-room
+copy_frame_until-n-requires-clause-room g c =
     omega (arith, length-take (length c.args.source.now - 1) (drop 1 c.args.source.now), length-drop 1 c.args.source.now, c.requires.room)
 
 pub overflow_sub-code : goal.overflow_sub-code

@@ -40,22 +40,22 @@ returns-then-buf-le64-clause-buffer g c = c.decode_short_in_place.ensures.buffer
 pub returns-then-buf-le64-clause-bytes : goal.returns-then-buf-le64-clause-bytes
 returns-then-buf-le64-clause-bytes g c = c.all_bytes.ensures
 
-pub decode_long_in_place-requires-clause-begins : goal.decode_long_in_place-requires-clause-begins
-decode_long_in_place-requires-clause-begins g c = not_key c.args.sentinel _ (search rules)
+pub decode_long_apart-requires-clause-begins : goal.decode_long_apart-requires-clause-begins
+decode_long_apart-requires-clause-begins g c = not_key c.args.sentinel _ (search rules)
 
-pub decode_long_in_place-requires-clause-bytes : goal.decode_long_in_place-requires-clause-bytes
-decode_long_in_place-requires-clause-bytes g c = c.all_bytes.ensures
+pub decode_long_apart-requires-clause-bytes : goal.decode_long_apart-requires-clause-bytes
+decode_long_apart-requires-clause-bytes g c = c.all_bytes.ensures
 
-pub decode_long_in_place-requires-then-end-eq256-clause-begins : goal.decode_long_in_place-requires-then-end-eq256-clause-begins
-decode_long_in_place-requires-then-end-eq256-clause-begins g c =
+pub decode_long_apart-requires-then-end-eq256-clause-begins : goal.decode_long_apart-requires-then-end-eq256-clause-begins
+decode_long_apart-requires-then-end-eq256-clause-begins g c =
     none_in c.args.sentinel c.before_by_64-end.result c.min.result c.args.buf.now
     c.before_by_64-end.ensures.within c.before_by_64-end.ensures.none 0 (omega (arith, c.if-end-eq256.true))
 
-pub decode_long_in_place-requires-then-end-eq256-clause-bytes : goal.decode_long_in_place-requires-then-end-eq256-clause-bytes
-decode_long_in_place-requires-then-end-eq256-clause-bytes g c = c.all_bytes.ensures
+pub decode_long_apart-requires-then-end-eq256-clause-bytes : goal.decode_long_apart-requires-then-end-eq256-clause-bytes
+decode_long_apart-requires-then-end-eq256-clause-bytes g c = c.all_bytes.ensures
 
 pub returns-then-end-eq256-clause-answer : goal.returns-then-end-eq256-clause-answer
-returns-then-end-eq256-clause-answer g c = c.apart-then-end-eq256.ensures ∙ c.decode_long_in_place-then-end-eq256.ensures.answer
+returns-then-end-eq256-clause-answer g c = c.decode_long_apart-then-end-eq256.ensures.answer
 
 pub decode_short_in_place-requires-2-clause-clear : goal.decode_short_in_place-requires-2-clause-clear
 decode_short_in_place-requires-2-clause-clear g c =

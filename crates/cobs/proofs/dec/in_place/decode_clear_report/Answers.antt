@@ -1,4 +1,4 @@
-use Rattle.std.proofs.Common.{◌≢◌, ℕ, List, ◌<◌, length, get_or, arith, ◌∙◌}
+use Rattle.std.proofs.Common.{◌≢◌, ℕ, List, ◌<◌, length, get_or, arith}
 use Rattle.cobs.specs.Frames.{NoZero}
 use Rattle.cobs.specs.Sentinel.{masked}
 use Rattle.cobs.proofs.MaskingLemmas.{masked_length}
@@ -8,11 +8,11 @@ use Rattle.cobs.proofs.dec.in_place.decode_clear_report.Goals as goal
 none : (s : ℕ) (bytes : List ℕ) → NoZero (masked s bytes) → (k : ℕ) → k < length bytes → get_or bytes k 0 ≢ s
 none s bytes z k l = clear_byte s bytes k l (clear_at (masked s bytes) k z (omega (arith, l, masked_length s bytes)))
 
-pub decode_long_in_place-requires-clause-begins : goal.decode_long_in_place-requires-clause-begins
-decode_long_in_place-requires-clause-begins c = none c.args.sentinel c.args.frame.now c.requires 0 (omega (arith, c.if-end-gt255.true))
+pub decode_long_apart-requires-clause-begins : goal.decode_long_apart-requires-clause-begins
+decode_long_apart-requires-clause-begins c = none c.args.sentinel c.args.frame.now c.requires 0 (omega (arith, c.if-end-gt255.true))
 
 pub returns-then-end-gt255-clause-answer : goal.returns-then-end-gt255-clause-answer
-returns-then-end-gt255-clause-answer c = c.apart.ensures ∙ c.decode_long_in_place.ensures.answer
+returns-then-end-gt255-clause-answer c = c.decode_long_apart.ensures.answer
 
 pub decode_short_in_place-requires-clause-clear : goal.decode_short_in_place-requires-clause-clear
 decode_short_in_place-requires-clause-clear c = none c.args.sentinel c.args.frame.now c.requires
