@@ -7,7 +7,7 @@ use Rattle.cobs.specs.InPlace.{overwritten, written_over}
 use Rattle.cobs.specs.Pieces.{first_answer, frame_left, frame_met, buffer_left}
 use Rattle.cobs.specs.Reports.{parsed_size, frame_size, report}
 use Rattle.cobs.specs.Streaming.{HasStreamed, Decoded}
-use Rattle.cobs.specs.Whole.{decoded_into}
+use Rattle.cobs.specs.Whole.{frame_in, decoded_from, decoded_into}
 use Rattle.cobs.specs.declared.dec.report.DecodeError.{DecodeError}
 use Rattle.cobs.specs.declared.dec.report.DecodeError.TheVariants.{InvalidFrame}
 use Rattle.cobs.specs.declared.dec.state.DecoderState.{DecoderState}
@@ -87,6 +87,16 @@ pub record DecodesFront (old frame new : List ℕ) (answer : Result ℕ DecodeEr
   pub some : 0 < length frame
   pub room : length frame ≤ length old + 1
   pub buffer : new ≡ overwritten (part frame) old
+
+-- A frame was decoded into a buffer: the result, and the buffer (private contracts alone).
+pub record DecodesInto (old frame new : List ℕ) (told : Result ℕ DecodeError) : Type 0 where
+  pub answer : told ≡ decoded_into (length old) frame
+  pub dest : new ≡ overwritten (part frame) old
+
+-- The first frame of a source was decoded into a buffer: the result, and the buffer (private contracts alone).
+pub record DecodesSource (old source new : List ℕ) (told : Result DecodeReport DecodeError) : Type 0 where
+  pub answer : told ≡ decoded_from (length old) source
+  pub dest : new ≡ overwritten (part (frame_in source)) old
 
 -- How many bytes of the open block are left, and the state of a decoder after some of them (private contracts alone).
 abbrev pub left_in : DecoderState → ℕ

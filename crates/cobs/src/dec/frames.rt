@@ -4,8 +4,7 @@ ghost use Rattle.cobs.specs.Frames.{NoZero, part};
 ghost use Rattle.cobs.specs.InPlace.{stretch, overwritten};
 ghost use Rattle.cobs.specs.Sentinel.{masked};
 ghost use Rattle.cobs.specs.Streaming.{HasStreamed};
-ghost use Rattle.cobs.specs.Taking.{answer_behind, with_parsed};
-ghost use Rattle.cobs.specs.Whole.{decoded_into};
+ghost use Rattle.cobs.specs.Taking.{DecodesFront, DecodesInto, answer_behind, with_parsed};
 
 use super::progress::Progress;
 use super::report::{DecodeError, DecodeReport};
@@ -120,12 +119,8 @@ pub(crate) fn decode_near<const CALL: usize, const SHORT: bool>(
     requires short { SHORT ≡ true → length source.now ≤ 65 }
     requires room { length source.now ≤ length dest.old + 1 }
     requires begins { slice_index source.now 0 ≢ sentinel }
-    ensures end { result.1 ≡ length (stretch (masked sentinel source.now)) }
-    ensures some { 0 < result.1 }
-    ensures within { result.1 ≤ length source.now }
-    ensures answer { result.0
-        ≡ decoded_into (length dest.old) (stretch (masked sentinel source.now)) }
-    ensures dest { dest.new ≡ overwritten (part (stretch (masked sentinel source.now))) dest.old }
+    ensures { DecodesFront dest.old (stretch (masked sentinel source.now)) dest.new result.0
+        result.1 }
 {
     let code = sentinel ^ source[0];
     let n = copy_frame_until::<CALL, SHORT>(&source[1..], dest, 0, sentinel);
@@ -145,8 +140,7 @@ pub(crate) fn decode_short(
     requires few { length frame.now ≤ 255 }
     requires room { length frame.now ≤ length dest.old + 1 }
     requires clear { NoZero (masked sentinel frame.now) }
-    ensures answer { result ≡ decoded_into (length dest.old) (masked sentinel frame.now) }
-    ensures dest { dest.new ≡ overwritten (part (masked sentinel frame.now)) dest.old }
+    ensures { DecodesInto dest.old (masked sentinel frame.now) dest.new result }
 {
     let code = sentinel ^ frame[0];
     let bytes = &frame[1..];
@@ -176,8 +170,7 @@ pub(crate) fn decode_counted(
     sentinel: u8,
 ) -> Result<usize, DecodeError>
     requires { NoZero (masked sentinel frame.now) }
-    ensures answer { result ≡ decoded_into (length dest.old) (masked sentinel frame.now) }
-    ensures dest { dest.new ≡ overwritten (part (masked sentinel frame.now)) dest.old }
+    ensures { DecodesInto dest.old (masked sentinel frame.now) dest.new result }
 {
     let Progress { state, len } = take_frame(frame, dest, sentinel);
     if state.left() != 0 {

@@ -13,7 +13,7 @@ ghost use Rattle.cobs.specs.Frames.{Frame, NoZero, part};
 ghost use Rattle.cobs.specs.Reports.{frame_size};
 ghost use Rattle.cobs.specs.InPlace.{stretch, overwritten};
 ghost use Rattle.cobs.specs.Sentinel.{masked};
-ghost use Rattle.cobs.specs.Taking.{DecodesFront};
+ghost use Rattle.cobs.specs.Taking.{DecodesFront, DecodesInto, DecodesSource};
 ghost use Rattle.cobs.specs.Whole.{unpadded, frame_in, decoded_from, decoded_into};
 
 use super::frames::{
@@ -143,8 +143,7 @@ fn is_few(source: &[u8], room: usize, sentinel: u8) -> bool
 fn decode_pushed(source: &[u8], rest: &[u8], dest: &mut [u8]) -> Result<DecodeReport, DecodeError>
     requires rest { rest.now ≡ unpadded source.now }
     requires within { length rest.now ≤ length source.now }
-    ensures answer { result ≡ decoded_from (length dest.old) source.now }
-    ensures dest { dest.new ≡ overwritten (part (frame_in source.now)) dest.old }
+    ensures { DecodesSource dest.old source.now dest.new result }
 {
     let mut progress = Progress::new();
     match progress.push(dest, rest, 0) {
@@ -168,8 +167,7 @@ fn decode_pushed(source: &[u8], rest: &[u8], dest: &mut [u8]) -> Result<DecodeRe
 // long row of codes 01. Only bytes that are known to be in the frame are written.
 #[inline(never)]
 fn decode_slowly(source: &[u8], dest: &mut [u8]) -> Result<DecodeReport, DecodeError>
-    ensures answer { result ≡ decoded_from (length dest.old) source.now }
-    ensures dest { dest.new ≡ overwritten (part (frame_in source.now)) dest.old }
+    ensures { DecodesSource dest.old source.now dest.new result }
 {
     let rest = behind_zeros(source);
     if begins_with_row(rest, 0) {
@@ -187,8 +185,7 @@ fn decode_slowly(source: &[u8], dest: &mut [u8]) -> Result<DecodeReport, DecodeE
 // The same, by itself as `decode_many` is.
 #[inline(always)]
 fn decode_else(source: &[u8], dest: &mut [u8]) -> Result<DecodeReport, DecodeError>
-    ensures answer { result ≡ decoded_from (length dest.old) source.now }
-    ensures dest { dest.new ≡ overwritten (part (frame_in source.now)) dest.old }
+    ensures { DecodesSource dest.old source.now dest.new result }
 {
     apart(decode_slowly(source, dest))
 }
@@ -232,9 +229,7 @@ pub fn decode(source: &[u8], dest: &mut [u8]) -> Result<DecodeReport, DecodeErro
 // As `decode_with_sentinel`, of a source that doesn't fit: the end of the bytes to decode is searched first.
 #[inline(never)]
 fn decode_stretch(source: &[u8], dest: &mut [u8], sentinel: u8) -> Result<usize, DecodeError>
-    ensures answer { result
-        ≡ decoded_into (length dest.old) (stretch (masked sentinel source.now)) }
-    ensures dest { dest.new ≡ overwritten (part (stretch (masked sentinel source.now))) dest.old }
+    ensures { DecodesInto dest.old (stretch (masked sentinel source.now)) dest.new result }
 {
     let frame = before(source, sentinel);
     match decode_part::<4, 3>(source, frame.len(), dest, sentinel) {
@@ -246,9 +241,7 @@ fn decode_stretch(source: &[u8], dest: &mut [u8], sentinel: u8) -> Result<usize,
 // The same, by itself as `decode_many` is.
 #[inline(always)]
 fn decode_stretch_else(source: &[u8], dest: &mut [u8], sentinel: u8) -> Result<usize, DecodeError>
-    ensures answer { result
-        ≡ decoded_into (length dest.old) (stretch (masked sentinel source.now)) }
-    ensures dest { dest.new ≡ overwritten (part (stretch (masked sentinel source.now))) dest.old }
+    ensures { DecodesInto dest.old (stretch (masked sentinel source.now)) dest.new result }
 {
     apart(decode_stretch(source, dest, sentinel))
 }
@@ -260,9 +253,7 @@ fn decode_before<const CALL: usize, const COPY: usize>(
     dest: &mut [u8],
     sentinel: u8,
 ) -> Result<usize, DecodeError>
-    ensures answer { result
-        ≡ decoded_into (length dest.old) (stretch (masked sentinel source.now)) }
-    ensures dest { dest.new ≡ overwritten (part (stretch (masked sentinel source.now))) dest.old }
+    ensures { DecodesInto dest.old (stretch (masked sentinel source.now)) dest.new result }
 {
     if is_few(source, dest.len(), sentinel) {
         return decode_near::<CALL, true>(source, dest, sentinel).0;

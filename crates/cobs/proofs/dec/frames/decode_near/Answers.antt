@@ -132,17 +132,14 @@ copy_frame_until-n-requires-clause-room g c =
 pub overflow_sub-code : goal.overflow_sub-code
 overflow_sub-code g c = masked_positive c.args.sentinel (get_or c.args.source.now 0 0) c.requires.begins
 
-pub returns-clause-within : goal.returns-clause-within
-returns-clause-within g c = within g (goal.at.returns-clause-within g c).After-copy_frame_until-n
-
-pub returns-clause-answer : goal.returns-clause-answer
-returns-clause-answer g c =
-    c.answer_behind.ensures
-    ∙ answer g (goal.at.returns-clause-answer g c).After-copy_frame_until-n c.put_zeros-state.new.out c.put_zeros-state.result c.put_zeros-state.auto.out c.put_zeros-state.ensures.out c.put_zeros-state.ensures.state
-
-pub returns-clause-dest : goal.returns-clause-dest
-returns-clause-dest g c =
-    over g (goal.at.returns-clause-dest g c).After-copy_frame_until-n c.put_zeros-state.new.out c.put_zeros-state.result c.put_zeros-state.auto.out c.put_zeros-state.ensures.out c.put_zeros-state.ensures.state
-
-pub returns-clause-end : goal.returns-clause-end
-returns-clause-end g c = end_is g (goal.at.returns-clause-end g c).After-copy_frame_until-n
+pub returns : goal.returns
+returns g c =
+    let e = (goal.at.returns g c).After-copy_frame_until-n in
+    let z = c.put_zeros-state in
+    record {
+      answers = c.answer_behind.ensures ∙ answer g e z.new.out z.result z.auto.out z.ensures.out z.ensures.state;
+      end = end_is g e;
+      some = omega (arith, end_is g e);
+      room = omega (arith, end_is g e, within g e, c.requires.room);
+      buffer = over g e z.new.out z.result z.auto.out z.ensures.out z.ensures.state;
+    }

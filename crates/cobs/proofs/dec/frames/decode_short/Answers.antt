@@ -79,8 +79,8 @@ module _ (c : After-decode_at_once-state) where
   over : (new : List ℕ) → new ≡ c.decode_at_once-state.new.out ++ drop count c.args.dest.now → new ≡ overwritten (part (masked key c.args.frame.now)) c.args.dest.now
   over = window_over (masked key c.args.frame.now) (masked key rest) code first few some fits c.decode_at_once-state.new.out c.args.dest.now count c.decode_at_once-state.result long room out state
 
-pub returns-clause-answer : goal.returns-clause-answer
-returns-clause-answer c = c.answer_behind.ensures ∙ answer (goal.at.returns-clause-answer c).After-decode_at_once-state
-
-pub returns-clause-dest : goal.returns-clause-dest
-returns-clause-dest c = over (goal.at.returns-clause-dest c).After-decode_at_once-state _ refl
+pub returns : goal.returns
+returns c = record {
+  answer = c.answer_behind.ensures ∙ answer (goal.at.returns c).After-decode_at_once-state;
+  dest = over (goal.at.returns c).After-decode_at_once-state _ refl;
+}

@@ -12,19 +12,13 @@ use Rattle.cobs.proofs.dec.whole.decode.Goals.{After-with_parsed, After-with_par
 
 -- where few bytes had room
 module _ (c : After-with_parsed) where
-  front : DecodesFront c.args.dest.now (stretch (masked 0 c.args.source.now)) c.decode_near-answer.new.dest c.decode_near-answer.result.0 c.decode_near-answer.result.1
-  front =
-      let e = c.decode_near-answer.ensures in
-      let room = c.is_few.ensures.room c.if-is_few.true in
-      decodes_front c.args.dest.now c.decode_near-answer.new.dest (stretch (masked 0 c.args.source.now)) _ _ e.answer e.end e.some (omega (arith, e.within, room)) e.dest
-
   told_few : c.with_parsed.result ≡ decoded_from (length c.args.dest.now) c.args.source.now
   told_few =
       let source = c.args.source.now in
-      c.with_parsed.ensures ∙ told_fitting source source c.args.dest.now c.decode_near-answer.new.dest _ _ c.min.result (unpadded_begun source front.some) front (omega (arith, c.min.ensures))
+      c.with_parsed.ensures ∙ told_fitting source source c.args.dest.now c.decode_near-answer.new.dest _ _ c.min.result (unpadded_begun source c.decode_near-answer.ensures.some) c.decode_near-answer.ensures (omega (arith, c.min.ensures))
 
   over_few : c.decode_near-answer.new.dest ≡ overwritten (part (frame_in c.args.source.now)) c.args.dest.now
-  over_few = over_fitting c.args.source.now c.args.source.now c.args.dest.now c.decode_near-answer.new.dest _ _ (unpadded_begun c.args.source.now front.some) front
+  over_few = over_fitting c.args.source.now c.args.source.now c.args.dest.now c.decode_near-answer.new.dest _ _ (unpadded_begun c.args.source.now c.decode_near-answer.ensures.some) c.decode_near-answer.ensures
 
 -- where all of them had
 module _ (c : After-with_parsed-in-Some) where

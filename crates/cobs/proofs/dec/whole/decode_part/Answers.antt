@@ -8,12 +8,8 @@ use Rattle.cobs.proofs.dec.whole.decode_part.Goals as goal
 
 pub returns-then-is_short-clause-done : goal.returns-then-is_short-clause-done
 returns-then-is_short-clause-done g c =
-    let e = c.decode_near.ensures in
-    let n = c.args.looked_at in
     let r = c.decode_near.result in
-    subst (λ f. DecodesFront c.args.dest.now f c.decode_near.new.dest r.0 r.1) (stretch_reached c.args.sentinel n c.args.source.now c.requires.all)
-    (decodes_front c.args.dest.now c.decode_near.new.dest (stretch (masked c.args.sentinel (take n c.args.source.now))) r.0 r.1 e.answer e.end e.some
-    (omega (arith, e.within, c.has_room.ensures.room c.if-not-has_room.false)) e.dest)
+    subst (λ f. DecodesFront c.args.dest.now f c.decode_near.new.dest r.0 r.1) (stretch_reached c.args.sentinel c.args.looked_at c.args.source.now c.requires.all) c.decode_near.ensures
 
 pub returns-clause-done : goal.returns-clause-done
 returns-clause-done g c =

@@ -25,41 +25,41 @@ ended c =
     c.end.ensures.answer _ ((unmasked c.push.ensures).has [] c.new-progress.ensures)
     ∙ ap (λ n. at_zero n (frame_left (length c.args.dest.now) [] c.args.rest.now)) (unmasked c.push.ensures).room
 
-pub returns-in-Ok-None-end-clause-answer : goal.returns-in-Ok-None-end-clause-answer
-returns-in-Ok-None-end-clause-answer c =
-    let e = (goal.at.returns-in-Ok-None-end-clause-answer c).After-end in
-    then_empty c.args.source.now c.args.rest.now c.args.dest.now c.requires.rest (nothing e) (sym (ended e) ∙ c.in-Ok-None-end.is ∙ ap (λ o. Ok o) c.in-Ok-None-end.field-0-is)
+pub returns-in-Ok-None-end : goal.returns-in-Ok-None-end
+returns-in-Ok-None-end c = record {
+  answer =
+      let e = (goal.at.returns-in-Ok-None-end c).After-end in
+      then_empty c.args.source.now c.args.rest.now c.args.dest.now c.requires.rest (nothing e) (sym (ended e) ∙ c.in-Ok-None-end.is ∙ ap (λ o. Ok o) c.in-Ok-None-end.field-0-is);
+  dest = over (goal.at.returns-in-Ok-None-end c).After-push;
+}
 
-pub returns-in-Ok-None-end-clause-dest : goal.returns-in-Ok-None-end-clause-dest
-returns-in-Ok-None-end-clause-dest c = over (goal.at.returns-in-Ok-None-end-clause-dest c).After-push
+pub returns-in-Ok-Some-end : goal.returns-in-Ok-Some-end
+returns-in-Ok-Some-end c = record {
+  answer =
+      let e = (goal.at.returns-in-Ok-Some-end c).After-end in
+      then_whole c.args.source.now c.args.rest.now c.args.dest.now c.requires.rest (nothing e) c.in-Ok-Some-end.decoded (sym (ended e) ∙ c.in-Ok-Some-end.is ∙ ap (λ o. Ok o) c.in-Ok-Some-end.field-0-is) c.requires.within;
+  dest = over (goal.at.returns-in-Ok-Some-end c).After-push;
+}
 
-pub returns-in-Ok-Some-end-clause-answer : goal.returns-in-Ok-Some-end-clause-answer
-returns-in-Ok-Some-end-clause-answer c =
-    let e = (goal.at.returns-in-Ok-Some-end-clause-answer c).After-end in
-    then_whole c.args.source.now c.args.rest.now c.args.dest.now c.requires.rest (nothing e) c.in-Ok-Some-end.decoded (sym (ended e) ∙ c.in-Ok-Some-end.is ∙ ap (λ o. Ok o) c.in-Ok-Some-end.field-0-is) c.requires.within
+pub returns-in-Err-end : goal.returns-in-Err-end
+returns-in-Err-end c = record {
+  answer =
+      let e = (goal.at.returns-in-Err-end c).After-end in
+      then_refused c.args.source.now c.args.rest.now c.args.dest.now c.requires.rest (nothing e) c.in-Err-end.error (sym (ended e) ∙ c.in-Err-end.is);
+  dest = over (goal.at.returns-in-Err-end c).After-push;
+}
 
-pub returns-in-Ok-Some-end-clause-dest : goal.returns-in-Ok-Some-end-clause-dest
-returns-in-Ok-Some-end-clause-dest c = over (goal.at.returns-in-Ok-Some-end-clause-dest c).After-push
+pub returns-in-Ok-Some : goal.returns-in-Ok-Some
+returns-in-Ok-Some c = record {
+  answer =
+      let whole : c.push.result ≡ Ok (Some c.in-Ok-Some.report) = c.in-Ok-Some.is ∙ ap (λ o. Ok o) c.in-Ok-Some.field-0-is in
+      let within = rw whole at (unmasked c.push.ensures).within in
+      pushed_whole c.args.source.now c.args.rest.now c.args.dest.now c.requires.rest c.in-Ok-Some.report (sym (answered (goal.at.returns-in-Ok-Some c).After-push) ∙ whole) within.0 c.requires.within;
+  dest = over (goal.at.returns-in-Ok-Some c).After-push;
+}
 
-pub returns-in-Err-end-clause-answer : goal.returns-in-Err-end-clause-answer
-returns-in-Err-end-clause-answer c =
-    let e = (goal.at.returns-in-Err-end-clause-answer c).After-end in
-    then_refused c.args.source.now c.args.rest.now c.args.dest.now c.requires.rest (nothing e) c.in-Err-end.error (sym (ended e) ∙ c.in-Err-end.is)
-
-pub returns-in-Err-end-clause-dest : goal.returns-in-Err-end-clause-dest
-returns-in-Err-end-clause-dest c = over (goal.at.returns-in-Err-end-clause-dest c).After-push
-
-pub returns-in-Ok-Some-clause-answer : goal.returns-in-Ok-Some-clause-answer
-returns-in-Ok-Some-clause-answer c =
-    let whole : c.push.result ≡ Ok (Some c.in-Ok-Some.report) = c.in-Ok-Some.is ∙ ap (λ o. Ok o) c.in-Ok-Some.field-0-is in
-    let within = rw whole at (unmasked c.push.ensures).within in
-    pushed_whole c.args.source.now c.args.rest.now c.args.dest.now c.requires.rest c.in-Ok-Some.report (sym (answered (goal.at.returns-in-Ok-Some-clause-answer c).After-push) ∙ whole) within.0 c.requires.within
-
-pub returns-in-Ok-Some-clause-dest : goal.returns-in-Ok-Some-clause-dest
-returns-in-Ok-Some-clause-dest c = over (goal.at.returns-in-Ok-Some-clause-dest c).After-push
-
-pub returns-in-Err-clause-answer : goal.returns-in-Err-clause-answer
-returns-in-Err-clause-answer c = pushed_refused c.args.source.now c.args.rest.now c.args.dest.now c.requires.rest c.in-Err.error (sym (answered (goal.at.returns-in-Err-clause-answer c).After-push) ∙ c.in-Err.is)
-
-pub returns-in-Err-clause-dest : goal.returns-in-Err-clause-dest
-returns-in-Err-clause-dest c = over (goal.at.returns-in-Err-clause-dest c).After-push
+pub returns-in-Err : goal.returns-in-Err
+returns-in-Err c = record {
+  answer = pushed_refused c.args.source.now c.args.rest.now c.args.dest.now c.requires.rest c.in-Err.error (sym (answered (goal.at.returns-in-Err c).After-push) ∙ c.in-Err.is);
+  dest = over (goal.at.returns-in-Err c).After-push;
+}

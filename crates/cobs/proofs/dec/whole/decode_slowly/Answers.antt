@@ -5,26 +5,26 @@ use Rattle.cobs.specs.Whole.{frame_in, decoded_from}
 use Rattle.cobs.proofs.PushingLemmas.{told_fitting, over_fitting}
 use Rattle.cobs.proofs.dec.whole.decode_slowly.Goals as goal
 
-pub returns-in-Some-clause-answer : goal.returns-in-Some-clause-answer
-returns-in-Some-clause-answer c =
-    c.with_parsed.ensures
-    ∙ told_fitting c.args.source.now c.behind_zeros-rest.result.now c.args.dest.now c.decode_part.new.dest c.in-Some.answer c.in-Some.end c.min-parsed.result c.behind_zeros-rest.ensures.value c.in-Some.ensures.done c.min-parsed.ensures
+pub returns-in-Some : goal.returns-in-Some
+returns-in-Some c = record {
+  answer =
+      c.with_parsed.ensures
+      ∙ told_fitting c.args.source.now c.behind_zeros-rest.result.now c.args.dest.now c.decode_part.new.dest c.in-Some.answer c.in-Some.end c.min-parsed.result c.behind_zeros-rest.ensures.value c.in-Some.ensures.done c.min-parsed.ensures;
+  dest =
+      over_fitting c.args.source.now c.behind_zeros-rest.result.now c.args.dest.now c.decode_part.new.dest c.in-Some.answer c.in-Some.end c.behind_zeros-rest.ensures.value c.in-Some.ensures.done;
+}
 
-pub returns-in-Some-clause-dest : goal.returns-in-Some-clause-dest
-returns-in-Some-clause-dest c =
-    over_fitting c.args.source.now c.behind_zeros-rest.result.now c.args.dest.now c.decode_part.new.dest c.in-Some.answer c.in-Some.end c.behind_zeros-rest.ensures.value c.in-Some.ensures.done
+pub returns-in-None : goal.returns-in-None
+returns-in-None c = record {
+  answer = c.decode_pushed-in-None.ensures.answer ∙ ap (λ d. decoded_from (length d) c.args.source.now) (c.in-None.ensures.same refl);
+  dest = c.decode_pushed-in-None.ensures.dest ∙ ap (overwritten (part (frame_in c.args.source.now))) (c.in-None.ensures.same refl);
+}
 
-pub returns-in-None-clause-answer : goal.returns-in-None-clause-answer
-returns-in-None-clause-answer c = c.decode_pushed-in-None.ensures.answer ∙ ap (λ d. decoded_from (length d) c.args.source.now) (c.in-None.ensures.same refl)
-
-pub returns-in-None-clause-dest : goal.returns-in-None-clause-dest
-returns-in-None-clause-dest c = c.decode_pushed-in-None.ensures.dest ∙ ap (overwritten (part (frame_in c.args.source.now))) (c.in-None.ensures.same refl)
-
-pub returns-then-begins_with_row-clause-answer : goal.returns-then-begins_with_row-clause-answer
-returns-then-begins_with_row-clause-answer c = c.decode_pushed.ensures.answer
-
-pub returns-then-begins_with_row-clause-dest : goal.returns-then-begins_with_row-clause-dest
-returns-then-begins_with_row-clause-dest c = c.decode_pushed.ensures.dest
+pub returns-then-begins_with_row : goal.returns-then-begins_with_row
+returns-then-begins_with_row c = record {
+  answer = c.decode_pushed.ensures.answer;
+  dest = c.decode_pushed.ensures.dest;
+}
 
 pub decode_pushed-requires-clause-rest : goal.decode_pushed-requires-clause-rest
 decode_pushed-requires-clause-rest c = c.behind_zeros-rest.ensures.value

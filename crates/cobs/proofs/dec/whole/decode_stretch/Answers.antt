@@ -7,23 +7,23 @@ use Rattle.cobs.proofs.MaskingLemmas.{masked_length}
 use Rattle.cobs.proofs.SourcesLemmas.{reach_all, stretch_clear}
 use Rattle.cobs.proofs.dec.whole.decode_stretch.Goals as goal
 
-pub returns-in-Some-clause-answer : goal.returns-in-Some-clause-answer
-returns-in-Some-clause-answer c = c.in-Some.ensures.done.answers
+pub returns-in-Some : goal.returns-in-Some
+returns-in-Some c = record {
+  answer = c.in-Some.ensures.done.answers;
+  dest = c.in-Some.ensures.done.buffer;
+}
 
-pub returns-in-Some-clause-dest : goal.returns-in-Some-clause-dest
-returns-in-Some-clause-dest c = c.in-Some.ensures.done.buffer
-
-pub returns-in-None-clause-answer : goal.returns-in-None-clause-answer
-returns-in-None-clause-answer c =
-    c.decode_counted.ensures.answer
-    ∙ ap (λ d. decoded_into (length d) (masked c.args.sentinel c.before-frame.result.now)) (c.in-None.ensures.same refl)
-    ∙ ap (decoded_into (length c.args.dest.now)) c.before-frame.ensures
-
-pub returns-in-None-clause-dest : goal.returns-in-None-clause-dest
-returns-in-None-clause-dest c =
-    c.decode_counted.ensures.dest
-    ∙ ap (overwritten (part (masked c.args.sentinel c.before-frame.result.now))) (c.in-None.ensures.same refl)
-    ∙ ap (λ f. overwritten (part f) c.args.dest.now) c.before-frame.ensures
+pub returns-in-None : goal.returns-in-None
+returns-in-None c = record {
+  answer =
+      c.decode_counted.ensures.answer
+      ∙ ap (λ d. decoded_into (length d) (masked c.args.sentinel c.before-frame.result.now)) (c.in-None.ensures.same refl)
+      ∙ ap (decoded_into (length c.args.dest.now)) c.before-frame.ensures;
+  dest =
+      c.decode_counted.ensures.dest
+      ∙ ap (overwritten (part (masked c.args.sentinel c.before-frame.result.now))) (c.in-None.ensures.same refl)
+      ∙ ap (λ f. overwritten (part f) c.args.dest.now) c.before-frame.ensures;
+}
 
 pub decode_counted-requires : goal.decode_counted-requires
 decode_counted-requires c = subst NoZero (sym c.before-frame.ensures) (stretch_clear (masked c.args.sentinel c.args.source.now))

@@ -1,5 +1,5 @@
 use Rattle.std.proofs.Common.{◌∙◌}
 use Rattle.cobs.proofs.dec.whole.decode_stretch_else.Goals as goal
 
-pub returns-clause-answer : goal.returns-clause-answer
-returns-clause-answer c = c.apart.ensures ∙ c.decode_stretch.ensures.answer
+pub returns : goal.returns
+returns c = record { answer = c.apart.ensures ∙ c.decode_stretch.ensures.answer; dest = c.decode_stretch.ensures.dest }
