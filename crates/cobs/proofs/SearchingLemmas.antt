@@ -1,5 +1,5 @@
 -- Where a sentinel is sought part by part.
-use Rattle.std.proofs.Common.{◌≢◌, ◌+◌, ◌-◌, ◌<◌, ◌≤◌, ℕ, List, take, drop, get_or, ap, ◌∙◌, inl, inr, arith}
+use Rattle.std.proofs.Common.{◌≡◌, ◌≢◌, ◌+◌, ◌-◌, ◌<◌, ◌≤◌, ℕ, List, take, drop, get_or, length, length-take, length-drop, ap, sym, ◌∙◌, inl, inr, arith}
 use Rattle.std.proofs.lemmas.Bool.{cases_lt}
 use Rattle.std.proofs.lemmas.List.{get_or-take, get_or-drop}
 
@@ -9,3 +9,9 @@ none_on s at n m bytes before few part k q e = elim (cases_lt k at) [
   | inl a ↦ before k (omega (arith, a)) e
   | inr a ↦ part (k - at) (omega (arith, a, q)) (get_or-take m (drop at bytes) (k - at) 0 (omega (arith, a, q, few)) ∙ get_or-drop at bytes (k - at) 0 ∙ ap (λ j. get_or bytes j 0) (omega (arith, a)) ∙ e)
 ]
+
+-- the sentinel that a part ends at
+pub end_on : (s at n m : ℕ) (bytes : List ℕ) → n < length bytes - at → n < m → (n < length (take m (drop at bytes)) → get_or (take m (drop at bytes)) n 0 ≡ s) → get_or bytes (at + n) 0 ≡ s
+end_on s at n m bytes l few end =
+    sym (get_or-drop at bytes n 0) ∙ sym (get_or-take m (drop at bytes) n 0 few)
+    ∙ end (omega (arith, l, few, length-take m (drop at bytes), length-drop at bytes))

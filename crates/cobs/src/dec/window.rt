@@ -3,7 +3,7 @@ ghost use Rattle.std.specs.Prelude.{◌≡◌, ◌≢◌, ℕ, ◌+◌, ◌<◌,
 ghost use Rattle.cobs.specs.Frames.{part_from, after};
 ghost use Rattle.cobs.specs.Feeding.{stands_by};
 ghost use Rattle.cobs.specs.InPlace.{written_over};
-ghost use Rattle.cobs.specs.Sentinel.{masked};
+ghost use Rattle.cobs.specs.Sentinel.{masked, StopsAt};
 
 use super::state::DecoderState;
 use crate::codes::lowest;
@@ -25,9 +25,7 @@ pub(crate) const FEW: usize = 4;
 fn copy_few_until(bytes: &[u8], buffer: &mut [u8], place: usize, sentinel: u8) -> usize
     requires few { length bytes.now ≤ 64 }
     requires room { place + length bytes.now ≤ length buffer.old }
-    ensures within { result ≤ length bytes.now }
-    ensures none { (k : ℕ) → k < result → slice_index bytes.now k ≢ sentinel }
-    ensures end { result < length bytes.now → slice_index bytes.now result ≡ sentinel }
+    ensures stops { StopsAt sentinel bytes.now result }
     ensures buffer { buffer.new
         ≡ written_over place (take result (masked sentinel bytes.now)) buffer.old }
 {
@@ -40,9 +38,7 @@ fn copy_few_until(bytes: &[u8], buffer: &mut [u8], place: usize, sentinel: u8) -
 #[inline(always)]
 pub(crate) fn copy_until(bytes: &[u8], buffer: &mut [u8], place: usize, sentinel: u8) -> usize
     requires { place + length bytes.now ≤ length buffer.old }
-    ensures within { result ≤ length bytes.now }
-    ensures none { (k : ℕ) → k < result → slice_index bytes.now k ≢ sentinel }
-    ensures end { result < length bytes.now → slice_index bytes.now result ≡ sentinel }
+    ensures stops { StopsAt sentinel bytes.now result }
     ensures buffer { buffer.new
         ≡ written_over place (take result (masked sentinel bytes.now)) buffer.old }
 {
@@ -66,9 +62,7 @@ pub(crate) fn copy_until(bytes: &[u8], buffer: &mut [u8], place: usize, sentinel
 fn copy_short_until(bytes: &[u8], buffer: &mut [u8], place: usize, sentinel: u8) -> usize
     requires few { length bytes.now ≤ 64 }
     requires room { place + length bytes.now ≤ length buffer.old }
-    ensures within { result ≤ length bytes.now }
-    ensures none { (k : ℕ) → k < result → slice_index bytes.now k ≢ sentinel }
-    ensures end { result < length bytes.now → slice_index bytes.now result ≡ sentinel }
+    ensures stops { StopsAt sentinel bytes.now result }
     ensures buffer { buffer.new
         ≡ written_over place (take result (masked sentinel bytes.now)) buffer.old }
 {
@@ -96,9 +90,7 @@ pub(crate) fn copy_frame_until<const CALL: usize, const SHORT: bool>(
 ) -> usize
     requires few { SHORT ≡ true → length bytes.now ≤ 64 }
     requires room { place + length bytes.now ≤ length buffer.old }
-    ensures within { result ≤ length bytes.now }
-    ensures none { (k : ℕ) → k < result → slice_index bytes.now k ≢ sentinel }
-    ensures end { result < length bytes.now → slice_index bytes.now result ≡ sentinel }
+    ensures stops { StopsAt sentinel bytes.now result }
     ensures buffer { buffer.new
         ≡ written_over place (take result (masked sentinel bytes.now)) buffer.old }
 {

@@ -1,6 +1,6 @@
 use Rattle.std.proofs.lemmas.Grind.{common_steps}
 use Rattle.std.proofs.Common.{◌+◌, ◌-◌, ◌≤◌, length, take, drop, length-take, length-drop, arith}
-use Rattle.cobs.proofs.SearchingLemmas.{none_on}
+use Rattle.cobs.proofs.SearchingLemmas.{none_on, end_on}
 use Rattle.cobs.proofs.SourcesLemmas.{clear_byte}
 use Rattle.cobs.proofs.finding.before_by_255.Goals as goal
 
@@ -21,12 +21,13 @@ loop-at-preserved c =
           (λ j q. clear_byte c.args.sentinel piece j (omega (arith, q, long)) (c.is_clear_255.ensures c.if-is_clear_255.true j q)) k l;
     }
 
-pub returns-clause-none : goal.returns-clause-none
-returns-clause-none c = λ k l.
+pub returns : goal.returns
+returns c =
     let at = c.loop-at.at in
     let bytes = c.args.bytes.now in
     let few : c.before_by_64.result ≤ length bytes - at = omega (arith, c.before_by_64.ensures.within, length-take (length bytes - at) (drop at bytes)) in
-    none_on c.args.sentinel at c.before_by_64.result (length bytes - at) bytes c.loop-at.invariant.none few c.before_by_64.ensures.none k l
-
-pub returns-clause-end : goal.returns-clause-end
-returns-clause-end c = grind (arith, common_steps)
+    record {
+      within = omega (arith, few, c.loop-at.invariant.within);
+      none = none_on c.args.sentinel at c.before_by_64.result (length bytes - at) bytes c.loop-at.invariant.none few c.before_by_64.ensures.none;
+      end = λ l. end_on c.args.sentinel at c.before_by_64.result (length bytes - at) bytes (omega (arith, l)) (omega (arith, l)) c.before_by_64.ensures.end;
+    }

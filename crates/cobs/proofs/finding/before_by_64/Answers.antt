@@ -1,6 +1,6 @@
 use Rattle.std.proofs.lemmas.Grind.{common_steps}
 use Rattle.std.proofs.Common.{◌+◌, ◌-◌, ◌≤◌, length, take, drop, length-take, length-drop, arith}
-use Rattle.cobs.proofs.SearchingLemmas.{none_on}
+use Rattle.cobs.proofs.SearchingLemmas.{none_on, end_on}
 use Rattle.cobs.proofs.SourcesLemmas.{clear_byte}
 use Rattle.cobs.proofs.finding.before_by_64.Goals as goal
 
@@ -27,23 +27,26 @@ loop-at-preserved c =
       none = λ k l. none_on c.args.sentinel at 64 (at + 64 - at) bytes c.loop-at.invariant.none (omega arith) (λ j q. c.before_few-n.ensures.none j (omega (arith, q, c.if-n-lt64.false))) k l;
     }
 
-pub returns-then-n-lt64-clause-none : goal.returns-then-n-lt64-clause-none
-returns-then-n-lt64-clause-none c = λ k l.
+pub returns-then-n-lt64 : goal.returns-then-n-lt64
+returns-then-n-lt64 c =
     let at = c.loop-at.at in
-    none_on c.args.sentinel at c.before_few-n.result (at + 64 - at) c.args.bytes.now c.loop-at.invariant.none (omega (arith, c.if-n-lt64.true)) c.before_few-n.ensures.none k l
+    let bytes = c.args.bytes.now in
+    record {
+      within = omega (arith, c.loop-at-test.true, c.loop-at.invariant.within, c.if-n-lt64.true);
+      none = none_on c.args.sentinel at c.before_few-n.result (at + 64 - at) bytes c.loop-at.invariant.none (omega (arith, c.if-n-lt64.true)) c.before_few-n.ensures.none;
+      end = λ _. end_on c.args.sentinel at c.before_few-n.result (at + 64 - at) bytes (omega (arith, c.if-n-lt64.true, c.loop-at-test.true)) (omega (arith, c.if-n-lt64.true)) c.before_few-n.ensures.end;
+    }
 
-pub returns-clause-none : goal.returns-clause-none
-returns-clause-none c = λ k l.
+pub returns : goal.returns
+returns c =
     let at = c.loop-at.at in
     let bytes = c.args.bytes.now in
     let few : c.before_few.result ≤ length bytes - at = omega (arith, c.before_few.ensures.within, length-take (length bytes - at) (drop at bytes)) in
-    none_on c.args.sentinel at c.before_few.result (length bytes - at) bytes c.loop-at.invariant.none few c.before_few.ensures.none k l
-
-pub returns-then-n-lt64-clause-end : goal.returns-then-n-lt64-clause-end
-returns-then-n-lt64-clause-end c = grind (arith, common_steps)
-
-pub returns-clause-end : goal.returns-clause-end
-returns-clause-end c = grind (arith, common_steps)
+    record {
+      within = omega (arith, few, c.loop-at.invariant.within);
+      none = none_on c.args.sentinel at c.before_few.result (length bytes - at) bytes c.loop-at.invariant.none few c.before_few.ensures.none;
+      end = λ l. end_on c.args.sentinel at c.before_few.result (length bytes - at) bytes (omega (arith, l)) (omega (arith, l)) c.before_few.ensures.end;
+    }
 
 pub loop-at-init : goal.loop-at-init
 loop-at-init c = record { within = omega arith; none = λ k l. absurd (omega (arith, l)) }

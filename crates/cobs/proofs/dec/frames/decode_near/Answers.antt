@@ -51,7 +51,7 @@ module _ (g : _) (c : After-copy_frame_until-n g) where
   all = take_all (length source - 1) (drop 1 source) (omega (arith, length-drop 1 source))
 
   within : n + 1 ≤ length source
-  within = omega (arith, c.copy_frame_until-n.ensures.within, ap length all, length-drop 1 source, c.requires.some)
+  within = omega (arith, c.copy_frame_until-n.ensures.stops.within, ap length all, length-drop 1 source, c.requires.some)
 
   room : n ≤ length old
   room = omega (arith, within, c.requires.room)
@@ -60,10 +60,10 @@ module _ (g : _) (c : After-copy_frame_until-n g) where
   byte_at k = ap (λ b. get_or b k 0) all ∙ get_or-drop 1 source k 0
 
   none : (k : ℕ) → k < n + 1 → get_or source k 0 ≢ key
-  none = none_with key n source c.requires.begins (λ k l e. c.copy_frame_until-n.ensures.none k l (byte_at k ∙ e))
+  none = none_with key n source c.requires.begins (λ k l e. c.copy_frame_until-n.ensures.stops.none k l (byte_at k ∙ e))
 
   ends : n + 1 < length source → get_or source (n + 1) 0 ≡ key
-  ends l = ap (λ j. get_or source j 0) (omega arith) ∙ sym (byte_at n) ∙ c.copy_frame_until-n.ensures.end (omega (arith, l, ap length all, length-drop 1 source))
+  ends l = ap (λ j. get_or source j 0) (omega arith) ∙ sym (byte_at n) ∙ c.copy_frame_until-n.ensures.stops.end (omega (arith, l, ap length all, length-drop 1 source))
 
   first : stretch (masked key source) ≡ code ∷ bytes
   first = sym (stretch_front key source (n + 1) within none ends) ∙ first_of key n source c.requires.some

@@ -11,14 +11,15 @@ use Rattle.cobs.proofs.dec.window.copy_short_until.Goals as goal
 pub returns-then-bytes-lt4-clause-buffer : goal.returns-then-bytes-lt4-clause-buffer
 returns-then-bytes-lt4-clause-buffer c = c.copy_few.ensures ∙ ap (λ b. written_over c.args.place b c.args.buffer.now) (sym (masked_take c.args.sentinel c.before_near-n.result c.args.bytes.now))
 
-pub returns-then-bytes-lt4-clause-none : goal.returns-then-bytes-lt4-clause-none
-returns-then-bytes-lt4-clause-none c = c.before_near-n.ensures.none
+pub returns-then-bytes-lt4-clause-stops : goal.returns-then-bytes-lt4-clause-stops
+returns-then-bytes-lt4-clause-stops c = c.before_near-n.ensures
 
-pub returns-then-bytes-lt4-clause-end : goal.returns-then-bytes-lt4-clause-end
-returns-then-bytes-lt4-clause-end c = c.before_near-n.ensures.end
-
-pub returns-then-marks-eq0-clause-none : goal.returns-then-marks-eq0-clause-none
-returns-then-marks-eq0-clause-none c = λ k l. unmarked_byte c.args.sentinel _ c.args.bytes.now c.copy_clear_some-marks.ensures.marks k l (ap (λ b. bit_at b k) c.if-marks-eq0.true ∙ bit_at-zero k)
+pub returns-then-marks-eq0-clause-stops : goal.returns-then-marks-eq0-clause-stops
+returns-then-marks-eq0-clause-stops c = record {
+  within = omega arith;
+  none = λ k l. unmarked_byte c.args.sentinel _ c.args.bytes.now c.copy_clear_some-marks.ensures.marks k l (ap (λ b. bit_at b k) c.if-marks-eq0.true ∙ bit_at-zero k);
+  end = λ l. absurd (omega (arith, l));
+}
 
 pub returns-then-marks-eq0-clause-buffer : goal.returns-then-marks-eq0-clause-buffer
 returns-then-marks-eq0-clause-buffer c =
@@ -26,16 +27,15 @@ returns-then-marks-eq0-clause-buffer c =
     c.copy_clear_some-marks.ensures.copied c.if-marks-eq0.true
     ∙ ap (λ b. written_over c.args.place b c.args.buffer.now) (sym (take_all (length c.args.bytes.now) bytes (omega (arith, masked_length c.args.sentinel c.args.bytes.now))))
 
-pub returns-clause-within : goal.returns-clause-within
-returns-clause-within c = omega (arith, (marked_byte c.args.sentinel _ c.args.bytes.now c.copy_clear_some-marks.ensures.marks c.lowest-n.result.0 c.lowest-n.ensures.set).0)
-
-pub returns-clause-none : goal.returns-clause-none
-returns-clause-none c = λ k l.
-    let inside = (marked_byte c.args.sentinel _ c.args.bytes.now c.copy_clear_some-marks.ensures.marks c.lowest-n.result.0 c.lowest-n.ensures.set).0 in
-    unmarked_byte c.args.sentinel _ c.args.bytes.now c.copy_clear_some-marks.ensures.marks k (omega (arith, l, inside)) (c.lowest-n.ensures.below k l)
-
-pub returns-clause-end : goal.returns-clause-end
-returns-clause-end c = λ _. (marked_byte c.args.sentinel _ c.args.bytes.now c.copy_clear_some-marks.ensures.marks c.lowest-n.result.0 c.lowest-n.ensures.set).1
+pub returns-clause-stops : goal.returns-clause-stops
+returns-clause-stops c =
+    let marks = c.copy_clear_some-marks.ensures.marks in
+    let first = marked_byte c.args.sentinel _ c.args.bytes.now marks c.lowest-n.result.0 c.lowest-n.ensures.set in
+    record {
+      within = omega (arith, first.0);
+      none = λ k l. unmarked_byte c.args.sentinel _ c.args.bytes.now marks k (omega (arith, l, first.0)) (c.lowest-n.ensures.below k l);
+      end = λ _. first.1;
+    }
 
 pub returns-clause-buffer : goal.returns-clause-buffer
 returns-clause-buffer c =

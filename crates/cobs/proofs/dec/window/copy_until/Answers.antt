@@ -4,7 +4,7 @@ use Rattle.std.proofs.lemmas.List.{take-take, take-append-drop, take_all}
 use Rattle.cobs.specs.InPlace.{written_over}
 use Rattle.cobs.specs.Sentinel.{masked}
 use Rattle.cobs.proofs.MaskingLemmas.{masked_take, masked_length}
-use Rattle.cobs.proofs.SearchingLemmas.{none_on}
+use Rattle.cobs.proofs.SearchingLemmas.{none_on, end_on}
 use Rattle.cobs.proofs.SourcesLemmas.{clear_byte}
 use Rattle.cobs.proofs.WrittenLemmas.{written_next}
 use Rattle.cobs.proofs.dec.window.copy_until.Goals as goal
@@ -55,22 +55,14 @@ loop-at-preserved c =
     let m : ℕ = at + 64 - at in
     let n = c.copy_few_until-n.result in
     let long : length (take m (drop at bytes)) ≤ 64 = omega (arith, length-take m (drop at bytes)) in
-    let all : n ≡ 64 = omega (arith, c.if-n-lt64.false, c.copy_few_until-n.ensures.within, long) in
+    let all : n ≡ 64 = omega (arith, c.if-n-lt64.false, c.copy_few_until-n.ensures.stops.within, long) in
     record {
       within = omega (arith, c.loop-at-test.true, c.loop-at.invariant.within);
-      none = λ k l. none_on s at n m bytes c.loop-at.invariant.none (omega (arith, all)) c.copy_few_until-n.ensures.none k (omega (arith, l, all));
+      none = λ k l. none_on s at n m bytes c.loop-at.invariant.none (omega (arith, all)) c.copy_few_until-n.ensures.stops.none k (omega (arith, l, all));
       written =
           part_written s c.args.place at m n bytes c.args.buffer.now c.loop-at.buffer c.copy_if_clear.new.buffer c.copy_few_until-n.new.buffer c.loop-at.invariant.written (c.copy_if_clear.ensures.same c.if-copy_if_clear.false) (omega (arith, all)) (omega (arith, all, c.loop-at-test.true, c.loop-at.invariant.within)) c.requires c.copy_few_until-n.ensures.buffer
           ∙ ap (λ j. written_over c.args.place (masked s (take (at + j) bytes)) c.args.buffer.now) all;
     }
-
-pub returns-then-n-lt64-clause-none : goal.returns-then-n-lt64-clause-none
-returns-then-n-lt64-clause-none c = λ k l.
-    let at = c.loop-at.at in
-    none_on c.args.sentinel at c.copy_few_until-n.result (at + 64 - at) c.args.bytes.now c.loop-at.invariant.none (omega (arith, c.if-n-lt64.true)) c.copy_few_until-n.ensures.none k l
-
-pub returns-then-n-lt64-clause-end : goal.returns-then-n-lt64-clause-end
-returns-then-n-lt64-clause-end c = grind (arith, common_steps)
 
 pub returns-then-n-lt64-clause-buffer : goal.returns-then-n-lt64-clause-buffer
 returns-then-n-lt64-clause-buffer c =
@@ -80,22 +72,12 @@ returns-then-n-lt64-clause-buffer c =
     part_written s c.args.place at (at + 64 - at) n c.args.bytes.now c.args.buffer.now c.loop-at.buffer c.copy_if_clear.new.buffer c.copy_few_until-n.new.buffer c.loop-at.invariant.written (c.copy_if_clear.ensures.same c.if-copy_if_clear.false) (omega (arith, c.if-n-lt64.true)) (omega (arith, c.if-n-lt64.true, c.loop-at-test.true, c.loop-at.invariant.within)) c.requires c.copy_few_until-n.ensures.buffer
     ∙ ap (λ b. written_over c.args.place b c.args.buffer.now) (sym (masked_take s (at + n) c.args.bytes.now))
 
-pub returns-clause-none : goal.returns-clause-none
-returns-clause-none c = λ k l.
-    let at = c.loop-at.at in
-    let bytes = c.args.bytes.now in
-    let few : c.copy_few_until.result ≤ length bytes - at = omega (arith, c.copy_few_until.ensures.within, length-take (length bytes - at) (drop at bytes)) in
-    none_on c.args.sentinel at c.copy_few_until.result (length bytes - at) bytes c.loop-at.invariant.none few c.copy_few_until.ensures.none k l
-
-pub returns-clause-end : goal.returns-clause-end
-returns-clause-end c = grind (arith, common_steps)
-
 pub returns-clause-buffer : goal.returns-clause-buffer
 returns-clause-buffer c =
     let at = c.loop-at.at in
     let bytes = c.args.bytes.now in
     let n = c.copy_few_until.result in
-    let few : n ≤ length bytes - at = omega (arith, c.copy_few_until.ensures.within, length-take (length bytes - at) (drop at bytes)) in
+    let few : n ≤ length bytes - at = omega (arith, c.copy_few_until.ensures.stops.within, length-take (length bytes - at) (drop at bytes)) in
     more c.args.sentinel c.args.place at (length bytes - at) n bytes c.args.buffer.now c.loop-at.buffer c.copy_few_until.new.buffer c.loop-at.invariant.written few (omega (arith, few, c.loop-at.invariant.within)) c.requires c.copy_few_until.ensures.buffer
     ∙ ap (λ b. written_over c.args.place b c.args.buffer.now) (sym (masked_take c.args.sentinel (at + n) bytes))
 
@@ -153,9 +135,6 @@ copy_few_until-n-requires-clause-room c = grind (arith, common_steps)
 pub overflow_add-result : goal.overflow_add-result
 overflow_add-result c = grind (arith, common_steps)
 
-pub returns-then-n-lt64-clause-within : goal.returns-then-n-lt64-clause-within
-returns-then-n-lt64-clause-within c = grind (arith, common_steps)
-
 pub overflow_add-at-in-loop-at-2 : goal.overflow_add-at-in-loop-at-2
 overflow_add-at-in-loop-at-2 c = grind (arith, common_steps)
 
@@ -183,5 +162,25 @@ copy_few_until-requires-clause-room c = grind (arith, common_steps)
 pub overflow_add-result-2 : goal.overflow_add-result-2
 overflow_add-result-2 c = grind (arith, common_steps)
 
-pub returns-clause-within : goal.returns-clause-within
-returns-clause-within c = grind (arith, common_steps)
+pub returns-then-n-lt64-clause-stops : goal.returns-then-n-lt64-clause-stops
+returns-then-n-lt64-clause-stops c =
+    let at = c.loop-at.at in
+    let bytes = c.args.bytes.now in
+    let e = c.copy_few_until-n.ensures.stops in
+    record {
+      within = omega (arith, c.loop-at-test.true, c.loop-at.invariant.within, c.if-n-lt64.true);
+      none = none_on c.args.sentinel at c.copy_few_until-n.result (at + 64 - at) bytes c.loop-at.invariant.none (omega (arith, c.if-n-lt64.true)) e.none;
+      end = λ _. end_on c.args.sentinel at c.copy_few_until-n.result (at + 64 - at) bytes (omega (arith, c.if-n-lt64.true, c.loop-at-test.true)) (omega (arith, c.if-n-lt64.true)) e.end;
+    }
+
+pub returns-clause-stops : goal.returns-clause-stops
+returns-clause-stops c =
+    let at = c.loop-at.at in
+    let bytes = c.args.bytes.now in
+    let e = c.copy_few_until.ensures.stops in
+    let few : c.copy_few_until.result ≤ length bytes - at = omega (arith, e.within, length-take (length bytes - at) (drop at bytes)) in
+    record {
+      within = omega (arith, few, c.loop-at.invariant.within);
+      none = none_on c.args.sentinel at c.copy_few_until.result (length bytes - at) bytes c.loop-at.invariant.none few e.none;
+      end = λ l. end_on c.args.sentinel at c.copy_few_until.result (length bytes - at) bytes (omega (arith, l)) (omega (arith, l)) e.end;
+    }

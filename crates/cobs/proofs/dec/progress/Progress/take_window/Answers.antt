@@ -28,8 +28,8 @@ put_zeros-self-requires-clause-nonzero c = λ j l.
     let key = c.args.sentinel in
     let bytes = c.args.bytes.now in
     let len = c.args.self.now.len in
-    let is = there key len n bytes c.args.buffer.now c.copy_until-n.new.buffer e.within c.requires.room e.buffer (len + n - len) (omega arith) in
-    rw is (nonzero_in key n bytes e.none j (omega (arith, l, ap length is, masked_length key (take n bytes))))
+    let is = there key len n bytes c.args.buffer.now c.copy_until-n.new.buffer e.stops.within c.requires.room e.buffer (len + n - len) (omega arith) in
+    rw is (nonzero_in key n bytes e.stops.none j (omega (arith, l, ap length is, masked_length key (take n bytes))))
 
 pub returns-clause-front : goal.returns-clause-front
 returns-clause-front c p s =
@@ -41,14 +41,14 @@ returns-clause-front c p s =
     let len = c.args.self.now.len in
     let left = c.in-Grab.left in
     let mid = c.copy_until-n.new.buffer in
-    let is = there key len n bytes old mid e.within c.requires.room e.buffer (len + n - len) (omega arith) in
-    let first = long key len n bytes old mid e.within c.requires.room e.buffer in
+    let is = there key len n bytes old mid e.stops.within c.requires.room e.buffer (len + n - len) (omega arith) in
+    let first = long key len n bytes old mid e.stops.within c.requires.room e.buffer in
     let z = c.put_zeros-self in
     let count : length z.new.out ≡ n = z.auto.out ∙ ap length is ∙ first in
-    let fits : len + n ≤ length old = omega (arith, e.within, c.requires.room) in
-    window_written key p bytes old _ c.args.self.now n left s e.within e.none fits (omega arith) z.new.out z.result c.in-Grab.is
+    let fits : len + n ≤ length old = omega (arith, e.stops.within, c.requires.room) in
+    window_written key p bytes old _ c.args.self.now n left s e.stops.within e.stops.none fits (omega arith) z.new.out z.result c.in-Grab.is
     (z.ensures.out ∙ ap (part_from left true) is) count
-    (written_anew len (len + n - len) _ z.new.out old mid (copied key len n bytes old mid e.within c.requires.room e.buffer) (count ∙ sym first) (omega (arith, count)) (omega (arith, first, fits)))
+    (written_anew len (len + n - len) _ z.new.out old mid (copied key len n bytes old mid e.stops.within c.requires.room e.buffer) (count ∙ sym first) (omega (arith, count)) (omega (arith, first, fits)))
     (z.ensures.state ∙ ap (λ b. stands_by (after left true b)) is)
 
 pub returns-in_default-clause-front : goal.returns-in_default-clause-front
