@@ -3,7 +3,7 @@ ghost use Rattle.std.specs.Prelude.{◌≡◌, ◌≢◌, ℕ, ◌<◌, ◌≤�
 ghost use Rattle.cobs.specs.Frames.{Frame, NoZero, part};
 ghost use Rattle.cobs.specs.Reports.{frame_size};
 ghost use Rattle.cobs.specs.InPlace.{stretch, in_place, in_place_length, overwritten};
-ghost use Rattle.cobs.specs.Sentinel.{masked};
+ghost use Rattle.cobs.specs.Sentinel.{masked, StopsAt};
 
 use super::frames::{answer_behind, apart, with_parsed};
 use super::progress::Progress;
@@ -22,9 +22,7 @@ fn decode_short_in_place(
     sentinel: u8,
 ) -> Result<DecodeReport, DecodeError>
     requires few { end ≤ 255 }
-    requires within { end ≤ length buf.old }
-    requires clear { (k : ℕ) → k < end → slice_index buf.old k ≢ sentinel }
-    requires end { end < length buf.old → slice_index buf.old end ≡ sentinel }
+    requires stops { StopsAt sentinel buf.old end }
     requires bytes { (k : ℕ) → slice_index buf.old k < 256 }
     ensures answer { result ≡ in_place (stretch (masked sentinel buf.old)) }
     ensures buffer { buf.new ≡ overwritten (part (stretch (masked sentinel buf.old))) buf.old }
@@ -40,6 +38,23 @@ fn decode_short_in_place(
     move_down(buf, 1, len, 0, sentinel);
     let state = put_zeros(&mut buf[..len], code - 1);
     with_parsed(answer_behind(state, len), end)
+}
+
+// The position of the first sentinel of more than 64 bytes, if it is among the first 256 and they don't begin with a
+// row of codes 01, which are filled faster than they are put one by one; otherwise 256. The first byte and the 64th
+// show a row.
+#[inline(always)]
+fn near_end(bytes: &[u8], sentinel: u8) -> usize
+    requires { 64 < length bytes.now }
+    ensures few { result ≤ 256 }
+    ensures stops { result < 256 → StopsAt sentinel bytes.now result }
+    ensures begins { result ≡ 256 → slice_index bytes.now 0 ≢ sentinel }
+{
+    let one = sentinel ^ 1;
+    if bytes[0] == one && bytes[63] == one {
+        return 256;
+    }
+    before_by_64(&bytes[..bytes.len().min(256)], sentinel)
 }
 
 // As `decode_in_place_report_with_sentinel`, of a buffer that doesn't begin with the sentinel: 255 bytes are searched
@@ -108,12 +123,7 @@ pub(crate) fn decode_by<const COPY: usize>(
         let few = before_few(buf, sentinel);
         return decode_short_in_place(buf, few, sentinel);
     }
-    // A row of codes 01, which the first byte and the 64th show, is filled faster than it is put one by one.
-    let one = sentinel ^ 1;
-    if buf[0] == one && buf[63] == one {
-        return decode_long_apart::<COPY>(buf, sentinel);
-    }
-    let end = before_by_64(&buf[..buf.len().min(256)], sentinel);
+    let end = near_end(buf, sentinel);
     if end == 256 {
         return decode_long_apart::<COPY>(buf, sentinel);
     }

@@ -208,6 +208,7 @@ fn decode_else(source: &[u8], dest: &mut [u8]) -> Result<DecodeReport, DecodeErr
 /// let decoded = cobs::decode(&room[..5], &mut back);
 /// check(&rt, decoded.is_ok() && are_bytes(&back, &MESSAGE));
 /// ```
+#[inline(always)]
 pub fn decode(source: &[u8], dest: &mut [u8]) -> Result<DecodeReport, DecodeError>
     ensures answer { result ≡ decoded_from (length dest.old) source.now }
     ensures frame { IfOk result (λ r. Frame (frame_in source.now) (take (frame_size r) dest.new)) }
@@ -274,6 +275,7 @@ fn decode_before<const CALL: usize, const COPY: usize>(
 /// After each, `dest` begins with what the bytes determine of a message, as far as it fits.
 /// - `InvalidFrame`: the bytes aren't a frame.
 /// - `TargetBufTooSmall`: they are one, and its message is longer than `dest`.
+#[inline(always)]
 pub fn decode_with_sentinel(
     source: &[u8],
     dest: &mut [u8],
@@ -291,6 +293,14 @@ pub fn decode_with_sentinel(
         return decode_before::<1, 0>(source, dest, sentinel);
     }
     decode_before::<2, 1>(source, dest, sentinel)
+}
+
+// The same, not compiled into its caller.
+#[inline(never)]
+fn decode_elsewhere(source: &[u8], dest: &mut [u8], sentinel: u8) -> Result<usize, DecodeError>
+    ensures { DecodesInto dest.old (stretch (masked sentinel source.now)) dest.new result }
+{
+    decode_with_sentinel(source, dest, sentinel)
 }
 
 /// Decodes a complete frame, without its sentinel, each byte XORed with it, and returns the message's length.
@@ -324,5 +334,5 @@ pub fn decode_clear(frame: &[u8], dest: &mut [u8], sentinel: u8) -> Result<usize
     if has_room(frame, dest.len()) && is_short(frame, sentinel) {
         return decode_short(frame, dest, sentinel);
     }
-    apart(decode_with_sentinel(frame, dest, sentinel))
+    apart(decode_elsewhere(frame, dest, sentinel))
 }

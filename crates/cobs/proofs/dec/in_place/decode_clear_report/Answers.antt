@@ -14,8 +14,9 @@ decode_long_apart-requires-clause-begins c = none c.args.sentinel c.args.frame.n
 pub returns-then-end-gt255-clause-answer : goal.returns-then-end-gt255-clause-answer
 returns-then-end-gt255-clause-answer c = c.decode_long_apart.ensures.answer
 
-pub decode_short_in_place-requires-clause-clear : goal.decode_short_in_place-requires-clause-clear
-decode_short_in_place-requires-clause-clear c = none c.args.sentinel c.args.frame.now c.requires
-
-pub decode_short_in_place-requires-clause-end : goal.decode_short_in_place-requires-clause-end
-decode_short_in_place-requires-clause-end c l = absurd (omega (arith, l))
+pub decode_short_in_place-requires-clause-stops : goal.decode_short_in_place-requires-clause-stops
+decode_short_in_place-requires-clause-stops c = record {
+  within = omega arith;
+  none = none c.args.sentinel c.args.frame.now c.requires;
+  end = λ l. absurd (omega (arith, l));
+}

@@ -86,12 +86,12 @@ pub put_zeros-state-requires-clause-nonzero : goal.put_zeros-state-requires-clau
 put_zeros-state-requires-clause-nonzero c =
     let r = c.requires in
     let some : 0 < c.args.end = positive c.args.end c.if-end-eq0.false in
-    let same = there c.args.sentinel c.args.end c.args.buf.now c.move_down.new.buffer some r.within r.clear r.end c.move_down.ensures in
-    let bytes = clear c.args.sentinel c.args.end c.args.buf.now c.move_down.new.buffer some r.within r.clear r.end c.move_down.ensures in
+    let same = there c.args.sentinel c.args.end c.args.buf.now c.move_down.new.buffer some r.stops.within r.stops.none r.stops.end c.move_down.ensures in
+    let bytes = clear c.args.sentinel c.args.end c.args.buf.now c.move_down.new.buffer some r.stops.within r.stops.none r.stops.end c.move_down.ensures in
     λ k q. rw same (clear_at (masked c.args.sentinel (take (c.args.end - 1) (drop 1 c.args.buf.now))) k bytes.1 (omega (arith, q, ap length same)))
 
 pub overflow_sub-code : goal.overflow_sub-code
-overflow_sub-code c = masked_positive c.args.sentinel (get_or c.args.buf.now 0 0) (c.requires.clear 0 (positive c.args.end c.if-end-eq0.false))
+overflow_sub-code c = masked_positive c.args.sentinel (get_or c.args.buf.now 0 0) (c.requires.stops.none 0 (positive c.args.end c.if-end-eq0.false))
 
 -- no bytes before the sentinel
 none_at : (key : ℕ) (old : List ℕ) → (0 < length old → get_or old 0 0 ≡ key) → stretch (masked key old) ≡ []
@@ -99,24 +99,24 @@ none_at key old ends = sym (stretch_front key old 0 (omega arith) (λ k l. absur
 
 pub returns-then-end-eq0-clause-answer : goal.returns-then-end-eq0-clause-answer
 returns-then-end-eq0-clause-answer c =
-    let ends : 0 < length c.args.buf.now → get_or c.args.buf.now 0 0 ≡ c.args.sentinel = rw c.if-end-eq0.true at c.requires.end in
+    let ends : 0 < length c.args.buf.now → get_or c.args.buf.now 0 0 ≡ c.args.sentinel = rw c.if-end-eq0.true at c.requires.stops.end in
     ap in_place (sym (none_at c.args.sentinel c.args.buf.now ends))
 
 pub returns-then-end-eq0-clause-buffer : goal.returns-then-end-eq0-clause-buffer
 returns-then-end-eq0-clause-buffer c =
-    let ends : 0 < length c.args.buf.now → get_or c.args.buf.now 0 0 ≡ c.args.sentinel = rw c.if-end-eq0.true at c.requires.end in
+    let ends : 0 < length c.args.buf.now → get_or c.args.buf.now 0 0 ≡ c.args.sentinel = rw c.if-end-eq0.true at c.requires.stops.end in
     sym (ap (λ f. overwritten (part f) c.args.buf.now) (none_at c.args.sentinel c.args.buf.now ends) ∙ ap (λ m. m ++ c.args.buf.now) (take_all (length c.args.buf.now) [] (omega arith)))
 
 pub returns-clause-answer : goal.returns-clause-answer
 returns-clause-answer c =
     let r = c.requires in
     c.with_parsed.ensures ∙ ap (with_parsed c.args.end) c.answer_behind.ensures
-    ∙ answer c.args.sentinel c.args.end c.args.buf.now c.move_down.new.buffer (positive c.args.end c.if-end-eq0.false) r.within r.clear r.end c.move_down.ensures r.few (r.bytes 0) c.ranges.sentinel.fits c.put_zeros-state.new.out c.put_zeros-state.result c.put_zeros-state.auto.out c.put_zeros-state.ensures.out c.put_zeros-state.ensures.state
+    ∙ answer c.args.sentinel c.args.end c.args.buf.now c.move_down.new.buffer (positive c.args.end c.if-end-eq0.false) r.stops.within r.stops.none r.stops.end c.move_down.ensures r.few (r.bytes 0) c.ranges.sentinel.fits c.put_zeros-state.new.out c.put_zeros-state.result c.put_zeros-state.auto.out c.put_zeros-state.ensures.out c.put_zeros-state.ensures.state
 
 pub returns-clause-buffer : goal.returns-clause-buffer
 returns-clause-buffer c =
     let r = c.requires in
-    over c.args.sentinel c.args.end c.args.buf.now c.move_down.new.buffer (positive c.args.end c.if-end-eq0.false) r.within r.clear r.end c.move_down.ensures r.few (r.bytes 0) c.ranges.sentinel.fits c.put_zeros-state.new.out c.put_zeros-state.result c.put_zeros-state.auto.out c.put_zeros-state.ensures.out c.put_zeros-state.ensures.state
+    over c.args.sentinel c.args.end c.args.buf.now c.move_down.new.buffer (positive c.args.end c.if-end-eq0.false) r.stops.within r.stops.none r.stops.end c.move_down.ensures r.few (r.bytes 0) c.ranges.sentinel.fits c.put_zeros-state.new.out c.put_zeros-state.result c.put_zeros-state.auto.out c.put_zeros-state.ensures.out c.put_zeros-state.ensures.state
 
 pub bounds-buf-0 : goal.bounds-buf-0
 bounds-buf-0 c = grind (arith, common_steps)
