@@ -37,7 +37,15 @@ pub record InBlock (buffer : List ℕ) (code_at from : ℕ) (bytes : List ℕ) :
   pub within : from + length bytes ≤ length buffer
   pub short : from + length bytes ≤ code_at + 255
 
--- They are coded, and the code that is still to come goes to this position.
+-- So many bytes, at least one and at most 64, are from a position on within the buffer and the open block.
+pub record FewInBlock (buffer : List ℕ) (code_at from n : ℕ) : Type 0 where
+  pub begins : code_at < from
+  pub some : 0 < n
+  pub few : n ≤ 64
+  pub within : from + n ≤ length buffer
+  pub short : from + n ≤ code_at + 255
+
+-- Bytes are coded, and the code that is still to come goes to this position.
 pub record Coded (before : List ℕ) (code_at from : ℕ)
     (bytes buffer : List ℕ) (last : ℕ) : Type 0 where
   pub begins : last < from + length bytes

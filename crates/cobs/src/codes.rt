@@ -14,7 +14,7 @@
 //! faster for zeros only, and five functions more.
 ghost use Rattle.std.specs.Prelude.{◌≡◌, ◌≢◌, ℕ, ◌+◌, ◌<◌, ◌≤◌, List, length, take, drop, slice_index, true};
 ghost use Rattle.std.specs.Int.{bit_at};
-ghost use Rattle.cobs.specs.Codes.{InBlock, Coded, Marks, Stepped};
+ghost use Rattle.cobs.specs.Codes.{InBlock, FewInBlock, Coded, Marks, Stepped};
 ghost use Rattle.cobs.specs.InPlace.{written_over};
 ghost use Rattle.cobs.specs.Sentinel.{masked};
 
@@ -46,10 +46,7 @@ fn put_codes_marked(
     marks: u64,
     sentinel: u8,
 ) -> usize
-    requires begins { code_at < from }
-    requires within { from + n ≤ length dest.old }
-    requires short { from + n ≤ code_at + 255 }
-    requires few { n ≤ 64 }
+    requires block { FewInBlock dest.old code_at from n }
     requires marks { Marks marks 0 (masked sentinel (take n (drop from dest.old))) }
     ensures { Coded (masked sentinel dest.old) code_at from
         (masked sentinel (take n (drop from dest.old))) (masked sentinel dest.new) result }
@@ -69,10 +66,7 @@ fn put_codes_marked(
 // The same of bytes that are all zero.
 #[inline(always)]
 fn put_codes_of_zeros(dest: &mut [u8], code_at: usize, from: usize, n: usize, sentinel: u8) -> usize
-    requires begins { code_at < from }
-    requires some { 0 < n }
-    requires within { from + n ≤ length dest.old }
-    requires short { from + n ≤ code_at + 255 }
+    requires block { FewInBlock dest.old code_at from n }
     requires zeros { (k : ℕ) → k < n
         → slice_index (masked sentinel (take n (drop from dest.old))) k ≡ 0 }
     ensures { Coded (masked sentinel dest.old) code_at from
@@ -93,11 +87,7 @@ fn put_codes_of_marks(
     marks: u64,
     sentinel: u8,
 ) -> usize
-    requires begins { code_at < from }
-    requires some { 0 < n }
-    requires few { n ≤ 64 }
-    requires within { from + n ≤ length dest.old }
-    requires short { from + n ≤ code_at + 255 }
+    requires block { FewInBlock dest.old code_at from n }
     requires marks { Marks marks 0 (masked sentinel (take n (drop from dest.old))) }
     ensures { Coded (masked sentinel dest.old) code_at from
         (masked sentinel (take n (drop from dest.old))) (masked sentinel dest.new) result }
@@ -124,11 +114,7 @@ fn are_all_marked(marks: u64, n: usize) -> bool
 // last code. Of fewer than 64 each zero gets its code: filling them takes a call.
 #[inline(always)]
 pub(crate) fn put_codes_standing(dest: &mut [u8], code_at: usize, from: usize, n: usize) -> usize
-    requires begins { code_at < from }
-    requires some { 0 < n }
-    requires few { n ≤ 64 }
-    requires within { from + n ≤ length dest.old }
-    requires short { from + n ≤ code_at + 255 }
+    requires { FewInBlock dest.old code_at from n }
     ensures { Coded dest.old code_at from (take n (drop from dest.old)) dest.new result }
 {
     let marks = marks_of(&dest[from..from + n], 0);

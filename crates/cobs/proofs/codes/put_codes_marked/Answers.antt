@@ -10,8 +10,8 @@ pub loop-zeros-preserved : goal.loop-zeros-preserved
 loop-zeros-preserved c =
     let f = c.lowest-n.ensures in
     let there = drop c.args.from c.args.dest.now in
-    let long : length (masked c.args.sentinel (take c.args.n there)) ≡ c.args.n = masked_length c.args.sentinel (take c.args.n there) ∙ length-take-le c.args.n there (omega (arith, length-drop c.args.from c.args.dest.now, c.requires.within)) in
-    rw (masked_put c.args.sentinel c.loop-zeros.dest c.loop-zeros.code _) (going_on _ _ _ _ _ _ _ _ _ (omega (arith, long, c.requires.few)) f.set f.below f.others f.no_more c.loop-zeros.invariant)
+    let long : length (masked c.args.sentinel (take c.args.n there)) ≡ c.args.n = masked_length c.args.sentinel (take c.args.n there) ∙ length-take-le c.args.n there (omega (arith, length-drop c.args.from c.args.dest.now, c.requires.block.within)) in
+    rw (masked_put c.args.sentinel c.loop-zeros.dest c.loop-zeros.code _) (going_on _ _ _ _ _ _ _ _ _ (omega (arith, long, c.requires.block.few)) f.set f.below f.others f.no_more c.loop-zeros.invariant)
 
 pub returns : goal.returns
 returns c =

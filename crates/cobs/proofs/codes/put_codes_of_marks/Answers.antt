@@ -3,7 +3,7 @@ use Rattle.cobs.proofs.codes.put_codes_of_marks.Goals as goal
 
 pub put_codes_of_zeros-requires-clause-zeros : goal.put_codes_of_zeros-requires-clause-zeros
 put_codes_of_zeros-requires-clause-zeros c = λ k l. c.requires.marks.zeros k
-    (c.are_all_marked.ensures c.if-are_all_marked.true k l (omega (arith, l, c.requires.few)))
+    (c.are_all_marked.ensures c.if-are_all_marked.true k l (omega (arith, l, c.requires.block.few)))
 
 pub put_codes_marked-requires-clause-marks : goal.put_codes_marked-requires-clause-marks
 put_codes_marked-requires-clause-marks c = c.requires.marks
