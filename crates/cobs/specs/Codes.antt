@@ -81,3 +81,9 @@ pub record Marks (bits from : ℕ) (bytes : List ℕ) : Type 0 where
   pub high : (k : ℕ) → bit_at bits k ≡ 1 → k < length bytes
   pub zeros : (k : ℕ) → bit_at bits k ≡ 1 → slice_index bytes k ≡ 0
   pub all : (k : ℕ) → from ≤ k → k < length bytes → slice_index bytes k ≡ 0 → bit_at bits k ≡ 1
+
+-- So many bytes fill one vector of this width, and at most two.
+pub record Fills (width n : ℕ) : Type 0 where
+  pub wide : width ≤ 32
+  pub some : width ≤ n
+  pub few : n ≤ width + width

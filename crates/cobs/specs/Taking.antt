@@ -5,6 +5,7 @@ use Rattle.cobs.specs.Frames.{NoZero, part, part_from, after}
 use Rattle.cobs.specs.Feeding.{answer_of, at_byte, frame_after, placed, by_code, told_by, fed, next}
 use Rattle.cobs.specs.InPlace.{overwritten, written_over}
 use Rattle.cobs.specs.Pieces.{first_answer, frame_left, frame_met, buffer_left}
+use Rattle.cobs.specs.Sentinel.{masked}
 use Rattle.cobs.specs.Reports.{parsed_size, frame_size, report}
 use Rattle.cobs.specs.Streaming.{HasStreamed, Decoded}
 use Rattle.cobs.specs.Whole.{frame_in, decoded_from, decoded_into}
@@ -78,6 +79,11 @@ pub record TakesFront (p piece old : List ℕ) (n : ℕ)
   pub buffer : 0 < n → new ≡ written_over (length (part p))
       (part_from (after 0 false p).0 (after 0 false p).1 (take n piece)) old
   pub same : n ≡ 0 → new ≡ old
+
+-- The same of bytes that are each XORed with the sentinel, whatever bytes p of a frame came before (private contracts alone).
+abbrev pub Takes : Progress → List ℕ → ℕ → List ℕ → ℕ → Progress → List ℕ → Type 0
+Takes before old sentinel bytes n behind new =
+    (p : List ℕ) → HasStreamed before p → TakesFront p (masked sentinel bytes) old n behind new
 
 -- Bytes without zeros, some, were decoded, and they fitted: the result, how many they are, and the buffer (private contracts
 -- alone).

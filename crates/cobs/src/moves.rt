@@ -2,7 +2,7 @@
 //!
 //! Of as many bytes as one to two vectors have, one vector takes the first and one the last.
 ghost use Rattle.std.specs.Prelude.{◌≡◌, ◌≢◌, ℕ, ◌+◌, ◌<◌, ◌≤◌, length, take, drop, replicate, slice_index, true, false, ◌^◌};
-ghost use Rattle.cobs.specs.Codes.{Marks};
+ghost use Rattle.cobs.specs.Codes.{Fills, Marks};
 ghost use Rattle.cobs.specs.InPlace.{written_over};
 ghost use Rattle.cobs.specs.Sentinel.{masked};
 
@@ -57,8 +57,7 @@ fn store<const W: usize>(lanes: Simd<u8, W>, buffer: &mut [u8], at: usize, senti
 // Copies bytes over a buffer, from a position on: as many as one to two vectors have.
 #[inline(always)]
 fn copy_ends<const W: usize>(bytes: &[u8], buffer: &mut [u8], place: usize, sentinel: u8)
-    requires some { W ≤ length bytes.now }
-    requires few { length bytes.now ≤ W + W }
+    requires ends { Fills W (length bytes.now) }
     requires room { place + length bytes.now ≤ length buffer.old }
     ensures { buffer.new ≡ written_over place (masked sentinel bytes.now) buffer.old }
 {
@@ -319,9 +318,7 @@ fn zeros_at<const W: usize>(bytes: &[u8], at: usize, sentinel: u8) -> u64
 // The bits of the bytes that are the sentinel, of as many as one to two vectors have.
 #[inline(always)]
 pub(crate) fn zeros_of_ends<const W: usize>(bytes: &[u8], sentinel: u8) -> u64
-    requires wide { W ≤ 32 }
-    requires some { W ≤ length bytes.now }
-    requires few { length bytes.now ≤ W + W }
+    requires { Fills W (length bytes.now) }
     ensures { Marks result 0 (masked sentinel bytes.now) }
 {
     let behind = bytes.len() - W;
@@ -367,9 +364,7 @@ fn copy_clear_ends<const W: usize>(
     place: usize,
     sentinel: u8,
 ) -> u64
-    requires wide { W ≤ 32 }
-    requires some { W ≤ length bytes.now }
-    requires few { length bytes.now ≤ W + W }
+    requires ends { Fills W (length bytes.now) }
     requires room { place + length bytes.now ≤ length buffer.old }
     ensures marks { Marks result 0 (masked sentinel bytes.now) }
     ensures copied { result ≡ 0
@@ -410,9 +405,7 @@ fn copy_marked_ends<const W: usize>(
     place: usize,
     sentinel: u8,
 ) -> u64
-    requires wide { W ≤ 32 }
-    requires some { W ≤ length bytes.now }
-    requires few { length bytes.now ≤ W + W }
+    requires ends { Fills W (length bytes.now) }
     requires room { place + length bytes.now ≤ length buffer.old }
     ensures marks { Marks result 0 (masked 0 bytes.now) }
     ensures copied { buffer.new ≡ written_over place (masked sentinel bytes.now) buffer.old }
@@ -447,8 +440,7 @@ pub(crate) fn copy_marked(bytes: &[u8], buffer: &mut [u8], place: usize, sentine
 // Moves n bytes towards the front, from one position to another: as many as one to two vectors have.
 #[inline(always)]
 fn move_ends<const W: usize>(buffer: &mut [u8], from: usize, n: usize, place: usize, sentinel: u8)
-    requires some { W ≤ n }
-    requires few { n ≤ W + W }
+    requires ends { Fills W n }
     requires within { from + n ≤ length buffer.old }
     requires down { place ≤ from }
     ensures { buffer.new

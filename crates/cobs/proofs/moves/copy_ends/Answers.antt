@@ -13,7 +13,7 @@ returns g c =
     let s = c.args.sentinel in
     let old = c.args.buffer.now in
     let behind = n - w in
-    let back : c.load-back.result ≡ drop behind m = c.load-back.ensures ∙ take_all w (drop behind m) (omega (arith, length-drop behind m, c.requires.some)) in
+    let back : c.load-back.result ≡ drop behind m = c.load-back.ensures ∙ take_all w (drop behind m) (omega (arith, length-drop behind m, c.requires.ends.some)) in
     c.store-2.ensures
     ∙ ap (written_over (c.args.place + behind) (masked s c.load-back.result)) c.store.ensures
-    ∙ written_ends s c.args.place behind (c.args.place + behind) w n m _ _ old (omega arith) c.load-front.ensures back (omega (arith, c.requires.few)) c.requires.some (omega (arith, c.requires.some)) c.requires.room (omega arith)
+    ∙ written_ends s c.args.place behind (c.args.place + behind) w n m _ _ old (omega arith) c.load-front.ensures back (omega (arith, c.requires.ends.few)) c.requires.ends.some (omega (arith, c.requires.ends.some)) c.requires.room (omega arith)

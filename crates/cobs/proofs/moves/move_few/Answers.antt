@@ -17,44 +17,20 @@ returns-then-n-ge4 c = c.move_ends-then-n-ge4.ensures
 pub returns-else-n-ge4 : goal.returns-else-n-ge4
 returns-else-n-ge4 c = c.move_bytes.ensures
 
-pub move_ends-requires-clause-some : goal.move_ends-requires-clause-some
-move_ends-requires-clause-some c = grind (arith, common_steps)
-
-pub move_ends-requires-clause-few : goal.move_ends-requires-clause-few
-move_ends-requires-clause-few c = grind (arith, common_steps)
-
 pub move_ends-requires-clause-within : goal.move_ends-requires-clause-within
 move_ends-requires-clause-within c = grind (arith, common_steps)
 
 pub move_ends-requires-clause-down : goal.move_ends-requires-clause-down
 move_ends-requires-clause-down c = grind (arith, common_steps)
 
-pub move_ends-requires-else-n-ge32-clause-some : goal.move_ends-requires-else-n-ge32-clause-some
-move_ends-requires-else-n-ge32-clause-some c = grind (arith, common_steps)
-
-pub move_ends-requires-else-n-ge32-clause-few : goal.move_ends-requires-else-n-ge32-clause-few
-move_ends-requires-else-n-ge32-clause-few c = grind (arith, common_steps)
-
 pub move_ends-requires-else-n-ge32-clause-down : goal.move_ends-requires-else-n-ge32-clause-down
 move_ends-requires-else-n-ge32-clause-down c = grind (arith, common_steps)
-
-pub move_ends-requires-then-n-ge8-clause-some : goal.move_ends-requires-then-n-ge8-clause-some
-move_ends-requires-then-n-ge8-clause-some c = grind (arith, common_steps)
-
-pub move_ends-requires-then-n-ge8-clause-few : goal.move_ends-requires-then-n-ge8-clause-few
-move_ends-requires-then-n-ge8-clause-few c = grind (arith, common_steps)
 
 pub move_ends-requires-then-n-ge8-clause-within : goal.move_ends-requires-then-n-ge8-clause-within
 move_ends-requires-then-n-ge8-clause-within c = grind (arith, common_steps)
 
 pub move_ends-requires-then-n-ge8-clause-down : goal.move_ends-requires-then-n-ge8-clause-down
 move_ends-requires-then-n-ge8-clause-down c = grind (arith, common_steps)
-
-pub move_ends-requires-then-n-ge4-clause-some : goal.move_ends-requires-then-n-ge4-clause-some
-move_ends-requires-then-n-ge4-clause-some c = grind (arith, common_steps)
-
-pub move_ends-requires-then-n-ge4-clause-few : goal.move_ends-requires-then-n-ge4-clause-few
-move_ends-requires-then-n-ge4-clause-few c = grind (arith, common_steps)
 
 pub move_ends-requires-then-n-ge4-clause-within : goal.move_ends-requires-then-n-ge4-clause-within
 move_ends-requires-then-n-ge4-clause-within c = grind (arith, common_steps)
