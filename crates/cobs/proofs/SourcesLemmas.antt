@@ -107,3 +107,7 @@ stretch_front_of (suc n) (b ∷ bytes) l = elim (eqb_tells b 0) [
 
 pub stretch_reached : (sentinel n : ℕ) (bytes : List ℕ) → length (stretch (masked sentinel bytes)) ≤ n → stretch (masked sentinel (take n bytes)) ≡ stretch (masked sentinel bytes)
 stretch_reached s n bytes l = ap stretch (sym (masked_take s n bytes)) ∙ stretch_front_of n (masked s bytes) l
+
+-- what comes before the first sentinel ends there
+pub stretch_again : (s : ℕ) (bytes front : List ℕ) → masked s front ≡ stretch (masked s bytes) → stretch (masked s front) ≡ stretch (masked s bytes)
+stretch_again s bytes front e = ap stretch e ∙ stretch_of (stretch (masked s bytes)) (stretch_clear (masked s bytes))

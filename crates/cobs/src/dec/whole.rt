@@ -64,19 +64,6 @@ fn begins_with_row(bytes: &[u8], sentinel: u8) -> bool {
     bytes[0] == sentinel ^ 1 && are_all(sentinel ^ 1, &bytes[..64])
 }
 
-// How many bytes of a source are looked at without a search: all of them, or as many as fit if a sentinel is next.
-#[inline(always)]
-fn front(source: &[u8], room: usize, sentinel: u8) -> usize
-    requires { room < 2 ^ 63 }
-    ensures within { result ≤ length source.now }
-    ensures all { length (stretch (masked sentinel source.now)) ≤ result }
-{
-    if room + 1 < source.len() && source[room + 1] == sentinel {
-        return room + 1;
-    }
-    source.len()
-}
-
 // Decodes the bytes of a source before its first sentinel, each XORed with it, by `take_source`. Its result goes through memory
 // that is set to zero first: where this is compiled into its caller, so that the faster paths don't pay for it.
 #[inline(always)]
@@ -95,36 +82,6 @@ fn decode_many<const COPY: usize>(
     (answer_behind(state, len), end)
 }
 
-// Decodes the bytes of a source before its first sentinel, each XORed with it, if there are some and those looked at
-// fit. Also returns how many they are. It is compiled once for each caller, into which it is inlined.
-//
-// A long row of codes 01 is left to a decoder to which it is pushed, which fills it at once.
-#[inline(always)]
-fn decode_part<const CALL: usize, const COPY: usize>(
-    source: &[u8],
-    looked_at: usize,
-    dest: &mut [u8],
-    sentinel: u8,
-) -> Option<(Result<usize, DecodeError>, usize)>
-    requires within { looked_at ≤ length source.now }
-    requires all { length (stretch (masked sentinel source.now)) ≤ looked_at }
-    ensures done { IfSome result (λ t. DecodesFront dest.old
-        (stretch (masked sentinel source.now)) dest.new t.0 t.1) }
-    ensures same { IsNone result → dest.new ≡ dest.old }
-{
-    let bytes = &source[..looked_at];
-    if !has_room(bytes, dest.len()) || bytes[0] == sentinel {
-        return None;
-    }
-    if is_short(bytes, sentinel) {
-        return Some(decode_near::<CALL, false>(bytes, dest, sentinel));
-    }
-    if begins_with_row(bytes, sentinel) {
-        return None;
-    }
-    Some(decode_many::<COPY>(bytes, dest, sentinel))
-}
-
 // Whether a source is short, fits and begins with a frame.
 #[inline(always)]
 fn is_few(source: &[u8], room: usize, sentinel: u8) -> bool
@@ -135,6 +92,35 @@ fn is_few(source: &[u8], room: usize, sentinel: u8) -> bool
 {
     let len = source.len();
     0 < len && len <= 64 && len - 1 <= room && source[0] != sentinel
+}
+
+// Decodes the bytes of a source before its first sentinel, each XORed with it, if there are some and all of the source
+// fits. Also returns how many they are. It is compiled once for each caller, into which it is inlined.
+//
+// A long row of codes 01 is left to a decoder to which it is pushed, which fills it at once.
+#[inline(always)]
+fn decode_part<const CALL: usize, const COPY: usize>(
+    source: &[u8],
+    dest: &mut [u8],
+    sentinel: u8,
+) -> Option<(Result<usize, DecodeError>, usize)>
+    ensures done { IfSome result (λ t. DecodesFront dest.old
+        (stretch (masked sentinel source.now)) dest.new t.0 t.1) }
+    ensures same { IsNone result → dest.new ≡ dest.old }
+{
+    if is_few(source, dest.len(), sentinel) {
+        return Some(decode_near::<CALL, true>(source, dest, sentinel));
+    }
+    if !has_room(source, dest.len()) || source[0] == sentinel {
+        return None;
+    }
+    if is_short(source, sentinel) {
+        return Some(decode_near::<CALL, false>(source, dest, sentinel));
+    }
+    if begins_with_row(source, sentinel) {
+        return None;
+    }
+    Some(decode_many::<COPY>(source, dest, sentinel))
 }
 
 // As `decode`, by a decoder to which what follows leading zeros is pushed, and then a zero: it sees which byte
@@ -173,7 +159,8 @@ fn decode_slowly(source: &[u8], dest: &mut [u8]) -> Result<DecodeReport, DecodeE
     if begins_with_row(rest, 0) {
         return decode_pushed(source, rest, dest);
     }
-    match decode_part::<3, 2>(rest, before_sentinel(rest, 0), dest, 0) {
+    let frame = before(rest, 0);
+    match decode_part::<3, 2>(frame, dest, 0) {
         Some((answer, end)) => {
             let parsed = source.len().min(source.len() - rest.len() + end + 1);
             with_parsed(answer, parsed)
@@ -216,12 +203,7 @@ pub fn decode(source: &[u8], dest: &mut [u8]) -> Result<DecodeReport, DecodeErro
         → length dest.old < length m) }
     ensures dest { dest.new ≡ overwritten (part (frame_in source.now)) dest.old }
 {
-    if is_few(source, dest.len(), 0) {
-        let (answer, end) = decode_near::<0, true>(source, dest, 0);
-        return with_parsed(answer, source.len().min(end + 1));
-    }
-    let looked_at = front(source, dest.len(), 0);
-    match decode_part::<0, 0>(source, looked_at, dest, 0) {
+    match decode_part::<0, 0>(source, dest, 0) {
         Some((answer, end)) => with_parsed(answer, source.len().min(end + 1)),
         None => decode_else(source, dest),
     }
@@ -233,7 +215,7 @@ fn decode_stretch(source: &[u8], dest: &mut [u8], sentinel: u8) -> Result<usize,
     ensures { DecodesInto dest.old (stretch (masked sentinel source.now)) dest.new result }
 {
     let frame = before(source, sentinel);
-    match decode_part::<4, 3>(source, frame.len(), dest, sentinel) {
+    match decode_part::<4, 3>(frame, dest, sentinel) {
         Some((answer, _)) => answer,
         None => decode_counted(frame, dest, sentinel),
     }
@@ -256,11 +238,7 @@ fn decode_before<const CALL: usize, const COPY: usize>(
 ) -> Result<usize, DecodeError>
     ensures { DecodesInto dest.old (stretch (masked sentinel source.now)) dest.new result }
 {
-    if is_few(source, dest.len(), sentinel) {
-        return decode_near::<CALL, true>(source, dest, sentinel).0;
-    }
-    let looked_at = front(source, dest.len(), sentinel);
-    match decode_part::<CALL, COPY>(source, looked_at, dest, sentinel) {
+    match decode_part::<CALL, COPY>(source, dest, sentinel) {
         Some((answer, _)) => answer,
         None => decode_stretch_else(source, dest, sentinel),
     }

@@ -8,25 +8,15 @@ use Rattle.cobs.proofs.PushingLemmas.{told_fitting, over_fitting, unpadded_begun
 use Rattle.cobs.proofs.ShortLemmas.{decodes_front}
 use Rattle.cobs.proofs.VerdictsLemmas.{from_frame, from_no_frame, stretch_found}
 use Rattle.cobs.proofs.dec.whole.decode.Goals as goal
-use Rattle.cobs.proofs.dec.whole.decode.Goals.{After-with_parsed, After-with_parsed-in-Some, After-decode_else}
-
--- where few bytes had room
-module _ (c : After-with_parsed) where
-  told_few : c.with_parsed.result ≡ decoded_from (length c.args.dest.now) c.args.source.now
-  told_few =
-      let source = c.args.source.now in
-      c.with_parsed.ensures ∙ told_fitting source source c.args.dest.now c.decode_near-answer.new.dest _ _ c.min.result (unpadded_begun source c.decode_near-answer.ensures.some) c.decode_near-answer.ensures (omega (arith, c.min.ensures))
-
-  over_few : c.decode_near-answer.new.dest ≡ overwritten (part (frame_in c.args.source.now)) c.args.dest.now
-  over_few = over_fitting c.args.source.now c.args.source.now c.args.dest.now c.decode_near-answer.new.dest _ _ (unpadded_begun c.args.source.now c.decode_near-answer.ensures.some) c.decode_near-answer.ensures
+use Rattle.cobs.proofs.dec.whole.decode.Goals.{After-with_parsed, After-decode_else}
 
 -- where all of them had
-module _ (c : After-with_parsed-in-Some) where
-  told : c.with_parsed-in-Some.result ≡ decoded_from (length c.args.dest.now) c.args.source.now
+module _ (c : After-with_parsed) where
+  told : c.with_parsed.result ≡ decoded_from (length c.args.dest.now) c.args.source.now
   told =
       let d = c.in-Some.ensures.done in
       let source = c.args.source.now in
-      c.with_parsed-in-Some.ensures ∙ told_fitting source source c.args.dest.now c.decode_part.new.dest c.in-Some.answer c.in-Some.end c.min-in-Some.result (unpadded_begun source d.some) d (omega (arith, c.min-in-Some.ensures))
+      c.with_parsed.ensures ∙ told_fitting source source c.args.dest.now c.decode_part.new.dest c.in-Some.answer c.in-Some.end c.min.result (unpadded_begun source d.some) d (omega (arith, c.min.ensures))
 
   over : c.decode_part.new.dest ≡ overwritten (part (frame_in c.args.source.now)) c.args.dest.now
   over =
@@ -41,33 +31,19 @@ module _ (c : After-decode_else) where
   over_apart : c.decode_else.new.dest ≡ overwritten (part (frame_in c.args.source.now)) c.args.dest.now
   over_apart = c.decode_else.ensures.dest ∙ ap (overwritten (part (frame_in c.args.source.now))) (c.in-None.ensures.same refl)
 
-pub returns-then-is_few-clause-answer : goal.returns-then-is_few-clause-answer
-returns-then-is_few-clause-answer c = told_few (goal.at.returns-then-is_few-clause-answer c).After-with_parsed
-
-pub returns-then-is_few-clause-dest : goal.returns-then-is_few-clause-dest
-returns-then-is_few-clause-dest c = over_few (goal.at.returns-then-is_few-clause-dest c).After-with_parsed
-
-pub returns-then-is_few-clause-frame : goal.returns-then-is_few-clause-frame
-returns-then-is_few-clause-frame c =
-    let e = (goal.at.returns-then-is_few-clause-frame c).After-with_parsed in
-    from_frame c.args.source.now c.args.dest.now c.with_parsed.result c.decode_near-answer.new.dest (stretch_found c.args.source.now (λ k. (c.type_inv.source k).fits)) (told_few e) (over_few e)
-
-pub returns-then-is_few-clause-no_frame : goal.returns-then-is_few-clause-no_frame
-returns-then-is_few-clause-no_frame c = from_no_frame c.args.source.now c.args.dest.now c.with_parsed.result (told_few (goal.at.returns-then-is_few-clause-no_frame c).After-with_parsed)
-
 pub returns-in-Some-clause-answer : goal.returns-in-Some-clause-answer
-returns-in-Some-clause-answer c = told (goal.at.returns-in-Some-clause-answer c).After-with_parsed-in-Some
+returns-in-Some-clause-answer c = told (goal.at.returns-in-Some-clause-answer c).After-with_parsed
 
 pub returns-in-Some-clause-dest : goal.returns-in-Some-clause-dest
-returns-in-Some-clause-dest c = over (goal.at.returns-in-Some-clause-dest c).After-with_parsed-in-Some
+returns-in-Some-clause-dest c = over (goal.at.returns-in-Some-clause-dest c).After-with_parsed
 
 pub returns-in-Some-clause-frame : goal.returns-in-Some-clause-frame
 returns-in-Some-clause-frame c =
-    let e = (goal.at.returns-in-Some-clause-frame c).After-with_parsed-in-Some in
-    from_frame c.args.source.now c.args.dest.now c.with_parsed-in-Some.result c.decode_part.new.dest (stretch_found c.args.source.now (λ k. (c.type_inv.source k).fits)) (told e) (over e)
+    let e = (goal.at.returns-in-Some-clause-frame c).After-with_parsed in
+    from_frame c.args.source.now c.args.dest.now c.with_parsed.result c.decode_part.new.dest (stretch_found c.args.source.now (λ k. (c.type_inv.source k).fits)) (told e) (over e)
 
 pub returns-in-Some-clause-no_frame : goal.returns-in-Some-clause-no_frame
-returns-in-Some-clause-no_frame c = from_no_frame c.args.source.now c.args.dest.now c.with_parsed-in-Some.result (told (goal.at.returns-in-Some-clause-no_frame c).After-with_parsed-in-Some)
+returns-in-Some-clause-no_frame c = from_no_frame c.args.source.now c.args.dest.now c.with_parsed.result (told (goal.at.returns-in-Some-clause-no_frame c).After-with_parsed)
 
 pub returns-in-None-clause-answer : goal.returns-in-None-clause-answer
 returns-in-None-clause-answer c = told_apart (goal.at.returns-in-None-clause-answer c).After-decode_else

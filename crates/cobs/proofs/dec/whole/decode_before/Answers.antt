@@ -5,12 +5,6 @@ use Rattle.cobs.specs.Sentinel.{masked}
 use Rattle.cobs.specs.Whole.{decoded_into}
 use Rattle.cobs.proofs.dec.whole.decode_before.Goals as goal
 
-pub returns-then-is_few : goal.returns-then-is_few
-returns-then-is_few g c = record {
-  answer = c.decode_near.ensures.answers;
-  dest = c.decode_near.ensures.buffer;
-}
-
 pub returns-in-Some : goal.returns-in-Some
 returns-in-Some g c = record {
   answer = c.in-Some.ensures.done.answers;
