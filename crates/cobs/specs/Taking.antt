@@ -1,6 +1,6 @@
 -- What the streaming decoders do with what they are given, each byte XORed with the sentinel: what each keeps, and its buffer,
 -- before and afterwards.
-use Rattle.std.specs.Prelude.{◌≡◌, ℕ, ◌+◌, ◌-◌, ◌==◌, if◌then◌else◌, ◌<◌, ◌≤◌, false, List, [], ◌∷◌, ◌++◌, length, take, drop, Option, None, Result, Ok, Err, IfOk, IfSome, IsNone}
+use Rattle.std.specs.Prelude.{◌≡◌, ℕ, ◌+◌, ◌-◌, ◌==◌, if◌then◌else◌, ◌<◌, ◌≤◌, false, List, [], ◌∷◌, ◌++◌, length, take, drop, Option, None, Result, Ok, Err, IfOk, IfSome, IsNone, ◌≢◌, slice_index}
 use Rattle.cobs.specs.Frames.{NoZero, part, part_from, after}
 use Rattle.cobs.specs.Feeding.{answer_of, at_byte, frame_after, placed, by_code, told_by, fed, next}
 use Rattle.cobs.specs.InPlace.{overwritten, written_over}
@@ -93,6 +93,12 @@ pub record DecodesFront (old frame new : List ℕ) (answer : Result ℕ DecodeEr
   pub some : 0 < length frame
   pub room : length frame ≤ length old + 1
   pub buffer : new ≡ overwritten (part frame) old
+
+-- A source begins with a frame for a sentinel, and all of it fits a buffer (private contracts alone).
+pub record FitsWhole (source buffer : List ℕ) (sentinel : ℕ) : Type 0 where
+  pub some : 0 < length source
+  pub room : length source ≤ length buffer + 1
+  pub begins : slice_index source 0 ≢ sentinel
 
 -- A frame was decoded into a buffer: the result, and the buffer (private contracts alone).
 pub record DecodesInto (old frame new : List ℕ) (told : Result ℕ DecodeError) : Type 0 where

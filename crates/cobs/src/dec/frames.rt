@@ -4,7 +4,7 @@ ghost use Rattle.cobs.specs.Frames.{NoZero, part};
 ghost use Rattle.cobs.specs.InPlace.{stretch, overwritten};
 ghost use Rattle.cobs.specs.Sentinel.{masked};
 ghost use Rattle.cobs.specs.Streaming.{HasStreamed};
-ghost use Rattle.cobs.specs.Taking.{DecodesFront, DecodesInto, answer_behind, with_parsed};
+ghost use Rattle.cobs.specs.Taking.{DecodesFront, DecodesInto, FitsWhole, answer_behind, with_parsed};
 
 use super::progress::Progress;
 use super::report::{DecodeError, DecodeReport};
@@ -84,9 +84,7 @@ pub(crate) fn take_source<const COPY: usize>(
     dest: &mut [u8],
     sentinel: u8,
 ) -> (Progress, usize)
-    requires some { 0 < length source.now }
-    requires room { length source.now ≤ length dest.old + 1 }
-    requires begins { slice_index source.now 0 ≢ sentinel }
+    requires { FitsWhole source.now dest.old sentinel }
     ensures end { result.1 ≡ length (stretch (masked sentinel source.now)) }
     ensures some { 0 < result.1 }
     ensures within { result.1 ≤ length source.now }
@@ -114,11 +112,9 @@ pub(crate) fn decode_near<const CALL: usize, const SHORT: bool>(
     dest: &mut [u8],
     sentinel: u8,
 ) -> (Result<usize, DecodeError>, usize)
-    requires some { 0 < length source.now }
+    requires fits { FitsWhole source.now dest.old sentinel }
     requires few { length source.now ≤ 255 }
     requires short { SHORT ≡ true → length source.now ≤ 65 }
-    requires room { length source.now ≤ length dest.old + 1 }
-    requires begins { slice_index source.now 0 ≢ sentinel }
     ensures { DecodesFront dest.old (stretch (masked sentinel source.now)) dest.new result.0
         result.1 }
 {

@@ -2,7 +2,7 @@
 ghost use Rattle.std.specs.Prelude.{◌≡◌, ◌≢◌, ℕ, ◌<◌, ◌≤◌, List, [], length, take, drop, slice_index, IfOk, OnErr};
 ghost use Rattle.cobs.specs.Frames.{Frame, NoZero, part};
 ghost use Rattle.cobs.specs.Reports.{frame_size};
-ghost use Rattle.cobs.specs.InPlace.{stretch, in_place, in_place_length, overwritten};
+ghost use Rattle.cobs.specs.InPlace.{stretch, in_place, in_place_length, overwritten, DecodesInPlace};
 ghost use Rattle.cobs.specs.Sentinel.{masked, StopsAt};
 
 use super::frames::{answer_behind, apart, with_parsed};
@@ -24,8 +24,7 @@ fn decode_short_in_place(
     requires few { end ≤ 255 }
     requires stops { StopsAt sentinel buf.old end }
     requires bytes { (k : ℕ) → slice_index buf.old k < 256 }
-    ensures answer { result ≡ in_place (stretch (masked sentinel buf.old)) }
-    ensures buffer { buf.new ≡ overwritten (part (stretch (masked sentinel buf.old))) buf.old }
+    ensures { DecodesInPlace buf.old (stretch (masked sentinel buf.old)) buf.new result }
 {
     if end == 0 {
         return Ok(DecodeReport {
@@ -67,8 +66,7 @@ fn decode_long_in_place<const COPY: usize>(
     requires some { 0 < length buf.old }
     requires begins { slice_index buf.old 0 ≢ sentinel }
     requires bytes { (k : ℕ) → slice_index buf.old k < 256 }
-    ensures answer { result ≡ in_place (stretch (masked sentinel buf.old)) }
-    ensures buffer { buf.new ≡ overwritten (part (stretch (masked sentinel buf.old))) buf.old }
+    ensures { DecodesInPlace buf.old (stretch (masked sentinel buf.old)) buf.new result }
 {
     let mut progress = Progress {
         state: by_code(sentinel ^ buf[0]),
@@ -95,8 +93,7 @@ fn decode_long_apart<const COPY: usize>(
     requires some { 0 < length buf.old }
     requires begins { slice_index buf.old 0 ≢ sentinel }
     requires bytes { (k : ℕ) → slice_index buf.old k < 256 }
-    ensures answer { result ≡ in_place (stretch (masked sentinel buf.old)) }
-    ensures buffer { buf.new ≡ overwritten (part (stretch (masked sentinel buf.old))) buf.old }
+    ensures { DecodesInPlace buf.old (stretch (masked sentinel buf.old)) buf.new result }
 {
     apart(decode_long_in_place::<COPY>(buf, sentinel))
 }
@@ -114,9 +111,7 @@ pub(crate) fn decode_by<const COPY: usize>(
     buf: &mut [u8],
     sentinel: u8,
 ) -> Result<DecodeReport, DecodeError>
-    ensures answer { result ≡ in_place (stretch (masked sentinel buf.old)) }
-    ensures buffer { buf.new ≡ overwritten (part (stretch (masked sentinel buf.old))) buf.old }
-    ensures bytes { (k : ℕ) → slice_index buf.old k < 256 }
+    ensures { DecodesInPlace buf.old (stretch (masked sentinel buf.old)) buf.new result }
 {
     all_bytes(buf);
     if buf.len() <= 64 {
@@ -234,10 +229,7 @@ pub fn decode_in_place_with_sentinel(buf: &mut [u8], sentinel: u8) -> Result<usi
 #[inline(always)]
 fn decode_clear_report(frame: &mut [u8], sentinel: u8) -> Result<DecodeReport, DecodeError>
     requires { NoZero (masked sentinel frame.old) }
-    ensures answer { result ≡ in_place (stretch (masked sentinel frame.old)) }
-    ensures buffer { frame.new
-        ≡ overwritten (part (stretch (masked sentinel frame.old))) frame.old }
-    ensures bytes { (k : ℕ) → slice_index frame.old k < 256 }
+    ensures { DecodesInPlace frame.old (stretch (masked sentinel frame.old)) frame.new result }
 {
     all_bytes(frame);
     let end = frame.len();

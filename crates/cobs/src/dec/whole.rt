@@ -13,7 +13,7 @@ ghost use Rattle.cobs.specs.Frames.{Frame, NoZero, part};
 ghost use Rattle.cobs.specs.Reports.{frame_size};
 ghost use Rattle.cobs.specs.InPlace.{stretch, overwritten};
 ghost use Rattle.cobs.specs.Sentinel.{masked};
-ghost use Rattle.cobs.specs.Taking.{DecodesFront, DecodesInto, DecodesSource};
+ghost use Rattle.cobs.specs.Taking.{DecodesFront, DecodesInto, DecodesSource, FitsWhole};
 ghost use Rattle.cobs.specs.Whole.{unpadded, frame_in, decoded_from, decoded_into};
 
 use super::frames::{
@@ -72,9 +72,7 @@ fn decode_many<const COPY: usize>(
     dest: &mut [u8],
     sentinel: u8,
 ) -> (Result<usize, DecodeError>, usize)
-    requires some { 0 < length bytes.now }
-    requires room { length bytes.now ≤ length dest.old + 1 }
-    requires begins { slice_index bytes.now 0 ≢ sentinel }
+    requires { FitsWhole bytes.now dest.old sentinel }
     ensures { DecodesFront dest.old (stretch (masked sentinel bytes.now)) dest.new result.0
         result.1 }
 {

@@ -51,22 +51,22 @@ module _ (g : _) (c : After-copy_frame_until-n g) where
   all = take_all (length source - 1) (drop 1 source) (omega (arith, length-drop 1 source))
 
   within : n + 1 ≤ length source
-  within = omega (arith, c.copy_frame_until-n.ensures.stops.within, ap length all, length-drop 1 source, c.requires.some)
+  within = omega (arith, c.copy_frame_until-n.ensures.stops.within, ap length all, length-drop 1 source, c.requires.fits.some)
 
   room : n ≤ length old
-  room = omega (arith, within, c.requires.room)
+  room = omega (arith, within, c.requires.fits.room)
 
   byte_at : (k : ℕ) → get_or (take (length source - 1) (drop 1 source)) k 0 ≡ get_or source (1 + k) 0
   byte_at k = ap (λ b. get_or b k 0) all ∙ get_or-drop 1 source k 0
 
   none : (k : ℕ) → k < n + 1 → get_or source k 0 ≢ key
-  none = none_with key n source c.requires.begins (λ k l e. c.copy_frame_until-n.ensures.stops.none k l (byte_at k ∙ e))
+  none = none_with key n source c.requires.fits.begins (λ k l e. c.copy_frame_until-n.ensures.stops.none k l (byte_at k ∙ e))
 
   ends : n + 1 < length source → get_or source (n + 1) 0 ≡ key
   ends l = ap (λ j. get_or source j 0) (omega arith) ∙ sym (byte_at n) ∙ c.copy_frame_until-n.ensures.stops.end (omega (arith, l, ap length all, length-drop 1 source))
 
   first : stretch (masked key source) ≡ code ∷ bytes
-  first = sym (stretch_front key source (n + 1) within none ends) ∙ first_of key n source c.requires.some
+  first = sym (stretch_front key source (n + 1) within none ends) ∙ first_of key n source c.requires.fits.some
 
   long : length bytes ≡ n
   long = masked_length key (take n (drop 1 source)) ∙ length-take-le n (drop 1 source) (omega (arith, length-drop 1 source, within))
@@ -127,10 +127,10 @@ put_zeros-state-requires-clause-short g c =
 
 pub copy_frame_until-n-requires-clause-room : goal.copy_frame_until-n-requires-clause-room
 copy_frame_until-n-requires-clause-room g c =
-    omega (arith, length-take (length c.args.source.now - 1) (drop 1 c.args.source.now), length-drop 1 c.args.source.now, c.requires.room)
+    omega (arith, length-take (length c.args.source.now - 1) (drop 1 c.args.source.now), length-drop 1 c.args.source.now, c.requires.fits.room)
 
 pub overflow_sub-code : goal.overflow_sub-code
-overflow_sub-code g c = masked_positive c.args.sentinel (get_or c.args.source.now 0 0) c.requires.begins
+overflow_sub-code g c = masked_positive c.args.sentinel (get_or c.args.source.now 0 0) c.requires.fits.begins
 
 pub returns : goal.returns
 returns g c =
@@ -140,6 +140,6 @@ returns g c =
       answers = c.answer_behind.ensures ∙ answer g e z.new.out z.result z.auto.out z.ensures.out z.ensures.state;
       end = end_is g e;
       some = omega (arith, end_is g e);
-      room = omega (arith, end_is g e, within g e, c.requires.room);
+      room = omega (arith, end_is g e, within g e, c.requires.fits.room);
       buffer = over g e z.new.out z.result z.auto.out z.ensures.out z.ensures.state;
     }

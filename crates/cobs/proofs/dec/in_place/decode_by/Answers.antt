@@ -7,15 +7,6 @@ decode_short_in_place-requires-clause-stops g c = c.before_few-few.ensures
 pub decode_short_in_place-requires-clause-bytes : goal.decode_short_in_place-requires-clause-bytes
 decode_short_in_place-requires-clause-bytes g c = c.all_bytes.ensures
 
-pub returns-then-buf-le64-clause-answer : goal.returns-then-buf-le64-clause-answer
-returns-then-buf-le64-clause-answer g c = c.decode_short_in_place.ensures.answer
-
-pub returns-then-buf-le64-clause-buffer : goal.returns-then-buf-le64-clause-buffer
-returns-then-buf-le64-clause-buffer g c = c.decode_short_in_place.ensures.buffer
-
-pub returns-then-buf-le64-clause-bytes : goal.returns-then-buf-le64-clause-bytes
-returns-then-buf-le64-clause-bytes g c = c.all_bytes.ensures
-
 pub decode_long_apart-requires-clause-begins : goal.decode_long_apart-requires-clause-begins
 decode_long_apart-requires-clause-begins g c = c.near_end-end.ensures.begins c.if-end-eq256.true
 
@@ -29,11 +20,8 @@ decode_short_in_place-requires-2-clause-stops g c =
 pub decode_short_in_place-requires-2-clause-bytes : goal.decode_short_in_place-requires-2-clause-bytes
 decode_short_in_place-requires-2-clause-bytes g c = c.all_bytes.ensures
 
-pub returns-clause-answer : goal.returns-clause-answer
-returns-clause-answer g c = c.decode_short_in_place-2.ensures.answer
+pub returns-then-buf-le64 : goal.returns-then-buf-le64
+returns-then-buf-le64 g c = c.decode_short_in_place.ensures
 
-pub returns-clause-buffer : goal.returns-clause-buffer
-returns-clause-buffer g c = c.decode_short_in_place-2.ensures.buffer
-
-pub returns-clause-bytes : goal.returns-clause-bytes
-returns-clause-bytes g c = c.all_bytes.ensures
+pub returns : goal.returns
+returns g c = c.decode_short_in_place-2.ensures

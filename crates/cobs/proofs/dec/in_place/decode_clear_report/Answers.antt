@@ -11,8 +11,8 @@ none s bytes z k l = clear_byte s bytes k l (clear_at (masked s bytes) k z (omeg
 pub decode_long_apart-requires-clause-begins : goal.decode_long_apart-requires-clause-begins
 decode_long_apart-requires-clause-begins c = none c.args.sentinel c.args.frame.now c.requires 0 (omega (arith, c.if-end-gt255.true))
 
-pub returns-then-end-gt255-clause-answer : goal.returns-then-end-gt255-clause-answer
-returns-then-end-gt255-clause-answer c = c.decode_long_apart.ensures.answer
+pub returns-then-end-gt255 : goal.returns-then-end-gt255
+returns-then-end-gt255 c = c.decode_long_apart.ensures
 
 pub decode_short_in_place-requires-clause-stops : goal.decode_short_in_place-requires-clause-stops
 decode_short_in_place-requires-clause-stops c = record {

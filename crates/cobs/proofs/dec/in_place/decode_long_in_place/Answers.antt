@@ -136,13 +136,14 @@ ends g c =
     ends_here c.args.sentinel c.loop-buf.read (length c.loop-buf.buf - c.loop-buf.read) c.before_by_64.result c.loop-read.read c.args.buf.now c.loop-buf.buf c.loop-read.buf c.loop-buf.progress c.loop-read.progress c.loop-buf.invariant.reading c.loop-read.invariant.reading
     (omega arith) c.loop-buf.invariant.inside c.before_by_64.ensures.within end c.before_by_64.ensures.end
 
-pub returns-clause-answer : goal.returns-clause-answer
-returns-clause-answer g c =
-    c.with_parsed.ensures ∙ ap (with_parsed c.loop-read.read) c.answer_behind.ensures
-    ∙ done_answer (masked c.args.sentinel c.args.buf.now) _ _ (reading_done _ c.args.buf.now _ _ _ c.loop-read.invariant.reading (ends g (goal.at.returns-clause-answer g c).After-answer_behind))
-
-pub returns-clause-buffer : goal.returns-clause-buffer
-returns-clause-buffer g c = reading_holds _ _ _ _ _ c.loop-read.invariant.reading (ends g (goal.at.returns-clause-buffer g c).After-answer_behind)
+pub returns : goal.returns
+returns g c = record {
+  answer =
+      c.with_parsed.ensures ∙ ap (with_parsed c.loop-read.read) c.answer_behind.ensures
+      ∙ done_answer (masked c.args.sentinel c.args.buf.now) _ _ (reading_done _ c.args.buf.now _ _ _ c.loop-read.invariant.reading (ends g (goal.at.returns g c).After-answer_behind));
+  buffer = reading_holds _ _ _ _ _ c.loop-read.invariant.reading (ends g (goal.at.returns g c).After-answer_behind);
+  bytes = c.requires.bytes;
+}
 
 pub loop-read-init : goal.loop-read-init
 loop-read-init g c = record { reading = c.loop-buf.invariant.reading; within = omega arith; from = omega arith }

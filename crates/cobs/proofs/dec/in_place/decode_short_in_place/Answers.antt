@@ -97,26 +97,28 @@ overflow_sub-code c = masked_positive c.args.sentinel (get_or c.args.buf.now 0 0
 none_at : (key : ℕ) (old : List ℕ) → (0 < length old → get_or old 0 0 ≡ key) → stretch (masked key old) ≡ []
 none_at key old ends = sym (stretch_front key old 0 (omega arith) (λ k l. absurd (omega arith)) ends)
 
-pub returns-then-end-eq0-clause-answer : goal.returns-then-end-eq0-clause-answer
-returns-then-end-eq0-clause-answer c =
-    let ends : 0 < length c.args.buf.now → get_or c.args.buf.now 0 0 ≡ c.args.sentinel = rw c.if-end-eq0.true at c.requires.stops.end in
-    ap in_place (sym (none_at c.args.sentinel c.args.buf.now ends))
+pub returns-then-end-eq0 : goal.returns-then-end-eq0
+returns-then-end-eq0 c = record {
+  answer =
+      let ends : 0 < length c.args.buf.now → get_or c.args.buf.now 0 0 ≡ c.args.sentinel = rw c.if-end-eq0.true at c.requires.stops.end in
+      ap in_place (sym (none_at c.args.sentinel c.args.buf.now ends));
+  buffer =
+      let ends : 0 < length c.args.buf.now → get_or c.args.buf.now 0 0 ≡ c.args.sentinel = rw c.if-end-eq0.true at c.requires.stops.end in
+      sym (ap (λ f. overwritten (part f) c.args.buf.now) (none_at c.args.sentinel c.args.buf.now ends) ∙ ap (λ m. m ++ c.args.buf.now) (take_all (length c.args.buf.now) [] (omega arith)));
+  bytes = c.requires.bytes;
+}
 
-pub returns-then-end-eq0-clause-buffer : goal.returns-then-end-eq0-clause-buffer
-returns-then-end-eq0-clause-buffer c =
-    let ends : 0 < length c.args.buf.now → get_or c.args.buf.now 0 0 ≡ c.args.sentinel = rw c.if-end-eq0.true at c.requires.stops.end in
-    sym (ap (λ f. overwritten (part f) c.args.buf.now) (none_at c.args.sentinel c.args.buf.now ends) ∙ ap (λ m. m ++ c.args.buf.now) (take_all (length c.args.buf.now) [] (omega arith)))
-
-pub returns-clause-answer : goal.returns-clause-answer
-returns-clause-answer c =
-    let r = c.requires in
-    c.with_parsed.ensures ∙ ap (with_parsed c.args.end) c.answer_behind.ensures
-    ∙ answer c.args.sentinel c.args.end c.args.buf.now c.move_down.new.buffer (positive c.args.end c.if-end-eq0.false) r.stops.within r.stops.none r.stops.end c.move_down.ensures r.few (r.bytes 0) c.ranges.sentinel.fits c.put_zeros-state.new.out c.put_zeros-state.result c.put_zeros-state.auto.out c.put_zeros-state.ensures.out c.put_zeros-state.ensures.state
-
-pub returns-clause-buffer : goal.returns-clause-buffer
-returns-clause-buffer c =
-    let r = c.requires in
-    over c.args.sentinel c.args.end c.args.buf.now c.move_down.new.buffer (positive c.args.end c.if-end-eq0.false) r.stops.within r.stops.none r.stops.end c.move_down.ensures r.few (r.bytes 0) c.ranges.sentinel.fits c.put_zeros-state.new.out c.put_zeros-state.result c.put_zeros-state.auto.out c.put_zeros-state.ensures.out c.put_zeros-state.ensures.state
+pub returns : goal.returns
+returns c = record {
+  answer =
+      let r = c.requires in
+      c.with_parsed.ensures ∙ ap (with_parsed c.args.end) c.answer_behind.ensures
+      ∙ answer c.args.sentinel c.args.end c.args.buf.now c.move_down.new.buffer (positive c.args.end c.if-end-eq0.false) r.stops.within r.stops.none r.stops.end c.move_down.ensures r.few (r.bytes 0) c.ranges.sentinel.fits c.put_zeros-state.new.out c.put_zeros-state.result c.put_zeros-state.auto.out c.put_zeros-state.ensures.out c.put_zeros-state.ensures.state;
+  buffer =
+      let r = c.requires in
+      over c.args.sentinel c.args.end c.args.buf.now c.move_down.new.buffer (positive c.args.end c.if-end-eq0.false) r.stops.within r.stops.none r.stops.end c.move_down.ensures r.few (r.bytes 0) c.ranges.sentinel.fits c.put_zeros-state.new.out c.put_zeros-state.result c.put_zeros-state.auto.out c.put_zeros-state.ensures.out c.put_zeros-state.ensures.state;
+  bytes = c.requires.bytes;
+}
 
 pub bounds-buf-0 : goal.bounds-buf-0
 bounds-buf-0 c = grind (arith, common_steps)
