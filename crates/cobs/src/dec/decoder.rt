@@ -117,6 +117,7 @@ impl<'a> CobsDecoder<'a> {
         ensures sentinel { sentinel_of self.new ≡ sentinel_of self.old }
         ensures lent { lent_name self.new ≡ lent_name self.old }
     {
-        self.dest[place..place + bytes.len()].copy_from_slice(bytes);
+        let written = &mut self.dest[place..place + bytes.len()];
+        written.copy_from_slice(bytes);
     }
 }

@@ -1,9 +1,9 @@
 //! Decoding whole input into a slice.
 //!
-//! `decode` and `decode_with_sentinel` share `decode_part`. Up to 255 bytes that fit, or as many as fit before a
-//! sentinel, are searched while they are copied; longer input is checked and taken 255 at a time (`take_source`).
-//! Otherwise the end is searched first, and what doesn't fit is pushed or counted. Only bytes that are known to be in
-//! the frame are written. Loops are compiled twice, for zero and for any sentinel, which is a third slower.
+//! `decode` and `decode_with_sentinel` share `decode_part`. Up to 255 bytes that fit are searched while they are
+//! copied; longer input is checked and taken 255 at a time (`take_source`). If a source doesn't fit, its end is searched
+//! first, and what doesn't fit then is pushed or counted. Only bytes that are known to be in the frame are written.
+//! Loops are compiled twice, for zero and for any sentinel, which is a third slower.
 //!
 //! Rejected: searching 256 bytes first (678 instructions for 1 KiB without zeros, now 542); separate families for
 //! each sentinel, which agreed except in the report; copying searched vectors, which is faster only from 64 KiB on;
@@ -251,7 +251,6 @@ fn decode_before<const CALL: usize, const COPY: usize>(
 /// After each, `dest` begins with what the bytes determine of a message, as far as it fits.
 /// - `InvalidFrame`: the bytes aren't a frame.
 /// - `TargetBufTooSmall`: they are one, and its message is longer than `dest`.
-#[inline(always)]
 pub fn decode_with_sentinel(
     source: &[u8],
     dest: &mut [u8],
@@ -269,14 +268,6 @@ pub fn decode_with_sentinel(
         return decode_before::<1, 0>(source, dest, sentinel);
     }
     decode_before::<2, 1>(source, dest, sentinel)
-}
-
-// The same, not compiled into its caller.
-#[inline(never)]
-fn decode_elsewhere(source: &[u8], dest: &mut [u8], sentinel: u8) -> Result<usize, DecodeError>
-    ensures { DecodesInto dest.old (stretch (masked sentinel source.now)) dest.new result }
-{
-    decode_with_sentinel(source, dest, sentinel)
 }
 
 /// Decodes a complete frame, without its sentinel, each byte XORed with it, and returns the message's length.
@@ -310,5 +301,5 @@ pub fn decode_clear(frame: &[u8], dest: &mut [u8], sentinel: u8) -> Result<usize
     if has_room(frame, dest.len()) && is_short(frame, sentinel) {
         return decode_short(frame, dest, sentinel);
     }
-    apart(decode_elsewhere(frame, dest, sentinel))
+    apart(decode_with_sentinel(frame, dest, sentinel))
 }
