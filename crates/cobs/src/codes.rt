@@ -12,10 +12,9 @@
 //! Rejected: searching all input, which is quadratic without zeros; a search and a copy for each run, which is slow
 //! for dense zeros; inspecting before copying, a third slower without zeros; a separate step for 64 bytes, a fifth
 //! faster for zeros only, and five functions more.
-ghost use Rattle.std.specs.Prelude.{◌≡◌, ◌≢◌, ℕ, ◌+◌, ◌<◌, ◌≤◌, List, length, take, drop, slice_index, true};
+ghost use Rattle.std.specs.Prelude.{◌≡◌, ◌≢◌, ℕ, ◌+◌, ◌<◌, ◌≤◌, length, take, drop, slice_index, true};
 ghost use Rattle.std.specs.Int.{bit_at};
 ghost use Rattle.cobs.specs.Codes.{InBlock, FewInBlock, Coded, Marks, Stepped};
-ghost use Rattle.cobs.specs.InPlace.{written_over};
 ghost use Rattle.cobs.specs.Sentinel.{masked};
 
 use crate::moves::{copy_clear, copy_clear_64, copy_marked, marks_of, row_over, zeros_of_ends};

@@ -1,7 +1,6 @@
 //! Decoding: byte by byte by a table, in streams into a buffer, and whole input.
 
 mod decoder;
-mod frames;
 mod heapless;
 mod in_place;
 mod owned;

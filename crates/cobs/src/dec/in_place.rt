@@ -5,10 +5,10 @@ ghost use Rattle.cobs.specs.Reports.{frame_size};
 ghost use Rattle.cobs.specs.InPlace.{stretch, in_place, in_place_length, overwritten, DecodesInPlace};
 ghost use Rattle.cobs.specs.Sentinel.{masked, StopsAt};
 
-use super::frames::{answer_behind, apart, with_parsed};
 use super::progress::Progress;
 use super::report::{DecodeError, DecodeReport};
 use super::state::by_code;
+use super::whole::{answer_behind, apart, with_parsed};
 use super::window::put_zeros;
 use crate::finding::{before_by_64, before_few};
 use crate::moves::{is_clear_255, mask, move_down};

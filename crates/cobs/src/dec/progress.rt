@@ -4,8 +4,7 @@
 //! don't fit and chunks of up to 8 bytes go one by one. `take_255`, `take_some` and `take_some_within` have one caller
 //! for each copy, so they are inlined. `within` accompanies `answer` in contracts, since facts for each prefix don't
 //! bound an index.
-ghost use Rattle.std.specs.Prelude.{bit_xor, ◌≡◌, ◌≢◌, ◌^◌, ℕ, ◌+◌, ◌-◌, ◌<◌, ◌≤◌, List, [], ◌∷◌, ◌++◌, length, take, drop, slice_index, ◌↔◌, IsTrue, IfOk, IfSome, IsNone};
-ghost use Rattle.cobs.specs.Feeding.{placed};
+ghost use Rattle.std.specs.Prelude.{◌≡◌, ◌≢◌, ◌^◌, ℕ, ◌+◌, ◌-◌, ◌<◌, ◌≤◌, List, [], ◌∷◌, length, take, drop, slice_index, ◌↔◌, IsTrue, IfOk, IfSome};
 ghost use Rattle.cobs.specs.Sentinel.{masked};
 ghost use Rattle.cobs.specs.Streaming.{HasStreamed};
 
@@ -23,7 +22,7 @@ pub(crate) struct Progress {
 }
 
 impl Progress {
-    ghost use Rattle.cobs.specs.Feeding.{at_zero, at_byte};
+    ghost use Rattle.cobs.specs.Feeding.{at_zero};
     ghost use Rattle.cobs.specs.Taking.{FeedsByte, StoresByte, TakesPiece, Takes, Owes, left_in};
 
     pub(crate) fn new() -> Progress

@@ -1,5 +1,5 @@
 //! The bytes of a window: searched, copied without their sentinel, and zeros put at the codes.
-ghost use Rattle.std.specs.Prelude.{◌≡◌, ◌≢◌, ℕ, ◌+◌, ◌<◌, ◌≤◌, length, take, slice_index, true};
+ghost use Rattle.std.specs.Prelude.{◌≡◌, ℕ, ◌+◌, ◌<◌, ◌≤◌, length, take, slice_index, true};
 ghost use Rattle.cobs.specs.Frames.{part_from, after};
 ghost use Rattle.cobs.specs.Feeding.{stands_by};
 ghost use Rattle.cobs.specs.InPlace.{written_over};

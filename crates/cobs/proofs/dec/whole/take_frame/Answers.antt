@@ -2,7 +2,7 @@ use Rattle.std.proofs.Common.{[], sym, ◌∙◌, subst}
 use Rattle.cobs.specs.Sentinel.{masked}
 use Rattle.cobs.specs.Streaming.{HasStreamed}
 use Rattle.cobs.proofs.PushingLemmas.{clear_over, clear_taken}
-use Rattle.cobs.proofs.dec.frames.take_frame.Goals as goal
+use Rattle.cobs.proofs.dec.whole.take_frame.Goals as goal
 
 pub returns-in-Ok-clause-stands : goal.returns-in-Ok-clause-stands
 returns-in-Ok-clause-stands c =

@@ -2,7 +2,7 @@ use Rattle.std.proofs.Common.{length, sym, ◌∙◌, arith}
 use Rattle.cobs.specs.Sentinel.{masked}
 use Rattle.cobs.proofs.MaskingLemmas.{masked_length}
 use Rattle.cobs.proofs.ShortLemmas.{counted_broken, counted_over, counted_whole}
-use Rattle.cobs.proofs.dec.frames.decode_counted.Goals as goal
+use Rattle.cobs.proofs.dec.whole.decode_counted.Goals as goal
 
 pub returns-then-left-ne0 : goal.returns-then-left-ne0
 returns-then-left-ne0 c = record {

@@ -1,7 +1,7 @@
 use Rattle.std.proofs.Common.{ℕ, ◌≢◌, ◌<◌, ◌≤◌, ◌-◌, get_or, length}
 use Rattle.cobs.specs.Sentinel.{masked}
 use Rattle.cobs.proofs.ShortLemmas.{Entering}
-use Rattle.cobs.proofs.dec.frames.take_source.Given as goal
+use Rattle.cobs.proofs.dec.whole.take_source.Given as goal
 
 abbrev pub invariant-loop-read : goal.invariant-loop-read
 invariant-loop-read g l = record {

@@ -13,7 +13,7 @@ use Rattle.cobs.specs.declared.dec.progress.Progress.{Progress}
 use Rattle.cobs.proofs.MaskingLemmas.{masked_length, masked_get, masked_take, masked_drop}
 use Rattle.cobs.proofs.ShortLemmas.{Entering, entering_new, entered_long, entered_shorter, entering_byte, entering_front}
 use Rattle.cobs.proofs.SourcesLemmas.{clear_byte, masked_positive, stretch_front}
-use Rattle.cobs.proofs.dec.frames.take_source.Goals as goal
+use Rattle.cobs.proofs.dec.whole.take_source.Goals as goal
 
 -- what was taken in of a part of the bytes behind is of all of them
 longer : (p piece rest old new : List ℕ) (n m : ℕ) (d : Progress) → piece ≡ take m rest → TakesFront p piece old n d new → TakesFront p rest old n d new

@@ -11,8 +11,8 @@ use Rattle.cobs.specs.Whole.{decoded_into}
 use Rattle.cobs.proofs.MaskingLemmas.{masked_length}
 use Rattle.cobs.proofs.ShortLemmas.{window_answer, window_over, code_first, all_behind}
 use Rattle.cobs.proofs.SourcesLemmas.{clear_at}
-use Rattle.cobs.proofs.dec.frames.decode_short.Goals as goal
-use Rattle.cobs.proofs.dec.frames.decode_short.Goals.{After-decode_at_once-state}
+use Rattle.cobs.proofs.dec.whole.decode_short.Goals as goal
+use Rattle.cobs.proofs.dec.whole.decode_short.Goals.{After-decode_at_once-state}
 
 code_positive : (sentinel : ℕ) (frame : List ℕ) → 0 < length frame → NoZero (masked sentinel frame) → 0 < bit_xor sentinel (get_or frame 0 0)
 code_positive s [] l h = absurd (omega arith)

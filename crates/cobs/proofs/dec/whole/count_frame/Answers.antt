@@ -2,7 +2,7 @@ use Rattle.std.proofs.Common.{get_or}
 use Rattle.std.specs.Prelude.{bit_xor}
 use Rattle.cobs.proofs.FeedsLemmas.{frame_byte}
 use Rattle.cobs.proofs.WholesLemmas.{entering_on, entering_positive}
-use Rattle.cobs.proofs.dec.frames.count_frame.Goals as goal
+use Rattle.cobs.proofs.dec.whole.count_frame.Goals as goal
 
 pub loop-byte-preserved : goal.loop-byte-preserved
 loop-byte-preserved c =

@@ -13,8 +13,8 @@ use Rattle.cobs.proofs.MaskingLemmas.{masked_length, masked_take}
 use Rattle.cobs.proofs.ShortLemmas.{window_answer, window_over}
 use Rattle.cobs.proofs.SourcesLemmas.{masked_positive, stretch_front, stretch_clear, clear_at}
 use Rattle.cobs.proofs.WithinLemmas.{written_part}
-use Rattle.cobs.proofs.dec.frames.decode_near.Goals as goal
-use Rattle.cobs.proofs.dec.frames.decode_near.Goals.{After-copy_frame_until-n}
+use Rattle.cobs.proofs.dec.whole.decode_near.Goals as goal
+use Rattle.cobs.proofs.dec.whole.decode_near.Goals.{After-copy_frame_until-n}
 
 -- the code, and what is behind it
 first_of : (s n : ℕ) (source : List ℕ) → 0 < length source → masked s (take (n + 1) source) ≡ bit_xor s (get_or source 0 0) ∷ masked s (take n (drop 1 source))
