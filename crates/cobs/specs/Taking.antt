@@ -81,8 +81,8 @@ pub record TakesFront (p piece old : List ℕ) (n : ℕ)
   pub same : n ≡ 0 → new ≡ old
 
 -- The same of bytes that are each XORed with the sentinel, whatever bytes p of a frame came before (private contracts alone).
-abbrev pub Takes : Progress → List ℕ → ℕ → List ℕ → ℕ → Progress → List ℕ → Type 0
-Takes before old sentinel bytes n behind new =
+abbrev pub TakesOn : Progress → List ℕ → ℕ → List ℕ → ℕ → Progress → List ℕ → Type 0
+TakesOn before old sentinel bytes n behind new =
     (p : List ℕ) → HasStreamed before p → TakesFront p (masked sentinel bytes) old n behind new
 
 -- Bytes without zeros, some, were decoded, and they fitted: the result, how many they are, and the buffer (private contracts

@@ -4,7 +4,7 @@
 //! Rejected: `memchr`, which goes by a vector a step, and takes nearly twice as many instructions.
 ghost use Rattle.std.specs.Prelude.{◌≡◌, ◌≢◌, ℕ, ◌<◌, ◌≤◌, length, slice_index};
 ghost use Rattle.cobs.specs.InPlace.{stretch};
-ghost use Rattle.cobs.specs.Sentinel.{masked, StopsAt};
+ghost use Rattle.cobs.specs.Sentinel.{masked, ComeBefore};
 
 use crate::codes::lowest;
 use crate::moves::{is_clear, is_clear_255, zeros_of_some};
@@ -12,7 +12,7 @@ use crate::moves::{is_clear, is_clear_255, zeros_of_some};
 // How many of a few bytes come before the first sentinel.
 #[inline(always)]
 pub(crate) fn before_near(bytes: &[u8], sentinel: u8) -> usize
-    ensures { StopsAt sentinel bytes.now result }
+    ensures { ComeBefore sentinel bytes.now result }
 {
     for (end, byte) in bytes.iter().enumerate() {
         if *byte == sentinel {
@@ -26,7 +26,7 @@ pub(crate) fn before_near(bytes: &[u8], sentinel: u8) -> usize
 #[inline(always)]
 pub(crate) fn before_few(bytes: &[u8], sentinel: u8) -> usize
     requires { length bytes.now ≤ 64 }
-    ensures { StopsAt sentinel bytes.now result }
+    ensures { ComeBefore sentinel bytes.now result }
 {
     if bytes.len() < 4 {
         return before_near(bytes, sentinel);
@@ -41,7 +41,7 @@ pub(crate) fn before_few(bytes: &[u8], sentinel: u8) -> usize
 // The same in steps of 64, which seldom have one.
 #[inline(always)]
 pub(crate) fn before_by_64(bytes: &[u8], sentinel: u8) -> usize
-    ensures { StopsAt sentinel bytes.now result }
+    ensures { ComeBefore sentinel bytes.now result }
 {
     let mut at = 0;
     while 64 <= bytes.len() - at {
@@ -61,7 +61,7 @@ pub(crate) fn before_by_64(bytes: &[u8], sentinel: u8) -> usize
 // The same in steps of 255 as long as they have none.
 #[inline(always)]
 fn before_by_255(bytes: &[u8], sentinel: u8) -> usize
-    ensures { StopsAt sentinel bytes.now result }
+    ensures { ComeBefore sentinel bytes.now result }
 {
     let mut at = 0;
     while 255 <= bytes.len() - at && is_clear_255(&bytes[at..at + 255], sentinel) {
@@ -73,7 +73,7 @@ fn before_by_255(bytes: &[u8], sentinel: u8) -> usize
 // The same, compiled once for zero, with which nothing is XORed, and once for any sentinel.
 #[inline(never)]
 fn before_far(bytes: &[u8], sentinel: u8) -> usize
-    ensures { StopsAt sentinel bytes.now result }
+    ensures { ComeBefore sentinel bytes.now result }
 {
     if sentinel == 0 {
         before_by_255(bytes, 0)

@@ -3,7 +3,7 @@ ghost use Rattle.std.specs.Prelude.{◌≡◌, ◌≢◌, ℕ, ◌<◌, ◌≤�
 ghost use Rattle.cobs.specs.Frames.{Frame, NoZero, part};
 ghost use Rattle.cobs.specs.Reports.{frame_size};
 ghost use Rattle.cobs.specs.InPlace.{stretch, in_place, in_place_length, overwritten, DecodesInPlace};
-ghost use Rattle.cobs.specs.Sentinel.{masked, StopsAt};
+ghost use Rattle.cobs.specs.Sentinel.{masked, ComeBefore};
 
 use super::progress::Progress;
 use super::report::{DecodeError, DecodeReport};
@@ -22,7 +22,7 @@ fn decode_short_in_place(
     sentinel: u8,
 ) -> Result<DecodeReport, DecodeError>
     requires few { end ≤ 255 }
-    requires stops { StopsAt sentinel buf.old end }
+    requires stops { ComeBefore sentinel buf.old end }
     requires bytes { (k : ℕ) → slice_index buf.old k < 256 }
     ensures { DecodesInPlace buf.old (stretch (masked sentinel buf.old)) buf.new result }
 {
@@ -46,7 +46,7 @@ fn decode_short_in_place(
 fn near_end(bytes: &[u8], sentinel: u8) -> usize
     requires { 64 < length bytes.now }
     ensures few { result ≤ 256 }
-    ensures stops { result < 256 → StopsAt sentinel bytes.now result }
+    ensures stops { result < 256 → ComeBefore sentinel bytes.now result }
     ensures begins { result ≡ 256 → slice_index bytes.now 0 ≢ sentinel }
 {
     let one = sentinel ^ 1;

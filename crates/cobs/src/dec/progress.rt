@@ -23,7 +23,7 @@ pub(crate) struct Progress {
 
 impl Progress {
     ghost use Rattle.cobs.specs.Feeding.{at_zero};
-    ghost use Rattle.cobs.specs.Taking.{FeedsByte, StoresByte, TakesPiece, Takes, Owes, left_in};
+    ghost use Rattle.cobs.specs.Taking.{FeedsByte, StoresByte, TakesPiece, TakesOn, Owes, left_in};
 
     pub(crate) fn new() -> Progress
         ensures { HasStreamed result [] }
@@ -100,7 +100,7 @@ impl Progress {
         requires { 0 < length bytes.now → self.old.len + length bytes.now ≤ length buffer.old }
         ensures within { result ≤ length bytes.now }
         ensures len { self.new.len ≡ self.old.len + result }
-        ensures front { Takes self.old buffer.old sentinel bytes.now result self.new buffer.new }
+        ensures front { TakesOn self.old buffer.old sentinel bytes.now result self.new buffer.new }
     {
         let DecoderState::Grab(0) = self.state else {
             return 0;
@@ -122,7 +122,7 @@ impl Progress {
         ensures within { result ≤ length bytes.now }
         ensures len { self.new.len ≡ self.old.len + result }
         ensures coded { 0 < length bytes.now → result ≡ 0 → Owes self.new.state }
-        ensures front { Takes self.old buffer.old sentinel bytes.now result self.new buffer.new }
+        ensures front { TakesOn self.old buffer.old sentinel bytes.now result self.new buffer.new }
     {
         let len = self.len;
         match self.state {
@@ -158,7 +158,7 @@ impl Progress {
         ensures some { 0 < result }
         ensures within { result ≤ length bytes.now }
         ensures len { self.new.len ≤ self.old.len + result }
-        ensures front { Takes self.old buffer.old sentinel bytes.now result self.new buffer.new }
+        ensures front { TakesOn self.old buffer.old sentinel bytes.now result self.new buffer.new }
     {
         let row = self.take_row(buffer, bytes, sentinel);
         if 0 < row {
@@ -186,7 +186,7 @@ impl Progress {
         requires clear { (k : ℕ) → k < length bytes.now → slice_index bytes.now k ≢ sentinel }
         ensures some { 0 < result }
         ensures within { result ≤ length bytes.now }
-        ensures front { Takes self.old buffer.old sentinel bytes.now result self.new buffer.new }
+        ensures front { TakesOn self.old buffer.old sentinel bytes.now result self.new buffer.new }
     {
         if sentinel ^ bytes[0] == u8::MAX {
             if let DecoderState::GrabChain(0) = self.state {
@@ -209,7 +209,7 @@ impl Progress {
     )
         requires room { 0 < length bytes.now → self.old.len + length bytes.now ≤ length buffer.old }
         requires clear { (k : ℕ) → k < length bytes.now → slice_index bytes.now k ≢ sentinel }
-        ensures { Takes self.old buffer.old sentinel bytes.now (length bytes.now) self.new buffer.new }
+        ensures { TakesOn self.old buffer.old sentinel bytes.now (length bytes.now) self.new buffer.new }
     {
         let mut read: usize = 0;
         while read < bytes.len() {
@@ -227,7 +227,7 @@ impl Progress {
         requires clear { (k : ℕ) → read ≤ k → k < end → slice_index buffer.old k ≢ sentinel }
         ensures within { result ≤ end - read }
         ensures coded { read < end → result ≡ 0 → Owes self.new.state }
-        ensures front { Takes self.old buffer.old sentinel (take (end - read) (drop read buffer.old))
+        ensures front { TakesOn self.old buffer.old sentinel (take (end - read) (drop read buffer.old))
             result self.new buffer.new }
     {
         let len = self.len;
@@ -275,7 +275,7 @@ impl Progress {
         requires clear { (k : ℕ) → read ≤ k → k < end → slice_index buffer.old k ≢ sentinel }
         ensures some { 0 < result }
         ensures within { result ≤ end - read }
-        ensures front { Takes self.old buffer.old sentinel (take (end - read) (drop read buffer.old))
+        ensures front { TakesOn self.old buffer.old sentinel (take (end - read) (drop read buffer.old))
             result self.new buffer.new }
     {
         let taken = self.take_within(buffer, read, end, sentinel);
@@ -336,7 +336,7 @@ impl Progress {
         requires room { self.old.len + length bytes.now ≤ length buffer.old }
         ensures within { result ≤ length bytes.now }
         ensures len { self.new.len ≡ self.old.len + result }
-        ensures front { Takes self.old buffer.old sentinel bytes.now result self.new buffer.new }
+        ensures front { TakesOn self.old buffer.old sentinel bytes.now result self.new buffer.new }
     {
         let DecoderState::Grab(left) = self.state else {
             return 0;
@@ -354,7 +354,7 @@ impl Progress {
     #[inline(always)]
     fn take_stretch(&mut self, buffer: &mut [u8], piece: &[u8], sentinel: u8) -> usize
         ensures within { result ≤ length piece.now }
-        ensures front { Takes self.old buffer.old sentinel piece.now result self.new buffer.new }
+        ensures front { TakesOn self.old buffer.old sentinel piece.now result self.new buffer.new }
     {
         if let DecoderState::Idle = self.state {
             return 0;

@@ -3,7 +3,7 @@ ghost use Rattle.std.specs.Prelude.{◌≡◌, ℕ, ◌+◌, ◌<◌, ◌≤◌,
 ghost use Rattle.cobs.specs.Frames.{part_from, after};
 ghost use Rattle.cobs.specs.Feeding.{stands_by};
 ghost use Rattle.cobs.specs.InPlace.{written_over};
-ghost use Rattle.cobs.specs.Sentinel.{masked, StopsAt};
+ghost use Rattle.cobs.specs.Sentinel.{masked, ComeBefore};
 
 use super::state::DecoderState;
 use crate::codes::lowest;
@@ -25,7 +25,7 @@ pub(crate) const FEW: usize = 4;
 fn copy_few_until(bytes: &[u8], buffer: &mut [u8], place: usize, sentinel: u8) -> usize
     requires few { length bytes.now ≤ 64 }
     requires room { place + length bytes.now ≤ length buffer.old }
-    ensures stops { StopsAt sentinel bytes.now result }
+    ensures stops { ComeBefore sentinel bytes.now result }
     ensures buffer { buffer.new
         ≡ written_over place (take result (masked sentinel bytes.now)) buffer.old }
 {
@@ -38,7 +38,7 @@ fn copy_few_until(bytes: &[u8], buffer: &mut [u8], place: usize, sentinel: u8) -
 #[inline(always)]
 pub(crate) fn copy_until(bytes: &[u8], buffer: &mut [u8], place: usize, sentinel: u8) -> usize
     requires { place + length bytes.now ≤ length buffer.old }
-    ensures stops { StopsAt sentinel bytes.now result }
+    ensures stops { ComeBefore sentinel bytes.now result }
     ensures buffer { buffer.new
         ≡ written_over place (take result (masked sentinel bytes.now)) buffer.old }
 {
@@ -62,7 +62,7 @@ pub(crate) fn copy_until(bytes: &[u8], buffer: &mut [u8], place: usize, sentinel
 fn copy_short_until(bytes: &[u8], buffer: &mut [u8], place: usize, sentinel: u8) -> usize
     requires few { length bytes.now ≤ 64 }
     requires room { place + length bytes.now ≤ length buffer.old }
-    ensures stops { StopsAt sentinel bytes.now result }
+    ensures stops { ComeBefore sentinel bytes.now result }
     ensures buffer { buffer.new
         ≡ written_over place (take result (masked sentinel bytes.now)) buffer.old }
 {
@@ -90,7 +90,7 @@ pub(crate) fn copy_frame_until<const CALL: usize, const SHORT: bool>(
 ) -> usize
     requires few { SHORT ≡ true → length bytes.now ≤ 64 }
     requires room { place + length bytes.now ≤ length buffer.old }
-    ensures stops { StopsAt sentinel bytes.now result }
+    ensures stops { ComeBefore sentinel bytes.now result }
     ensures buffer { buffer.new
         ≡ written_over place (take result (masked sentinel bytes.now)) buffer.old }
 {
