@@ -4,7 +4,7 @@
 //! positions are known; `encode` uses it too. If the bytes don't fit, the position has length 0, which no frame has:
 //! an `Option` of a position would go through memory.
 ghost use Rattle.std.specs.Prelude.{◌≡◌, ◌+◌, ◌<◌, ◌≤◌, [], length};
-ghost use Rattle.cobs.specs.Held.{pushed, Laid, GoesOnFromBlock, GoesOnBy, WentOn, HoldsFrame};
+ghost use Rattle.cobs.specs.Held.{pushed, Laid, FitsBlock, GoesOnFromBlock, GoesOnBy, WentOn, HoldsFrame};
 ghost use Rattle.cobs.specs.Sentinel.{masked};
 
 use crate::codes::put_block;
@@ -21,10 +21,7 @@ pub(crate) struct Place {
 // says how 64 bytes are copied: 0 if few zeros are likely. Each caller has a copy of its own by its number.
 #[inline(always)]
 fn put_run<const WAY: usize>(dest: &mut [u8], at: Place, piece: &[u8], sentinel: u8) -> Place
-    requires laid { Laid (masked sentinel dest.old) at.code_at at.len }
-    requires room { at.len + length piece.now ≤ length dest.old }
-    requires short { at.len + length piece.now ≤ at.code_at + 255 }
-    requires some { 0 < length piece.now }
+    requires { FitsBlock dest.old sentinel at.code_at at.len piece.now }
     ensures holds { GoesOnBy (masked sentinel dest.old) at.code_at at.len piece.now
         (masked sentinel dest.new) result.code_at result.len }
 {
@@ -37,10 +34,7 @@ fn put_run<const WAY: usize>(dest: &mut [u8], at: Place, piece: &[u8], sentinel:
 // The same in one pass: for a few bytes a call that copies a slice costs more than they do.
 #[inline(always)]
 fn put_few(dest: &mut [u8], at: Place, piece: &[u8], sentinel: u8) -> Place
-    requires laid { Laid (masked sentinel dest.old) at.code_at at.len }
-    requires room { at.len + length piece.now ≤ length dest.old }
-    requires short { at.len + length piece.now ≤ at.code_at + 255 }
-    requires some { 0 < length piece.now }
+    requires { FitsBlock dest.old sentinel at.code_at at.len piece.now }
     ensures holds { GoesOnBy (masked sentinel dest.old) at.code_at at.len piece.now
         (masked sentinel dest.new) result.code_at result.len }
 {
@@ -62,10 +56,7 @@ fn put_few(dest: &mut [u8], at: Place, piece: &[u8], sentinel: u8) -> Place
 // The same for a first chunk, which opens the frame: compiled by itself, since its positions are known.
 #[inline(never)]
 fn put_first(piece: &[u8], dest: &mut [u8], sentinel: u8) -> Place
-    requires laid { Laid (masked sentinel dest.old) 0 1 }
-    requires room { length piece.now < length dest.old }
-    requires short { length piece.now ≤ 254 }
-    requires some { 0 < length piece.now }
+    requires { FitsBlock dest.old sentinel 0 1 piece.now }
     ensures holds { GoesOnBy (masked sentinel dest.old) 0 1 piece.now
         (masked sentinel dest.new) result.code_at result.len }
 {

@@ -7,15 +7,24 @@ pub returns-then-is_empty-clause-went_on : goal.returns-then-is_empty-clause-wen
 returns-then-is_empty-clause-went_on g c =
     went_all _ c.args.bytes.now c.args.bytes.now _ c.args.at.len c.args.at.code_at c.args.at.len c.requires refl (search rules)
 
-pub put_few-requires-clause-laid : goal.put_few-requires-clause-laid
-put_few-requires-clause-laid g c = c.requires.laid
+pub put_few-requires : goal.put_few-requires
+put_few-requires g c = record {
+  laid = c.requires.laid;
+  room = grind (arith, common_steps);
+  short = grind (arith, common_steps);
+  some = grind (arith, common_steps);
+}
 
 pub returns-then-end-at-clause-went_on : goal.returns-then-end-at-clause-went_on
 returns-then-end-at-clause-went_on g c = went_by _ _ _ c.args.at.code_at c.args.at.len _ _ c.requires c.put_few.ensures.holds
 
-pub put_first-requires-clause-laid : goal.put_first-requires-clause-laid
-put_first-requires-clause-laid g c =
-    (holds_first _ c.args.at.code_at c.args.at.len c.if-at-eq1.true c.requires).laid
+pub put_first-requires : goal.put_first-requires
+put_first-requires g c = record {
+  laid = (holds_first _ c.args.at.code_at c.args.at.len c.if-at-eq1.true c.requires).laid;
+  room = grind (arith, common_steps);
+  short = grind (arith, common_steps);
+  some = grind (arith, common_steps);
+}
 
 pub returns-then-bytes-dest-clause-went_on : goal.returns-then-bytes-dest-clause-went_on
 returns-then-bytes-dest-clause-went_on g c =
@@ -30,26 +39,8 @@ overflow_add-end g c = grind (arith, common_steps)
 pub overflow_add-at : goal.overflow_add-at
 overflow_add-at g c = grind (arith, common_steps)
 
-pub put_few-requires-clause-room : goal.put_few-requires-clause-room
-put_few-requires-clause-room g c = grind (arith, common_steps)
-
-pub put_few-requires-clause-short : goal.put_few-requires-clause-short
-put_few-requires-clause-short g c = grind (arith, common_steps)
-
-pub put_few-requires-clause-some : goal.put_few-requires-clause-some
-put_few-requires-clause-some g c = grind (arith, common_steps)
-
 pub returns-then-end-at-clause-nothing : goal.returns-then-end-at-clause-nothing
 returns-then-end-at-clause-nothing g c = grind (arith, common_steps)
-
-pub put_first-requires-clause-room : goal.put_first-requires-clause-room
-put_first-requires-clause-room g c = grind (arith, common_steps)
-
-pub put_first-requires-clause-short : goal.put_first-requires-clause-short
-put_first-requires-clause-short g c = grind (arith, common_steps)
-
-pub put_first-requires-clause-some : goal.put_first-requires-clause-some
-put_first-requires-clause-some g c = grind (arith, common_steps)
 
 pub returns-then-bytes-dest-clause-nothing : goal.returns-then-bytes-dest-clause-nothing
 returns-then-bytes-dest-clause-nothing g c = grind (arith, common_steps)

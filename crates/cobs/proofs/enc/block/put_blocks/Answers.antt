@@ -36,8 +36,13 @@ returns-then-dest-open g c =
     c.open_block-open.ensures.laid c.open_block-open.ensures.goes_on (search rules)
     (omega (arith, masked_length c.args.sentinel c.args.dest.now)) c.loop-rest.invariant.pushed_so_far
 
-pub put_run-place-requires-clause-laid : goal.put_run-place-requires-clause-laid
-put_run-place-requires-clause-laid g c = c.open_block-open.ensures.laid
+pub put_run-place-requires : goal.put_run-place-requires
+put_run-place-requires g c = record {
+  laid = c.open_block-open.ensures.laid;
+  room = grind (arith, common_steps);
+  short = grind (arith, common_steps);
+  some = grind (arith, common_steps);
+}
 
 pub loop-rest-preserved : goal.loop-rest-preserved
 loop-rest-preserved g c =
@@ -57,15 +62,6 @@ overflow_add-open g c = grind (arith, common_steps)
 
 pub overflow_sub-open : goal.overflow_sub-open
 overflow_sub-open g c = grind (arith, common_steps)
-
-pub put_run-place-requires-clause-room : goal.put_run-place-requires-clause-room
-put_run-place-requires-clause-room g c = grind (arith, common_steps)
-
-pub put_run-place-requires-clause-short : goal.put_run-place-requires-clause-short
-put_run-place-requires-clause-short g c = grind (arith, common_steps)
-
-pub put_run-place-requires-clause-some : goal.put_run-place-requires-clause-some
-put_run-place-requires-clause-some g c = grind (arith, common_steps)
 
 pub loop-rest-smaller : goal.loop-rest-smaller
 loop-rest-smaller g c = grind (arith, common_steps)
