@@ -1,5 +1,5 @@
 -- What is fed.
-use Rattle.std.proofs.Common.{◌≡◌, ℕ, ◌+◌, ◌-◌, ◌<◌, ◌≤◌, List, [], ◌++◌, length, drop, append-nil, ap, sym, subst, ◌∙◌, arith, ◌≢◌}
+use Rattle.std.proofs.Common.{◌≡◌, ℕ, ◌+◌, ◌≤◌, List, [], ◌++◌, length, drop, append-nil, ap, subst, ◌∙◌, arith, ◌≢◌}
 use Rattle.cobs.specs.InPlace.{stretch}
 use Rattle.cobs.specs.Sentinel.{masked}
 use Rattle.postcard.specs.Feeds.{Feeds, FeedsFor}
@@ -16,6 +16,16 @@ module _ {C : Type 0} {O : List ℕ → Type 0} {A : List ℕ → List ℕ → T
     more = λ l. absurd (e (omega (arith, l, before)));
     full = λ l. absurd (e (omega (arith, l, before)));
   }
+
+-- all of an input without a zero was kept
+pub feeds_kept : {C : Type 0} {O : List ℕ → Type 0} {A : List ℕ → List ℕ → Type 0} (room : ℕ) (held input kept : List ℕ) → stretch input ≡ input → length held + length input ≤ room → kept ≡ held ++ input → C → Feeds room held input C O A kept
+feeds_kept room held input kept e f k c = record {
+  nothing = λ z. (c, k ∙ ap (λ x. held ++ x) z ∙ append-nil held);
+  ended = λ l. absurd (omega (arith, l, ap length e));
+  full_ended = λ l. absurd (omega (arith, l, ap length e));
+  more = λ _ _. (c, k);
+  full = λ _ o. absurd (omega (arith, f, o));
+}
 
 -- the same said of other answers
 pub feeds_as : {C D : Type 0} {O P : List ℕ → Type 0} {A B : List ℕ → List ℕ → Type 0} {room : ℕ} {held input kept : List ℕ} → (C → D) → ((rest : List ℕ) → O rest → P rest) → ((f rest : List ℕ) → A f rest → B f rest)

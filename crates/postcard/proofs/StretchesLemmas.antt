@@ -1,9 +1,10 @@
 -- What the bytes before the first zero are.
-use Rattle.std.proofs.Common.{◌≡◌, ℕ, zero, suc, pred, ◌+◌, ◌<◌, ◌≤◌, ◌==◌, nat_lt, if◌then◌else◌, Bool, true, false, List, [], ◌∷◌, ◌++◌, length, take, drop, get_or, refl, sym, ◌∙◌, ap, subst, arith, length-append, ◌⊎◌, inl, inr, min, Option, Some, None, Result, Ok, Err}
+use Rattle.std.proofs.Common.{◌≡◌, ℕ, zero, suc, pred, ◌+◌, ◌<◌, ◌≤◌, ◌==◌, nat_lt, if◌then◌else◌, Bool, true, false, List, [], ◌∷◌, ◌++◌, length, take, drop, get_or, refl, sym, ◌∙◌, ap, subst, arith, length-append, ◌⊎◌, inl, inr, min, Result, Ok, Err}
 use Rattle.std.proofs.lemmas.List.{length-take-le, take_at, take_all, take-append-le}
 use Rattle.std.proofs.Common.{append_assoc, ◌-◌, length-drop}
 use borrow.Rule.Slice.PartMut.{put_mid, post_of}
-use Rattle.postcard.proofs.MasksLemmas.{masked_length, masked_append, masked_take}
+use Rattle.postcard.proofs.MasksLemmas.{masked_length, masked_append, masked_take, xor_twice}
+use Rattle.std.proofs.lemmas.Nat.{xor_comm}
 use Rattle.std.specs.Prelude.{bit_xor}
 use Rattle.std.proofs.lemmas.Bool.{ne_eqb, le-ltb}
 use Rattle.std.specs.List.{AllByRecursion}
@@ -73,6 +74,12 @@ unframed f new r p n h = (p.parsed, omega (arith, p.parsed, p.decoded, part_shor
 -- what is decoded is no longer than the bytes
 pub masked_short : (s : ℕ) (bytes : List ℕ) → length (stretch (masked s bytes)) ≤ length bytes
 masked_short s bytes = omega (arith, stretch_short (masked s bytes), masked_length s bytes)
+
+-- a byte alone that isn't the sentinel
+pub alone_clear : (s : ℕ) (bytes : List ℕ) → length bytes ≡ 1 → (get_or bytes 0 0 ≡ s → ⊥) → stretch (masked s bytes) ≡ masked s bytes
+alone_clear s [] n e = absurd (omega (arith, n))
+alone_clear s (b ∷ []) n e = rw (ne_eqb (bit_xor s b) 0 (λ z. e (sym (xor_twice s b) ∙ ap (bit_xor s) z ∙ xor_comm s 0))) refl
+alone_clear s (b ∷ c ∷ rest) n e = absurd (omega (arith, n))
 
 -- where there is no zero
 whole_cons : (b : ℕ) (s : List ℕ) → (length (stretch s) ≡ length s → stretch s ≡ s) → length (stretch (b ∷ s)) ≡ length (b ∷ s) → stretch (b ∷ s) ≡ b ∷ s
