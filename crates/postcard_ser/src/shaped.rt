@@ -6,6 +6,7 @@ use crate::serializer::Serializer;
 use postcard_tree::{Own, Result};
 
 impl<'a, T: Serialize> Serialize for &'a T {
+    #[inline(always)]
     fn serialize<F: Flavor>(&self, serializer: &mut Serializer<F>) -> Result<()> {
         (**self).serialize(serializer)
     }
