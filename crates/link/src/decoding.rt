@@ -198,7 +198,6 @@ impl<const N: usize> Decoding for ArrayBuffer<N> {
         decode_front(&mut self.bytes[..], count)
     }
 
-    #[inline(never)]
     fn decode_whole(&mut self, frame: &[u8], sentinel: u8) -> Option<usize> {
         self.count = 0;
         decode_into(&mut self.bytes[..], frame, sentinel)
@@ -235,7 +234,6 @@ impl Decoding for OwnedBuffer {
         decode_front(self.bytes.as_mut_slice(), count)
     }
 
-    #[inline(never)]
     fn decode_whole(&mut self, frame: &[u8], sentinel: u8) -> Option<usize> {
         self.count = 0;
         decode_into(self.bytes.as_mut_slice(), frame, sentinel)

@@ -389,6 +389,7 @@ impl<D: Decoding> Reception<D> {
     ///     Err(NoMemory) => println!(rt; "no memory")?,
     /// }
     /// ```
+    #[inline(always)]
     pub fn push<T: DeserializeOwned>(&mut self, alloc: Global, piece: &[u8]) -> Pushed<T>
         ensures within { result.used ≤ length piece.now }
         ensures forward { 0 < length piece.now → 0 < result.used }
@@ -414,6 +415,7 @@ impl<D: Decoding> Reception<D> {
     ///     receiver.push::<Vec<u8>>(alloc, piece)
     /// };
     /// ```
+    #[inline(always)]
     pub fn push_strict<T: DeserializeOwned + Exact>(
         &mut self,
         alloc: Global,
@@ -443,6 +445,7 @@ impl<D: Decoding> Reception<D> {
     /// let pushed = receiver.push_with(alloc, &Chosen { strict: true }, &LONGER);
     /// check(&rt, is_answer(&pushed.answer, &Answer::Damaged));
     /// ```
+    #[inline(always)]
     pub fn push_with<V, M: MessageReader<V>>(
         &mut self,
         alloc: Global,
