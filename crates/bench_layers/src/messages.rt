@@ -88,10 +88,7 @@ fn feed_piece(
     found: &mut Found,
 ) {
     let mut rest = piece;
-    for _ in 0..piece.len() {
-        if rest.is_empty() {
-            return;
-        }
+    while !rest.is_empty() {
         match accumulator.feed::<Owned>(alloc, rest) {
             FeedResult::Consumed => return,
             FeedResult::OverFull(after) | FeedResult::DeserError(after) => {

@@ -30,10 +30,7 @@ fn push_piece<D: Decoding>(
     found: &mut Found,
 ) {
     let mut rest = piece;
-    for _ in 0..piece.len() {
-        if rest.is_empty() {
-            return;
-        }
+    while !rest.is_empty() {
         let Pushed { used, answer, .. } = receiver.push::<Owned>(alloc, rest);
         rest = &rest[used..];
         count_pushed(answer, found);
@@ -48,10 +45,7 @@ fn push_piece_strict<D: Decoding>(
     found: &mut Found,
 ) {
     let mut rest = piece;
-    for _ in 0..piece.len() {
-        if rest.is_empty() {
-            return;
-        }
+    while !rest.is_empty() {
         let Pushed { used, answer, .. } = receiver.push_strict::<Owned>(alloc, rest);
         rest = &rest[used..];
         count_pushed(answer, found);
@@ -121,10 +115,7 @@ pub extern "C" fn link_c_push_for(alloc: Global, stream: &[u8], piece: usize, fo
 /// Pushes a chunk until it is used up, of records whose texts are read where they lie.
 fn push_piece_ref(alloc: Global, receiver: &mut Receiver<LIMIT>, piece: &[u8], found: &mut Found) {
     let mut rest = piece;
-    for _ in 0..piece.len() {
-        if rest.is_empty() {
-            return;
-        }
+    while !rest.is_empty() {
         let Pushed { used, answer, .. } = receiver.push_ref::<Lent<'_>>(alloc, rest);
         match answer {
             Ok(Some(answer)) => count_lent(Ok(answer), found),

@@ -102,10 +102,14 @@ runs_over limit s inside count past (kept p) x At e i h z = absurd (let no : pas
 runs_over limit s inside count past over x At e i h z = record { now = over; at = h; rest = λ later. over_on limit s x later z }
 
 -- one byte that isn't the sentinel
-pub one_clear : (own s : ℕ) (bytes : List ℕ) → own ≡ s → length bytes ≡ 1 → (get_or bytes 0 0 ≡ own → ⊥) → NoZero (masked s bytes)
-one_clear own s [] d l n = tt
-one_clear own s (b ∷ []) d l n = (unlike s b (λ e. n (e ∙ sym d)), tt)
-one_clear own s (b ∷ c ∷ bytes) d l n = absurd (omega (arith, l))
+pub first_clear : (own s : ℕ) (bytes byte : List ℕ) → own ≡ s → byte ≡ take 1 bytes → 0 < length bytes → (get_or bytes 0 0 ≡ own → ⊥) → NoZero (masked s byte)
+first_clear own s [] byte d e l n = absurd (omega (arith, l))
+first_clear own s (b ∷ bytes) byte d e l n = subst (λ y. NoZero (masked s y)) (sym e) (unlike s b (λ q. n (q ∙ sym d)), tt)
+
+-- the first byte is the sentinel
+pub first_marked : (own s : ℕ) (bytes : List ℕ) → own ≡ s → 0 < length bytes → get_or bytes 0 0 ≡ own → bytes ≡ s ∷ drop 1 bytes
+first_marked own s [] d l e = absurd (omega (arith, l))
+first_marked own s (b ∷ bytes) d l e = ap (λ c. c ∷ bytes) (e ∙ d)
 
 -- Bytes are cut before their first sentinel.
 pub record IsCut (s : ℕ) (bytes run behind : List ℕ) (size : ℕ) : Type 0 where

@@ -61,6 +61,9 @@ pub struct Reception<D> {
     pub(crate) sentinel: u8,
 }
 
+// Up to so many bytes are taken one by one.
+const FEW: usize = 8;
+
 // How many sentinels come before the first other byte. An idle line sends nothing else, and may send it for hours.
 fn idle_bytes(bytes: &[u8], sentinel: u8) -> usize
     ensures idle { (limit : ℕ) → course_of limit sentinel (kept []) bytes.now
@@ -192,29 +195,32 @@ impl<D: Decoding> Reception<D> {
         Found::Whole(size)
     }
 
-    // Takes one byte that isn't the sentinel: nothing is searched, and nothing comes after it.
+    // Takes the first byte.
     #[inline(always)]
-    fn take_one(&mut self, byte: &[u8]) -> Taken<usize>
-        requires one { length byte.now ≡ 1 }
-        requires other { slice_index byte.now 0 ≢ self.old.sentinel }
-        ensures at { (limit s : ℕ) (b : Begun) → IsAt D.inside limit s self.old b
-            → IsAt D.inside limit s self.new (course_of limit s b byte.now).begun }
-        ensures taken { (limit s : ℕ) (b : Begun) → IsAt D.inside limit s self.old b
-            → IsTaken limit (course_of limit s b byte.now)
-            (front_of (buffer_in D.inside self.new)) result }
+    fn take_first(&mut self, bytes: &[u8]) -> Taken<usize>
+        requires { 0 < length bytes.now }
+        ensures brings { (limit s : ℕ) (b : Begun) → IsAt D.inside limit s self.old b
+            → Brings limit s b bytes.now (front_of (buffer_in D.inside self.new)) result
+            (IsAt D.inside limit s self.new) }
         ensures within { IsWithin (length (buffer_in D.inside self.new)) result.found }
         ensures used { result.used ≡ 1 }
         ensures same { SameTerms D.inside self.old self.new }
     {
+        let (byte, _) = bytes.split_at(1);
+        if bytes[0] == self.sentinel {
+            let stretch = self.buffer.held();
+            return Taken {
+                used: 1,
+                stretch,
+                found: self.take_sentinel(),
+            };
+        }
         match self.take_run(byte) {
-            Some(used) => {
-                let stretch = self.limit();
-                Taken {
-                    used,
-                    stretch,
-                    found: Found::TooLong,
-                }
-            }
+            Some(used) => Taken {
+                used,
+                stretch: self.limit(),
+                found: Found::TooLong,
+            },
             None => Taken {
                 used: 1,
                 stretch: 0,
@@ -224,17 +230,22 @@ impl<D: Decoding> Reception<D> {
     }
 
     // Takes bytes through the first sentinel, or up to the byte past the limit. Whole runs are taken, and skipped past the limit, which
-    // is several times as fast as byte by byte. A stretch that is complete there is decoded from the chunk: one search, one copy.
+    // is several times as fast as byte by byte, but of few bytes. A stretch that is complete there is decoded from the chunk: one
+    // search, one copy.
     #[inline(always)]
     fn take_next(&mut self, bytes: &[u8]) -> Taken<usize>
+        requires { 0 < length bytes.now }
         ensures brings { (limit s : ℕ) (b : Begun) → IsAt D.inside limit s self.old b
             → Brings limit s b bytes.now (front_of (buffer_in D.inside self.new)) result
             (IsAt D.inside limit s self.new) }
         ensures within { IsWithin (length (buffer_in D.inside self.new)) result.found }
         ensures bound { result.used ≤ length bytes.now }
-        ensures forward { 0 < length bytes.now → 0 < result.used }
+        ensures forward { 0 < result.used }
         ensures same { SameTerms D.inside self.old self.new }
     {
+        if bytes.len() <= FEW {
+            return self.take_first(bytes);
+        }
         let sentinel = self.sentinel;
         let between = self.is_between();
         if between {
@@ -283,7 +294,7 @@ impl<D: Decoding> Reception<D> {
 
     // Takes bytes of a chunk, up to the first that gives a result.
     #[inline(always)]
-    fn take_many(&mut self, piece: &[u8]) -> Taken<usize>
+    pub(crate) fn take(&mut self, piece: &[u8]) -> Taken<usize>
         ensures at { (limit s : ℕ) (b : Begun) → IsAt D.inside limit s self.old b
             → IsAt D.inside limit s self.new (course_of limit s b piece.now).begun }
         ensures taken { (limit s : ℕ) (b : Begun) → IsAt D.inside limit s self.old b
@@ -319,25 +330,6 @@ impl<D: Decoding> Reception<D> {
             stretch: 0,
             found: Found::Nothing,
         }
-    }
-
-    // The same. A chunk of one byte makes no call, unless it is the sentinel.
-    #[inline(always)]
-    pub(crate) fn take(&mut self, piece: &[u8]) -> Taken<usize>
-        ensures at { (limit s : ℕ) (b : Begun) → IsAt D.inside limit s self.old b
-            → IsAt D.inside limit s self.new (course_of limit s b piece.now).begun }
-        ensures taken { (limit s : ℕ) (b : Begun) → IsAt D.inside limit s self.old b
-            → IsTaken limit (course_of limit s b piece.now)
-            (front_of (buffer_in D.inside self.new)) result }
-        ensures within { IsWithin (length (buffer_in D.inside self.new)) result.found }
-        ensures bound { result.used ≤ length piece.now }
-        ensures forward { 0 < length piece.now → 0 < result.used }
-        ensures same { SameTerms D.inside self.old self.new }
-    {
-        if piece.len() == 1 && piece[0] != self.sentinel {
-            return self.take_one(piece);
-        }
-        self.take_many(piece)
     }
 
     // The same with the message of a frame, which is at the front of the buffer.
