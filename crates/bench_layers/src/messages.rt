@@ -88,7 +88,10 @@ fn feed_piece(
     found: &mut Found,
 ) {
     let mut rest = piece;
-    while !rest.is_empty() {
+    for _ in 0..piece.len() {
+        if rest.is_empty() {
+            return;
+        }
         match accumulator.feed::<Owned>(alloc, rest) {
             FeedResult::Consumed => return,
             FeedResult::OverFull(after) | FeedResult::DeserError(after) => {

@@ -23,6 +23,7 @@ fn count_pushed(answer: Result<Option<Answer<Owned>>, NoMemory>, found: &mut Fou
 }
 
 /// Pushes a chunk until it is used up.
+#[inline(always)]
 fn push_piece<D: Decoding>(
     alloc: Global,
     receiver: &mut Reception<D>,
@@ -38,6 +39,7 @@ fn push_piece<D: Decoding>(
 }
 
 /// The same strictly.
+#[inline(always)]
 fn push_piece_strict<D: Decoding>(
     alloc: Global,
     receiver: &mut Reception<D>,
@@ -52,12 +54,17 @@ fn push_piece_strict<D: Decoding>(
     }
 }
 
-/// Pushes a stream in chunks of `piece` bytes into a receiver, and counts the answers. Nothing is found where `piece` is 0.
+/// Pushes a stream in chunks of `piece` bytes into a receiver, and counts the answers. Nothing is found where `piece` is 0. Chunks of one
+/// byte are compiled by themselves, as in the peers.
 #[unsafe(no_mangle)]
 pub extern "C" fn link_c_push(alloc: Global, stream: &[u8], piece: usize, found: &mut Found) {
     let mut receiver = Receiver::<LIMIT>::new();
     let mut counts = NONE_FOUND;
-    if piece > 0 {
+    if piece == 1 {
+        for bytes in stream.chunks(1) {
+            push_piece(alloc, &mut receiver, bytes, &mut counts);
+        }
+    } else if piece > 0 {
         for bytes in stream.chunks(piece) {
             push_piece(alloc, &mut receiver, bytes, &mut counts);
         }
@@ -113,6 +120,7 @@ pub extern "C" fn link_c_push_for(alloc: Global, stream: &[u8], piece: usize, fo
 }
 
 /// Pushes a chunk until it is used up, of records whose texts are read where they lie.
+#[inline(always)]
 fn push_piece_ref(alloc: Global, receiver: &mut Receiver<LIMIT>, piece: &[u8], found: &mut Found) {
     let mut rest = piece;
     while !rest.is_empty() {

@@ -3,6 +3,7 @@
 //! Of as many bytes as one to two vectors have, one vector takes the first and one the last.
 ghost use Rattle.std.specs.Prelude.{◌≡◌, ◌≢◌, ℕ, ◌+◌, ◌<◌, ◌≤◌, length, take, drop, replicate, slice_index, true, false, ◌^◌};
 ghost use Rattle.cobs.specs.Codes.{Fills, Marks};
+ghost use Rattle.cobs.specs.Frames.{NoZero};
 ghost use Rattle.cobs.specs.InPlace.{written_over};
 ghost use Rattle.cobs.specs.Sentinel.{masked};
 
@@ -77,6 +78,36 @@ fn copy_bytes(bytes: &[u8], buffer: &mut [u8], place: usize, sentinel: u8)
     for (i, byte) in bytes.iter().enumerate() {
         buffer[place + i] = sentinel ^ *byte;
     }
+}
+
+/// Copies bytes over those of a buffer, from a position on, up to the first sentinel, each XORed with it, and returns how many; all if
+/// there is none. It goes byte by byte, for a few.
+///
+/// # Requires
+/// All of them fit.
+///
+/// # Example
+/// ```rust
+/// let mut buffer = [7; 4];
+/// check(&rt, copy_until(&[3, 2, 10, 4], &mut buffer, 0, 10) == 2);
+/// check(&rt, are_equal(&buffer, &[9, 8, 7, 7]));
+/// ```
+#[inline(always)]
+pub fn copy_until(bytes: &[u8], buffer: &mut [u8], place: usize, sentinel: u8) -> usize
+    requires room { place + length bytes.now ≤ length buffer.old }
+    ensures within { result ≤ length bytes.now }
+    ensures clear { NoZero (masked sentinel (take result bytes.now)) }
+    ensures end { result < length bytes.now → slice_index bytes.now result ≡ sentinel }
+    ensures copied { buffer.new ≡ written_over place (masked sentinel (take result bytes.now))
+        buffer.old }
+{
+    for (end, byte) in bytes.iter().enumerate() {
+        if *byte == sentinel {
+            return end;
+        }
+        buffer[place + end] = sentinel ^ *byte;
+    }
+    bytes.len()
 }
 
 // The same of at most 64.

@@ -10,7 +10,7 @@ use Rattle.link.specs.Lemmas.MaskLaws.{masked_length, nonzero as unlike, NoZero-
 use Rattle.link.specs.declared.receiver.Answer.TheVariants.{Cut}
 use Rattle.link.specs.Steps.{event_at, ended, RunsOn}
 use Rattle.link.specs.Finds.{IsSpan}
-use Rattle.link.specs.Lemmas.RunLaws.{over_on, run_of, sentinel_behind}
+use Rattle.link.specs.Lemmas.RunLaws.{over_on, run_of, runs_on, sentinel_behind}
 use Rattle.link.proofs.BufferLemmas.{front_written, written_length}
 
 -- the limit is how long the buffer is
@@ -101,15 +101,26 @@ pub runs_over : (limit s : ℕ) (buffer : List ℕ) (count : ℕ) (past : Bool) 
 runs_over limit s inside count past (kept p) x At e i h z = absurd (let no : past ≡ false = i.0 in let w : true ≡ false = sym e ∙ no in cc)
 runs_over limit s inside count past over x At e i h z = record { now = over; at = h; rest = λ later. over_on limit s x later z }
 
--- one byte that isn't the sentinel
-pub first_clear : (own s : ℕ) (bytes byte : List ℕ) → own ≡ s → byte ≡ take 1 bytes → 0 < length bytes → (get_or bytes 0 0 ≡ own → ⊥) → NoZero (masked s byte)
-first_clear own s [] byte d e l n = absurd (omega (arith, l))
-first_clear own s (b ∷ bytes) byte d e l n = subst (λ y. NoZero (masked s y)) (sym e) (unlike s b (λ q. n (q ∙ sym d)), tt)
+-- a run that is held
+pub holds_run : (limit s own : ℕ) (old new : List ℕ) (count m : ℕ) (past : Bool) (b : Begun) (run : List ℕ) (At : Begun → Type 0) → own ≡ s → past ≡ false → IsAtBy limit s old count past b
+    → NoZero (masked own run) → count + length run ≤ length old → new ≡ written_over count (masked own run) old → m ≡ count + length run
+    → ((c : Begun) → IsAtBy limit s new m past c → At c) → RunsOn limit s b run At
+holds_run limit s own old new count m past b run At d e i z l w h at =
+    let k = kept_is limit s old count past b e i in
+    let x = masked s run in
+    let z' = subst (λ k. NoZero (masked k run)) d z in
+    let long = masked_length s run in
+    let near : length k.0 + length run ≤ limit = omega (arith, l, k.2.counted, k.2.room) in
+    runs_on limit s b k.0 run At k.1 z' near
+    (at (kept (k.0 ++ x)) (e, has_run limit s old new count m k.0 x k.2 (omega (arith, h, long)) z' (omega (arith, near, long, k.2.counted)) (subst (λ k. new ≡ written_over count (masked k run) old) d w)))
 
--- the first byte is the sentinel
-pub first_marked : (own s : ℕ) (bytes : List ℕ) → own ≡ s → 0 < length bytes → get_or bytes 0 0 ≡ own → bytes ≡ s ∷ drop 1 bytes
-first_marked own s [] d l e = absurd (omega (arith, l))
-first_marked own s (b ∷ bytes) d l e = ap (λ c. c ∷ bytes) (e ∙ d)
+-- the byte at a position is the sentinel
+pub marked_at : (own s n : ℕ) (bytes : List ℕ) → own ≡ s → n < length bytes → get_or bytes n 0 ≡ own → drop n bytes ≡ s ∷ drop (n + 1) bytes
+marked_at own s n [] d l e = absurd (omega (arith, l))
+marked_at own s zero (b ∷ bytes) d l e = ap (λ c. c ∷ bytes) (e ∙ d)
+marked_at own s (suc n) (b ∷ bytes) d l e =
+    let next : suc (n + 1) ≡ suc n + 1 = omega arith in
+    marked_at own s n bytes d (omega (arith, l)) e ∙ ap (λ k. s ∷ drop k (b ∷ bytes)) next
 
 -- Bytes are cut before their first sentinel.
 pub record IsCut (s : ℕ) (bytes run behind : List ℕ) (size : ℕ) : Type 0 where

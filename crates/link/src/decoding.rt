@@ -1,5 +1,5 @@
 //! Where a receiver holds the bytes of a frame, so that receiving is written once.
-ghost use Rattle.std.specs.Prelude.{◌≡◌, ℕ, ◌+◌, ◌≤◌, length, take, vec_len};
+ghost use Rattle.std.specs.Prelude.{◌≡◌, ℕ, ◌+◌, ◌<◌, ◌≤◌, length, take, slice_index, vec_len};
 ghost use Rattle.std.proofs.Props.{props};
 ghost use Rattle.cobs.specs.Frames.{NoZero};
 ghost use Rattle.cobs.specs.InPlace.{written_over};
@@ -34,6 +34,20 @@ pub trait Decoding {
             (masked sentinel bytes.now) (inside self.old).bytes }
         ensures count { (inside self.new).count
             ≡ (inside self.old).count + length bytes.now };
+
+    /// Holds bytes up to the first sentinel, each XORed with it, and returns how many. It goes byte by byte, for a few.
+    ///
+    /// # Requires
+    /// All of them fit.
+    fn hold_until(&mut self, bytes: &[u8], sentinel: u8) -> usize
+        requires room { (inside self.old).count + length bytes.now
+            ≤ length (inside self.old).bytes }
+        ensures within { result ≤ length bytes.now }
+        ensures clear { NoZero (masked sentinel (take result bytes.now)) }
+        ensures end { result < length bytes.now → slice_index bytes.now result ≡ sentinel }
+        ensures bytes { (inside self.new).bytes ≡ written_over (inside self.old).count
+            (masked sentinel (take result bytes.now)) (inside self.old).bytes }
+        ensures count { (inside self.new).count ≡ (inside self.old).count + result };
 
     /// Holds nothing.
     fn clear(&mut self)
@@ -187,6 +201,13 @@ impl<const N: usize> Decoding for ArrayBuffer<N> {
         self.count += bytes.len();
     }
 
+    #[inline(always)]
+    fn hold_until(&mut self, bytes: &[u8], sentinel: u8) -> usize {
+        let count = cobs::copy_until(bytes, &mut self.bytes[..], self.count, sentinel);
+        self.count += count;
+        count
+    }
+
     fn clear(&mut self) {
         self.count = 0;
     }
@@ -221,6 +242,13 @@ impl Decoding for OwnedBuffer {
     fn hold(&mut self, bytes: &[u8], sentinel: u8) {
         cobs::copy_over(bytes, self.bytes.as_mut_slice(), self.count, sentinel);
         self.count += bytes.len();
+    }
+
+    #[inline(always)]
+    fn hold_until(&mut self, bytes: &[u8], sentinel: u8) -> usize {
+        let count = cobs::copy_until(bytes, self.bytes.as_mut_slice(), self.count, sentinel);
+        self.count += count;
+        count
     }
 
     fn clear(&mut self) {

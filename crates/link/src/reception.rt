@@ -1,5 +1,5 @@
 //! Receiving values from a stream that comes in chunks.
-ghost use Rattle.std.specs.Prelude.{◌≡◌, ◌≢◌, ℕ, ◌<◌, ◌≤◌, ◌↔◌, length, slice_index, List, [], take, drop, true, OnErr, IsTrue, IfSome, MatchOption};
+ghost use Rattle.std.specs.Prelude.{◌≡◌, ℕ, ◌+◌, ◌<◌, ◌≤◌, ◌↔◌, length, List, [], take, drop, true, false, OnErr, IsTrue, IfSome, MatchOption};
 ghost use Rattle.postcard.specs.Frames.{Holds};
 ghost use Rattle.cobs.specs.Frames.{NoZero};
 ghost use Rattle.cobs.specs.Sentinel.{masked};
@@ -61,7 +61,7 @@ pub struct Reception<D> {
     pub(crate) sentinel: u8,
 }
 
-// Up to so many bytes are taken one by one.
+// Up to so many bytes are taken byte by byte.
 const FEW: usize = 8;
 
 // How many sentinels come before the first other byte. An idle line sends nothing else, and may send it for hours.
@@ -102,7 +102,7 @@ pub(crate) fn read<V, M: MessageReader<V>>(
 }
 
 impl<D: Decoding> Reception<D> {
-    ghost use Rattle.link.specs.Receivers.{IsAt, IsBehind, OnBegun, SameTerms, buffer_in, limit_of, sentinel_of, IsBetween};
+    ghost use Rattle.link.specs.Receivers.{IsAt, IsBehind, OnBegun, SameTerms, buffer_in, count_in, limit_of, sentinel_of, IsBetween};
     ghost use Rattle.link.specs.Lending.{StandsFurther, AnswersPush, TellsStretch};
 
     /// The greatest number of bytes between two sentinels.
@@ -195,37 +195,33 @@ impl<D: Decoding> Reception<D> {
         Found::Whole(size)
     }
 
-    // Takes the first byte.
+    // Takes a few bytes through the first sentinel: each is searched and held at once.
     #[inline(always)]
-    fn take_first(&mut self, bytes: &[u8]) -> Taken<usize>
-        requires { 0 < length bytes.now }
+    fn take_few(&mut self, bytes: &[u8]) -> Taken<usize>
+        requires begun { self.old.past ≡ false }
+        requires room { count_in D.inside self.old + length bytes.now
+            ≤ limit_of D.inside self.old }
         ensures brings { (limit s : ℕ) (b : Begun) → IsAt D.inside limit s self.old b
             → Brings limit s b bytes.now (front_of (buffer_in D.inside self.new)) result
             (IsAt D.inside limit s self.new) }
         ensures within { IsWithin (length (buffer_in D.inside self.new)) result.found }
-        ensures used { result.used ≡ 1 }
+        ensures bound { result.used ≤ length bytes.now }
+        ensures forward { 0 < length bytes.now → 0 < result.used }
         ensures same { SameTerms D.inside self.old self.new }
     {
-        let (byte, _) = bytes.split_at(1);
-        if bytes[0] == self.sentinel {
-            let stretch = self.buffer.held();
+        let used = self.buffer.hold_until(bytes, self.sentinel);
+        if used == bytes.len() {
             return Taken {
-                used: 1,
-                stretch,
-                found: self.take_sentinel(),
-            };
-        }
-        match self.take_run(byte) {
-            Some(used) => Taken {
                 used,
-                stretch: self.limit(),
-                found: Found::TooLong,
-            },
-            None => Taken {
-                used: 1,
                 stretch: 0,
                 found: Found::Nothing,
-            },
+            };
+        }
+        let stretch = self.buffer.held();
+        Taken {
+            used: used + 1,
+            stretch,
+            found: self.take_sentinel(),
         }
     }
 
@@ -234,17 +230,16 @@ impl<D: Decoding> Reception<D> {
     // search, one copy.
     #[inline(always)]
     fn take_next(&mut self, bytes: &[u8]) -> Taken<usize>
-        requires { 0 < length bytes.now }
         ensures brings { (limit s : ℕ) (b : Begun) → IsAt D.inside limit s self.old b
             → Brings limit s b bytes.now (front_of (buffer_in D.inside self.new)) result
             (IsAt D.inside limit s self.new) }
         ensures within { IsWithin (length (buffer_in D.inside self.new)) result.found }
         ensures bound { result.used ≤ length bytes.now }
-        ensures forward { 0 < result.used }
+        ensures forward { 0 < length bytes.now → 0 < result.used }
         ensures same { SameTerms D.inside self.old self.new }
     {
-        if bytes.len() <= FEW {
-            return self.take_first(bytes);
+        if bytes.len() <= FEW && !self.past && bytes.len() <= self.limit() - self.buffer.held() {
+            return self.take_few(bytes);
         }
         let sentinel = self.sentinel;
         let between = self.is_between();

@@ -196,11 +196,3 @@ module _ {M : Type 0} (limit s : ℕ) (b : Begun) (bytes run behind : List ℕ) 
       let q = event_is limit s run some in
       sentinel_brings sized (λ now. now ≡ kept (masked s run)) r At marked (subst At (sym (begun_is limit s (masked s run))) h) size
       (subst (λ x. IsSpan limit x size) (sym q) (omega (arith, sized, masked_length s run))) found (subst (λ x. Finds message x found) (sym q) f)
-
--- the sentinel as the first byte
-pub first_brings : {M : Type 0} (limit s : ℕ) (b : Begun) (bytes : List ℕ) (message : M → List ℕ) (At : Begun → Type 0) → bytes ≡ s ∷ drop 1 bytes → At (begun_at limit s b s)
-    → (stretch : ℕ) → IsSpan limit (event_at limit s b s) stretch → (found : Found M) → Finds message (event_at limit s b s) found → Brings limit s b bytes message (record { used = 1; stretch = stretch; found = found }) At
-first_brings limit s b bytes message At marked h stretch n found f =
-    let k = course_of limit s b in
-    let r : RunsOn limit s b [] (λ now. now ≡ b) = record { now = b; at = refl; rest = λ later. course_as (k later).used (0 + (k later).used) (k later).event (k later).begun (omega arith) } in
-    sentinel_brings limit s b bytes [] bytes message 0 refl refl (λ now. now ≡ b) r At marked h stretch n found f
