@@ -9,6 +9,7 @@ use link::{
     receive_by_accumulator, receive_owned, receive_owned_strict, receive_strict,
 };
 use std::alloc::Global;
+use std::slice;
 
 /// How many bytes a stretch has at most.
 const LIMIT: usize = 512;
@@ -61,8 +62,9 @@ pub extern "C" fn link_c_push(alloc: Global, stream: &[u8], piece: usize, found:
     let mut receiver = Receiver::<LIMIT>::new();
     let mut counts = NONE_FOUND;
     if piece == 1 {
-        for bytes in stream.chunks(1) {
-            push_piece(alloc, &mut receiver, bytes, &mut counts);
+        for byte in stream {
+            let Pushed { answer, .. } = receiver.push::<Owned>(alloc, slice::from_ref(byte));
+            count_pushed(answer, &mut counts);
         }
     } else if piece > 0 {
         for bytes in stream.chunks(piece) {

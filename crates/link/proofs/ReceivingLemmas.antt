@@ -114,6 +114,14 @@ holds_run limit s own old new count m past b run At d e i z l w h at =
     runs_on limit s b k.0 run At k.1 z' near
     (at (kept (k.0 ++ x)) (e, has_run limit s old new count m k.0 x k.2 (omega (arith, h, long)) z' (omega (arith, near, long, k.2.counted)) (subst (λ k. new ≡ written_over count (masked k run) old) d w)))
 
+-- the same of the bytes before the first sentinel
+pub holds_front : (limit s own : ℕ) (old new : List ℕ) (count m n : ℕ) (past : Bool) (b : Begun) (bytes : List ℕ) (At : Begun → Type 0) → own ≡ s → past ≡ false → IsAtBy limit s old count past b
+    → n ≤ length bytes → NoZero (masked own (take n bytes)) → count + length bytes ≤ length old → new ≡ written_over count (masked own (take n bytes)) old → m ≡ count + n
+    → ((c : Begun) → IsAtBy limit s new m past c → At c) → RunsOn limit s b (take n bytes) At
+holds_front limit s own old new count m n past b bytes At d e i w z l h k at =
+    let sized = length-take-le n bytes w in
+    holds_run limit s own old new count m past b (take n bytes) At d e i z (omega (arith, sized, w, l)) h (omega (arith, sized, k)) at
+
 -- the byte at a position is the sentinel
 pub marked_at : (own s n : ℕ) (bytes : List ℕ) → own ≡ s → n < length bytes → get_or bytes n 0 ≡ own → drop n bytes ≡ s ∷ drop (n + 1) bytes
 marked_at own s n [] d l e = absurd (omega (arith, l))

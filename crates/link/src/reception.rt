@@ -1,5 +1,5 @@
 //! Receiving values from a stream that comes in chunks.
-ghost use Rattle.std.specs.Prelude.{◌≡◌, ℕ, ◌+◌, ◌<◌, ◌≤◌, ◌↔◌, length, List, [], take, drop, true, false, OnErr, IsTrue, IfSome, MatchOption};
+ghost use Rattle.std.specs.Prelude.{◌≡◌, ◌≢◌, ℕ, ◌+◌, ◌<◌, ◌≤◌, ◌↔◌, length, slice_index, List, [], take, drop, true, false, OnErr, IsTrue, IfSome, MatchOption};
 ghost use Rattle.postcard.specs.Frames.{Holds};
 ghost use Rattle.cobs.specs.Frames.{NoZero};
 ghost use Rattle.cobs.specs.Sentinel.{masked};
@@ -195,39 +195,8 @@ impl<D: Decoding> Reception<D> {
         Found::Whole(size)
     }
 
-    // Takes a few bytes through the first sentinel: each is searched and held at once.
-    #[inline(always)]
-    fn take_few(&mut self, bytes: &[u8]) -> Taken<usize>
-        requires begun { self.old.past ≡ false }
-        requires room { count_in D.inside self.old + length bytes.now
-            ≤ limit_of D.inside self.old }
-        ensures brings { (limit s : ℕ) (b : Begun) → IsAt D.inside limit s self.old b
-            → Brings limit s b bytes.now (front_of (buffer_in D.inside self.new)) result
-            (IsAt D.inside limit s self.new) }
-        ensures within { IsWithin (length (buffer_in D.inside self.new)) result.found }
-        ensures bound { result.used ≤ length bytes.now }
-        ensures forward { 0 < length bytes.now → 0 < result.used }
-        ensures same { SameTerms D.inside self.old self.new }
-    {
-        let used = self.buffer.hold_until(bytes, self.sentinel);
-        if used == bytes.len() {
-            return Taken {
-                used,
-                stretch: 0,
-                found: Found::Nothing,
-            };
-        }
-        let stretch = self.buffer.held();
-        Taken {
-            used: used + 1,
-            stretch,
-            found: self.take_sentinel(),
-        }
-    }
-
     // Takes bytes through the first sentinel, or up to the byte past the limit. Whole runs are taken, and skipped past the limit, which
-    // is several times as fast as byte by byte, but of few bytes. A stretch that is complete there is decoded from the chunk: one
-    // search, one copy.
+    // is several times as fast as byte by byte. A stretch that is complete there is decoded from the chunk: one search, one copy.
     #[inline(always)]
     fn take_next(&mut self, bytes: &[u8]) -> Taken<usize>
         ensures brings { (limit s : ℕ) (b : Begun) → IsAt D.inside limit s self.old b
@@ -238,9 +207,6 @@ impl<D: Decoding> Reception<D> {
         ensures forward { 0 < length bytes.now → 0 < result.used }
         ensures same { SameTerms D.inside self.old self.new }
     {
-        if bytes.len() <= FEW && !self.past && bytes.len() <= self.limit() - self.buffer.held() {
-            return self.take_few(bytes);
-        }
         let sentinel = self.sentinel;
         let between = self.is_between();
         if between {
@@ -289,7 +255,7 @@ impl<D: Decoding> Reception<D> {
 
     // Takes bytes of a chunk, up to the first that gives a result.
     #[inline(always)]
-    pub(crate) fn take(&mut self, piece: &[u8]) -> Taken<usize>
+    fn take_many(&mut self, piece: &[u8]) -> Taken<usize>
         ensures at { (limit s : ℕ) (b : Begun) → IsAt D.inside limit s self.old b
             → IsAt D.inside limit s self.new (course_of limit s b piece.now).begun }
         ensures taken { (limit s : ℕ) (b : Begun) → IsAt D.inside limit s self.old b
@@ -325,6 +291,64 @@ impl<D: Decoding> Reception<D> {
             stretch: 0,
             found: Found::Nothing,
         }
+    }
+
+    // The same of few bytes, of which the first isn't the sentinel: each is searched and held at once.
+    #[inline(always)]
+    fn take_few(&mut self, piece: &[u8]) -> Taken<usize>
+        requires begun { self.old.past ≡ false }
+        requires some { 0 < length piece.now }
+        requires first { slice_index piece.now 0 ≢ self.old.sentinel }
+        requires room { count_in D.inside self.old + length piece.now
+            ≤ limit_of D.inside self.old }
+        ensures at { (limit s : ℕ) (b : Begun) → IsAt D.inside limit s self.old b
+            → IsAt D.inside limit s self.new (course_of limit s b piece.now).begun }
+        ensures taken { (limit s : ℕ) (b : Begun) → IsAt D.inside limit s self.old b
+            → IsTaken limit (course_of limit s b piece.now)
+            (front_of (buffer_in D.inside self.new)) result }
+        ensures within { IsWithin (length (buffer_in D.inside self.new)) result.found }
+        ensures bound { result.used ≤ length piece.now }
+        ensures forward { 0 < result.used }
+        ensures same { SameTerms D.inside self.old self.new }
+    {
+        let held = self.buffer.hold_until(piece, self.sentinel);
+        if held == piece.len() {
+            return Taken {
+                used: held,
+                stretch: 0,
+                found: Found::Nothing,
+            };
+        }
+        let stretch = self.buffer.held();
+        Taken {
+            used: held + 1,
+            stretch,
+            found: self.take_sentinel(),
+        }
+    }
+
+    // The same: few bytes that go on with a stretch, or begin one, take a shorter way.
+    #[inline(always)]
+    pub(crate) fn take(&mut self, piece: &[u8]) -> Taken<usize>
+        ensures at { (limit s : ℕ) (b : Begun) → IsAt D.inside limit s self.old b
+            → IsAt D.inside limit s self.new (course_of limit s b piece.now).begun }
+        ensures taken { (limit s : ℕ) (b : Begun) → IsAt D.inside limit s self.old b
+            → IsTaken limit (course_of limit s b piece.now)
+            (front_of (buffer_in D.inside self.new)) result }
+        ensures within { IsWithin (length (buffer_in D.inside self.new)) result.found }
+        ensures bound { result.used ≤ length piece.now }
+        ensures forward { 0 < length piece.now → 0 < result.used }
+        ensures same { SameTerms D.inside self.old self.new }
+    {
+        if 0 < piece.len()
+            && piece.len() <= FEW
+            && piece[0] != self.sentinel
+            && !self.past
+            && piece.len() <= self.limit() - self.buffer.held()
+        {
+            return self.take_few(piece);
+        }
+        self.take_many(piece)
     }
 
     // The same with the message of a frame, which is at the front of the buffer.

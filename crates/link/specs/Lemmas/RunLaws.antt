@@ -196,3 +196,11 @@ module _ {M : Type 0} (limit s : ℕ) (b : Begun) (bytes run behind : List ℕ) 
       let q = event_is limit s run some in
       sentinel_brings sized (λ now. now ≡ kept (masked s run)) r At marked (subst At (sym (begun_is limit s (masked s run))) h) size
       (subst (λ x. IsSpan limit x size) (sym q) (omega (arith, sized, masked_length s run))) found (subst (λ x. Finds message x found) (sym q) f)
+
+-- what comes about where something is found
+pub brings_some : {M : Type 0} (limit s : ℕ) (b : Begun) (bytes : List ℕ) (message : M → List ℕ) (used stretch : ℕ) (found : Found M) (At : Begun → Type 0) → (found ≡ Nothing → ⊥)
+    → Brings limit s b bytes message (record { used = used; stretch = stretch; found = found }) At → BringsAbout limit s b bytes message (record { used = used; stretch = stretch; found = found }) At
+brings_some limit s b bytes message used stretch Nothing At n h = absurd (n refl)
+brings_some limit s b bytes message used stretch Damaged At n h = h
+brings_some limit s b bytes message used stretch TooLong At n h = h
+brings_some limit s b bytes message used stretch (Whole m) At n h = h

@@ -24,7 +24,7 @@ returns-then-size-limit-clause-brings g c limit s b i =
     let e : b ≡ kept [] = k.1 ∙ ap kept (none_kept k.0 _ k.2.counted between.1) in
     let sized = c.split_at.ensures.front_len in
     let some : 0 < length run = omega (arith, sized, c.if-size-gt0.true) in
-    let short : length run ≤ limit = omega (arith, sized, c.if-size-limit.true, c.limit-then-size-gt0.ensures, k.2.room) in
+    let short : length run ≤ limit = omega (arith, sized, c.if-size-limit.true, c.limit.ensures, k.2.room) in
     let marked = cut.marked (has_bytes behind c.is_empty.result c.is_empty.ensures c.if-not-is_empty.true) in
     let w = c.take_whole.ensures.found limit s (subst (IsAt g.D.Decoding.inside limit s c.args.self.now) e i) some in
     whole_brings limit s b bytes run behind (front_of (buffer_in g.D.Decoding.inside c.take_whole.new.self)) _ cut.parts (IsAt g.D.Decoding.inside limit s c.take_whole.new.self)

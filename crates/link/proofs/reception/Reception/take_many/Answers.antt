@@ -1,7 +1,7 @@
 use Rattle.std.proofs.Common.{arith}
 use Rattle.std.proofs.lemmas.Grind.{common_steps}
 use Rattle.link.specs.Lemmas.RunLaws.{at_whole, taken_whole}
-use Rattle.link.proofs.reception.Reception.take.Goals as goal
+use Rattle.link.proofs.reception.Reception.take_many.Goals as goal
 
 pub returns-clause-at : goal.returns-clause-at
 returns-clause-at g c limit s b h = at_whole limit s b c.args.piece.now c.loop-at.at _ (omega arith) (c.loop-at.invariant.turns limit s b h)

@@ -1,7 +1,7 @@
 use Rattle.std.proofs.Common.{ℕ, ◌-◌, ◌≤◌, length}
 use Rattle.link.specs.Link.{Begun, IsAt, SameTerms}
 use Rattle.link.specs.Lemmas.RunLaws.{Turn}
-use Rattle.link.proofs.reception.Reception.take.Given as goal
+use Rattle.link.proofs.reception.Reception.take_many.Given as goal
 
 abbrev pub invariant-loop-at : goal.invariant-loop-at
 invariant-loop-at g l = record {
