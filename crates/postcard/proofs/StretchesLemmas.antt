@@ -1,11 +1,11 @@
 -- What the bytes before the first zero are.
 use Rattle.std.proofs.Common.{◌≡◌, ℕ, zero, suc, pred, ◌+◌, ◌<◌, ◌≤◌, ◌==◌, nat_lt, if◌then◌else◌, Bool, true, false, List, [], ◌∷◌, ◌++◌, length, take, drop, get_or, refl, sym, ◌∙◌, ap, subst, arith, length-append, ◌⊎◌, inl, inr, min, Result, Ok, Err}
-use Rattle.std.proofs.lemmas.List.{length-take-le, take_at, take_all, take-append-le}
+use Rattle.std.proofs.lemmas.List.{length-take-le, take_at, take_all, take-append-le, take_more, take_more_set}
 use Rattle.std.proofs.Common.{append_assoc, ◌-◌, length-drop}
 use borrow.Rule.Slice.PartMut.{put_mid, post_of}
 use Rattle.postcard.proofs.MasksLemmas.{masked_length, masked_append, masked_take, xor_twice}
 use Rattle.std.proofs.lemmas.Nat.{xor_comm}
-use Rattle.std.specs.Prelude.{bit_xor}
+use Rattle.std.specs.Prelude.{bit_xor, slice_set}
 use Rattle.std.proofs.lemmas.Bool.{ne_eqb, le-ltb}
 use Rattle.std.specs.List.{AllByRecursion}
 use Rattle.cobs.specs.Frames.{Frame, spelled, block, part, part_from, missing}
@@ -108,11 +108,20 @@ put_filled i k xs ys h =
     ap (take (i + length ys)) (sym (append_assoc (take i xs) ys (post_of i k xs)))
     ∙ take_at (take i xs ++ ys) (post_of i k xs) (i + length ys) (omega (arith, length-append (take i xs) ys, length-take-le i xs h))
 
-pub clear_filled : (s i k : ℕ) (xs ys zs : List ℕ) → i ≤ length xs → stretch (masked s (take i xs)) ≡ masked s (take i xs) → stretch (masked s ys) ≡ masked s ys → zs ≡ ys
-    → stretch (masked s (take (i + length ys) (put_mid i k xs zs))) ≡ masked s (take (i + length ys) (put_mid i k xs zs))
-clear_filled s i k xs ys zs h c e z =
-    let p : masked s (take (i + length ys) (put_mid i k xs zs)) ≡ masked s (take i xs) ++ masked s ys = ap (masked s) (rw z (put_filled i k xs ys h)) ∙ masked_append s (take i xs) ys in
-    ap stretch p ∙ (stretch_behind (masked s (take i xs)) (masked s ys) c ∙ ap (λ x. masked s (take i xs) ++ x) e) ∙ sym p
+-- clear bytes behind clear ones
+pub clear_behind : (s : ℕ) (held input both : List ℕ) → both ≡ held ++ input → stretch (masked s held) ≡ masked s held → stretch (masked s input) ≡ masked s input → stretch (masked s both) ≡ masked s both
+clear_behind s held input both e c d =
+    let p : masked s both ≡ masked s held ++ masked s input = ap (masked s) e ∙ masked_append s held input in
+    ap stretch p ∙ (stretch_behind (masked s held) (masked s input) c ∙ ap (λ x. masked s held ++ x) d) ∙ sym p
+
+-- one byte more was put behind a front
+pub put_more : (i place : ℕ) (start now bytes : List ℕ) → place + i < length now → i < length bytes → take (place + i) now ≡ take place start ++ take i bytes
+    → take (place + (i + 1)) (slice_set now (place + i) (get_or bytes i 0)) ≡ take place start ++ take (i + 1) bytes
+put_more i place start now bytes p q e =
+    let n : place + (i + 1) ≡ place + i + 1 = omega arith in
+    let b = get_or bytes i 0 in
+    ap (λ m. take m (slice_set now (place + i) b)) n ∙ take_more_set now (place + i) b p ∙ ap (λ x. x ++ b ∷ []) e
+    ∙ append_assoc (take place start) (take i bytes) (b ∷ []) ∙ ap (λ x. take place start ++ x) (sym (take_more bytes i 0 q))
 
 pub put_copied : (i k : ℕ) (xs ys zs : List ℕ) → i ≤ length xs → zs ≡ ys → take (i + length ys) (put_mid i k xs zs) ≡ take i xs ++ ys
 put_copied i k xs ys zs h z = rw z (put_filled i k xs ys h)
