@@ -1,4 +1,3 @@
-use Rattle.std.proofs.lemmas.Grind.{common_steps}
 use Rattle.std.proofs.Common.{◌+◌, ◌-◌, ◌≤◌, length, take, drop, length-take, length-drop, arith}
 use Rattle.cobs.proofs.SearchingLemmas.{none_on, end_on}
 use Rattle.cobs.proofs.SourcesLemmas.{clear_byte}

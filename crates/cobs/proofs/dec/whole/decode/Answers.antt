@@ -1,11 +1,8 @@
 use Rattle.std.proofs.Common.{◌≡◌, refl, length, ◌∙◌, ap, arith}
 use Rattle.cobs.specs.Frames.{part}
-use Rattle.cobs.specs.InPlace.{stretch, overwritten}
-use Rattle.cobs.specs.Sentinel.{masked}
-use Rattle.cobs.specs.Taking.{DecodesFront}
+use Rattle.cobs.specs.InPlace.{overwritten}
 use Rattle.cobs.specs.Whole.{frame_in, decoded_from}
 use Rattle.cobs.proofs.PushingLemmas.{told_fitting, over_fitting, unpadded_begun}
-use Rattle.cobs.proofs.ShortLemmas.{decodes_front}
 use Rattle.cobs.proofs.VerdictsLemmas.{from_frame, from_no_frame, stretch_found}
 use Rattle.cobs.proofs.dec.whole.decode.Goals as goal
 use Rattle.cobs.proofs.dec.whole.decode.Goals.{After-with_parsed, After-decode_else}

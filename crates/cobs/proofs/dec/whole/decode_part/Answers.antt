@@ -1,4 +1,3 @@
-use Rattle.std.proofs.Common.{arith}
 use Rattle.cobs.proofs.dec.whole.decode_part.Goals as goal
 
 pub returns-then-is_few-clause-done : goal.returns-then-is_few-clause-done

@@ -1,10 +1,9 @@
-use Rattle.std.proofs.Common.{refl, ◌∙◌, ap, sym, subst, length, arith}
+use Rattle.std.proofs.Common.{refl, ◌∙◌, ap, sym, subst, length}
 use Rattle.cobs.specs.Frames.{NoZero, part}
 use Rattle.cobs.specs.InPlace.{stretch, overwritten}
 use Rattle.cobs.specs.Sentinel.{masked}
 use Rattle.cobs.specs.Taking.{DecodesFront}
 use Rattle.cobs.specs.Whole.{decoded_into}
-use Rattle.cobs.proofs.MaskingLemmas.{masked_length}
 use Rattle.cobs.proofs.SourcesLemmas.{stretch_again, stretch_clear}
 use Rattle.cobs.proofs.dec.whole.decode_stretch.Goals as goal
 use Rattle.cobs.proofs.dec.whole.decode_stretch.Goals.{In-Some}
