@@ -1,6 +1,5 @@
 //! Groups, parts and attributes, as slices of tokens.
 use crate::tokens::{Token, Word, is_among, is_name};
-use crate::words::NOT_OF_SERDE;
 
 /// The text of the first of these tokens; nothing if there is none.
 pub fn first_word(tokens: &[Token]) -> &str {
@@ -177,12 +176,14 @@ impl<'a> AttributeWalk<'a> {
             // what is no attribute is a comment that marks
             let (words, behind) = attribute(self.rest).unwrap_or((&[], behind_first(self.rest)));
             self.rest = behind;
-            let (condition, parts) = match first_word(words) {
-                "cfg_attr" => first_part(held(words)),
-                _ => words.split_at(0),
-            };
-            self.condition = condition;
-            self.parts = parts;
+            match first_word(words) {
+                "" => {}
+                "cfg_attr" => (self.condition, self.parts) = first_part(held(words)),
+                _ => {
+                    let condition: &'a [Token] = &[];
+                    return Some(ConditionedAttribute { words, condition });
+                }
+            }
         }
         None
     }
@@ -195,42 +196,4 @@ pub fn same_words(first: &[Token], second: &[Token]) -> bool {
             .iter()
             .zip(second)
             .all(|(one, other)| one.text.as_str() == other.text.as_str())
-}
-
-/// Whether a derive among these words has this name.
-pub fn is_derived(words: &[Token], name: &str) -> bool {
-    let mut is_derive = false;
-    for token in words {
-        if is_derive && token.text.as_str() == name {
-            return true;
-        }
-        is_derive = match token.word {
-            Word::Derive => true,
-            Word::Close => false,
-            _ => is_derive,
-        };
-    }
-    false
-}
-
-/// Another name of a derive of serde's, or of a crate that has others, which a `use` brings in and a derive has.
-pub fn renamed_derive(tokens: &[Token]) -> Option<&Token> {
-    // Whether the `use` that is gone over is of another crate that has such derives.
-    let mut is_other = false;
-    let mut rest = tokens;
-    for _ in 0..tokens.len() {
-        match rest {
-            [of, first, ..] if matches!(of.word, Word::Import) => {
-                is_other = is_among(first.text.as_str(), NOT_OF_SERDE);
-            }
-            [own, by, name, ..]
-                if matches!(by.word, Word::As)
-                    && (is_among(own.text.as_str(), NOT_OF_SERDE)
-                        || (!is_other && matches!(own.word, Word::Serialize | Word::Deserialize)))
-                    && is_derived(tokens, name.text.as_str()) => return Some(name),
-            _ => {}
-        }
-        rest = behind_first(rest);
-    }
-    None
 }

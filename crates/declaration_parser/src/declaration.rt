@@ -72,6 +72,14 @@ pub struct Marks {
     pub read: bool,
 }
 
+impl Marks {
+    /// Adds one of them.
+    pub fn add(&mut self, is_written: bool) {
+        self.written = self.written || is_written;
+        self.read = self.read || !is_written;
+    }
+}
+
 /// A message type.
 #[derive(Drop)]
 pub struct Declaration<'a> {
@@ -93,6 +101,18 @@ pub struct Declaration<'a> {
     pub bounds: &'a [Token],
     pub body: Body<'a>,
     pub marks: Marks,
+    /// Those of the marks that no `use` can make another crate's: of comments, and of derives by their paths.
+    pub sure: Marks,
     /// Why it can't be read, a line each; empty if it can.
     pub wrong: String,
+}
+
+impl Declaration<'_> {
+    /// Whether a derive of this name marks it, which a `use` may make another crate's.
+    pub fn is_by_use(&self, derive: &str) -> bool {
+        match derive {
+            "Serialize" => self.marks.written && !self.sure.written,
+            _ => self.marks.read && !self.sure.read,
+        }
+    }
 }

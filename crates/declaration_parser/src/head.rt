@@ -3,13 +3,15 @@ ghost use Rattle.std.specs.Prelude.{◌≡◌, ◌++◌};
 
 use crate::attributes::{AttributeWalk, first_part, first_word, front, held, same_words};
 use crate::declaration::Marks;
+use crate::derives::derive_of;
 use crate::tokens::{Token, Word, is_among};
-use crate::words::NOT_OF_SERDE;
 
 /// What marks add up to.
 #[derive(Clone, Copy, Default, Drop)]
 pub struct Marking<'a> {
     pub marks: Marks,
+    /// Those that comments make, and derives by their paths.
+    pub sure: Marks,
     /// The condition of the first derive that marks, if there is one; empty if it has none.
     condition: Option<&'a [Token]>,
     /// Whether another derive that marks has another condition.
@@ -33,15 +35,6 @@ pub struct Head<'a> {
     pub marking: Marking<'a>,
 }
 
-/// The last word of a derive's path, unless it is another crate's: serde's derives are passed on by others too.
-fn derive_of(path: &[Token]) -> Option<&Token> {
-    match path {
-        [name] => Some(name),
-        [.., krate, _, _, name] if !is_among(krate.text.as_str(), NOT_OF_SERDE) => Some(name),
-        _ => None,
-    }
-}
-
 impl<'a> Marking<'a> {
     /// Adds what derives of these paths mark under a condition: all whose names begin as those of serde's traits.
     fn add_derived(&mut self, paths: &'a [Token], condition: &'a [Token]) {
@@ -56,8 +49,10 @@ impl<'a> Marking<'a> {
             if !is_written && !name.text.as_str().starts_with("Deserialize") {
                 continue;
             }
-            self.marks.written = self.marks.written || is_written;
-            self.marks.read = self.marks.read || !is_written;
+            self.marks.add(is_written);
+            if path.len() > 1 {
+                self.sure.add(is_written);
+            }
             self.is_conditional = self.is_conditional || !condition.is_empty();
             match self.condition {
                 Some(first) if !same_words(first, condition) => self.has_others = true,
@@ -79,8 +74,8 @@ impl<'a> Marking<'a> {
             let word = word.trim();
             let is_written = word == "Serialize";
             if is_written || word == "Deserialize" {
-                self.marks.written = self.marks.written || is_written;
-                self.marks.read = self.marks.read || !is_written;
+                self.marks.add(is_written);
+                self.sure.add(is_written);
                 self.is_derived = false;
             } else if self.wrong.is_none() {
                 self.wrong = Some((comment.line, word));

@@ -8,6 +8,7 @@
 pub mod attributes;
 pub mod cursor;
 pub mod declaration;
+pub mod derives;
 pub mod faults;
 mod head;
 pub mod items;

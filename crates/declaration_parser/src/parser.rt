@@ -112,6 +112,14 @@ impl<'a> Parser<'a> {
         words
     }
 
+    /// Takes a discriminant or a field's default, which isn't sent.
+    fn pass_value(&mut self) {
+        if self.at.take("=") {
+            let (_, rest) = up_to(self.at.rest, &[","]);
+            self.at.rest = rest;
+        }
+    }
+
     /// Takes a field; nothing if it isn't sent.
     fn item(&mut self, place: usize, named: bool) -> Option<Field<'a>> {
         if place == MOST_FIELDS && matches!(self.purpose, Purpose::Implementations) {
@@ -129,6 +137,7 @@ impl<'a> Parser<'a> {
         let said = self.said(attributes);
         let is_left_out = self.is_left_out(said);
         let of = self.type_words();
+        self.pass_value();
         if !self.at.is_wrong {
             self.at.field = None;
         }
@@ -197,10 +206,7 @@ impl<'a> Parser<'a> {
         self.at.variant = name;
         self.said(attributes);
         let fields = self.fields();
-        if self.at.take("=") {
-            let (_, rest) = up_to(self.at.rest, &[","]);
-            self.at.rest = rest;
-        }
+        self.pass_value();
         VariantOf { name, fields }
     }
 
@@ -237,6 +243,7 @@ impl<'a> Parser<'a> {
 
     /// Takes a lifetime, a type parameter or a length, and says whether it is a length.
     fn parameter(&mut self) -> (&'a str, bool) {
+        self.attributes();
         let is_length = self.at.take("const");
         let name = if is_lifetime(self.at.peek()) {
             self.at.step()
@@ -337,6 +344,7 @@ impl<'a> Parser<'a> {
             bounds: if before.is_empty() { after } else { before },
             body,
             marks: self.marking.marks,
+            sure: self.marking.sure,
             wrong: String::new(self.alloc),
         }
     }

@@ -4,8 +4,9 @@ ghost use Rattle.declaration_parser.specs.Marked.{NoMark};
 ghost use Rattle.declaration_parser.specs.Silent.{SaysNothing};
 ghost use Rattle.declaration_parser.specs.Standing.{Accounts, AreDeclaredIn, GoneOver, tokens_in};
 
-use crate::attributes::{behind, first_word, is_derived, line_at, renamed_derive, type_up_to};
+use crate::attributes::{behind, first_word, line_at, type_up_to};
 use crate::declaration::Declaration;
+use crate::derives::{is_derived, renamed_derive};
 use crate::faults::Faults;
 use crate::head::{Head, head_of};
 use crate::items::{Item, ItemKind, Walk};

@@ -125,6 +125,16 @@ struct Tokens<'a> {
     faults: Faults<'a>,
 }
 
+/// A text without a first line that says what runs it. An attribute of the file isn't one.
+fn behind_shebang(text: &str) -> &str {
+    match text.strip_prefix("#!") {
+        Some(rest) if !rest.trim_start().starts_with('[') => {
+            rest.trim_start_matches(|c: char| c != '\n')
+        }
+        _ => text,
+    }
+}
+
 /// Returns the tokens of the text of a file. What is wrong is reported with the file's name, unless that is empty.
 ///
 /// # Errors
@@ -134,7 +144,7 @@ pub fn tokens_of<'a>(alloc: Global, file: &'a str, text: &'a str) -> Result<Read
     let text = text.strip_prefix('\u{feff}').unwrap_or(text);
     let mut tokens = Tokens {
         alloc,
-        rest: text,
+        rest: behind_shebang(text),
         line: 1,
         is_behind_code: false,
         found: Vec::new(alloc),

@@ -27,9 +27,6 @@ pub const IN_WORDS: &str =
 pub const BY_HAND: &str =
     "` is implemented by hand, so the bytes may be others than those of the fields: declare what is on the wire";
 
-/// Crates that have derives of their own called as serde's are.
-pub const NOT_OF_SERDE: &[&str] = &["miniserde", "rkyv"];
-
 /// What is said of a condition on a field or a variant.
 pub const ON_SOME_DEVICES: &str =
     "` has this on some devices alone: take the attribute out where it is there, else what stands behind it";
@@ -103,7 +100,7 @@ pub const OF_SERDE: &[(&str, &str)] = &[
         "` sends another type's bytes: mark that type, and write it where this one is a field",
     ),
     (
-        "skip",
+        "skip skip_deserializing skip_serializing",
         "` of a variant counts it on one side alone: take the variant out where it is the last",
     ),
 ];

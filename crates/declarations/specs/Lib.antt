@@ -1,4 +1,5 @@
 pub mod Candidates
 pub mod KnownNodes
 pub mod NameRule
+pub mod Tables
 pub mod TypeWords

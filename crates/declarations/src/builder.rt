@@ -1,5 +1,6 @@
 //! From declared types to the nodes of a table.
-ghost use Rattle.std.specs.Prelude.{◌≡◌, ◌≤◌, length, IfOk};
+ghost use Rattle.std.specs.Prelude.{IfOk};
+ghost use Rattle.declarations.specs.Tables.{HasItsTypes, NamesItsNodes};
 
 mod containers;
 mod fields;
@@ -13,6 +14,7 @@ use crate::{CheckedSources, Error, Named, Names, Schema};
 use declaration_parser::attributes::same_words;
 use declaration_parser::cursor::Cursor;
 use declaration_parser::declaration::{Body, Declaration};
+use declaration_parser::derives::OF_OTHER_CRATE;
 use declaration_parser::tokens::{Token, is_lifetime};
 use schema_table::Node;
 use std::alloc::Global;
@@ -267,6 +269,12 @@ impl<'a, 'b> Builder<'a, 'b> {
             self.wrong(&[TWICE]);
             return;
         }
+        for derive in ["Serialize", "Deserialize"] {
+            if it.is_by_use(derive) && self.names.has_other_derive(stand.scope, derive) {
+                self.refuse(derive, OF_OTHER_CRATE);
+                return;
+            }
+        }
         let (node, names) = match &it.body {
             Body::Struct(fields) => self.group(fields, depth),
             Body::Enum(variants) => self.choice(variants, depth),
@@ -298,8 +306,8 @@ impl<'a, 'b> Builder<'a, 'b> {
 
     /// The table with all types that are still to be made, and what is wrong, a line each. Each node has names.
     pub fn finished(self) -> Result<CheckedSources, Error>
-        ensures named { IfOk result (λ c. length c.schema.names.items ≡ length c.schema.nodes.items) }
-        ensures declared { IfOk result (λ c. length c.schema.types.items ≤ length c.schema.nodes.items) }
+        ensures named { IfOk result (λ made. NamesItsNodes made.schema) }
+        ensures declared { IfOk result (λ made. HasItsTypes made.schema) }
     {
         let mut builder = self;
         builder.make_owed();

@@ -1,5 +1,6 @@
 //! The names of files: what each module declares, and what a `use` brings into it.
 mod candidates;
+mod derives;
 mod folders;
 mod leads;
 mod macros;
@@ -97,6 +98,8 @@ pub struct Scopes<'a> {
     used: BTreeMap<&'a str, ()>,
     /// From which scope a `*` leads to which others, also by those of others.
     ways: BTreeMap<(usize, usize), ()>,
+    /// What brings in a derive by the name of one of serde's from another crate, or may do so by a `*`.
+    derives: Vec<Import<'a>>,
     /// The rules of macros, and calls that may declare something.
     rules: Vec<items::Item<'a>>,
     calls: Vec<items::Item<'a>>,
@@ -135,6 +138,7 @@ impl<'a> Scopes<'a> {
             named: BTreeMap::new(alloc),
             used: BTreeMap::new(alloc),
             ways: BTreeMap::new(alloc),
+            derives: Vec::new(alloc),
             rules: Vec::new(alloc),
             calls: Vec::new(alloc),
             endpoints: Vec::new(alloc),
@@ -146,8 +150,10 @@ impl<'a> Scopes<'a> {
         names.find_leads();
         names.find_leads();
         names.find_ways();
+        names.find_derives();
+        let mut from = 0;
         for (index, it) in declared.iter().enumerate() {
-            names.mark(index, it);
+            from = names.mark(index, it, from);
         }
         if names.failed {
             return Err(AllocError);
@@ -189,18 +195,25 @@ impl<'a> Scopes<'a> {
         self.name_of_file(self.scope(scope).file)
     }
 
-    /// Notes which item a marked declaration is, and where it is.
-    fn mark(&mut self, index: usize, it: &Declaration<'a>) {
+    /// Notes which item a marked declaration is, and where it is. Types are items in the order in which they are declared, so those
+    /// before the last one needn't be gone over again; gives the place of this one.
+    fn mark(&mut self, index: usize, it: &Declaration<'a>, from: usize) -> usize {
         let mut stand = NO_STAND;
-        for place in 0..self.items.len() {
+        let mut first = from;
+        for place in from..self.items.len() {
             let Some(item) = self.items.get(place).copied() else {
                 break;
             };
-            let is_it = item.line == it.line
+            let is_near = item.line == it.line;
+            if stand.count > 0 && !is_near {
+                break;
+            }
+            let is_it = is_near
                 && item.name == it.name
                 && matches!(item.what, What::Unmarked)
                 && self.file_of(item.scope) == it.file.file.as_str();
             if is_it && let Some(item) = self.items.get_mut(place) {
+                first = if stand.count == 0 { place } else { first };
                 stand.scope = item.scope;
                 stand.count = stand.count.saturating_add(1);
                 item.what = What::Marked(index);
@@ -210,6 +223,7 @@ impl<'a> Scopes<'a> {
         stand.is_second = matches!(before, Ok(Some(())));
         self.failed = before.is_err() || self.failed;
         self.failed = self.stands.push(stand).is_err() || self.failed;
+        first
     }
 
     /// Where a marked declaration is.

@@ -1,5 +1,6 @@
 //! From files of declarations to a table.
-ghost use Rattle.std.specs.Prelude.{◌≡◌, ◌≤◌, ◌<◌, length, IfOk};
+ghost use Rattle.std.specs.Prelude.{◌≡◌, ◌<◌, length, IfOk};
+ghost use Rattle.declarations.specs.Tables.{HasItsTypes, NamesItsNodes};
 
 use crate::Schema;
 use crate::builder::Builder;
@@ -94,11 +95,12 @@ fn tokens_in(alloc: Global, sources: &[Source]) -> Result<Vec<Read>, AllocError>
 /// - `Wrong`: a line for each thing that can't be read, with its line in `text`.
 /// - `OutOfMemory`.
 pub fn read_schema(alloc: Global, text: &str) -> Result<Schema, Error>
-    ensures named { IfOk result (λ s. length s.names.items ≡ length s.nodes.items) }
-    ensures declared { IfOk result (λ s. length s.types.items ≤ length s.nodes.items) }
+    ensures named { IfOk result (λ table. NamesItsNodes table) }
+    ensures declared { IfOk result (λ table. HasItsTypes table) }
 {
     let read = tokens_of(alloc, "", text)?;
-    read_all(alloc, slice::from_ref(&read))
+    let made = table_of(alloc, slice::from_ref(&read))?;
+    unless_wrong(made)
 }
 
 /// Returns what [`read_schema`] does, of the declarations of all these files.
@@ -106,29 +108,27 @@ pub fn read_schema(alloc: Global, text: &str) -> Result<Schema, Error>
 /// # Errors
 /// As [`read_schema`]; each line begins with the file's name, if it has one.
 pub fn read_sources(alloc: Global, sources: &[Source]) -> Result<Schema, Error>
-    ensures named { IfOk result (λ s. length s.names.items ≡ length s.nodes.items) }
-    ensures declared { IfOk result (λ s. length s.types.items ≤ length s.nodes.items) }
+    ensures named { IfOk result (λ table. NamesItsNodes table) }
+    ensures declared { IfOk result (λ table. HasItsTypes table) }
 {
-    let files = tokens_in(alloc, sources)?;
-    read_all(alloc, &files)
+    let made = check_sources(alloc, sources)?;
+    unless_wrong(made)
 }
 
-/// The table of all declared types without parameters, in their order, if nothing is wrong.
-fn read_all(alloc: Global, files: &[Read]) -> Result<Schema, Error>
-    ensures named { IfOk result (λ s. length s.names.items ≡ length s.nodes.items) }
-    ensures declared { IfOk result (λ s. length s.types.items ≤ length s.nodes.items) }
+/// The table, if nothing is wrong.
+fn unless_wrong(made: CheckedSources) -> Result<Schema, Error>
+    ensures { IfOk result (λ table. table ≡ made.schema) }
 {
-    let made = table_of(alloc, files)?;
     if !made.wrong.is_empty() {
         return Err(Error::Wrong(made.wrong));
     }
     Ok(made.schema)
 }
 
-/// The same table, and what is wrong.
+/// The table of all declared types without parameters, in their order, and what is wrong.
 fn table_of(alloc: Global, files: &[Read]) -> Result<CheckedSources, Error>
-    ensures named { IfOk result (λ c. length c.schema.names.items ≡ length c.schema.nodes.items) }
-    ensures declared { IfOk result (λ c. length c.schema.types.items ≤ length c.schema.nodes.items) }
+    ensures named { IfOk result (λ made. NamesItsNodes made.schema) }
+    ensures declared { IfOk result (λ made. HasItsTypes made.schema) }
 {
     if files.is_empty() {
         return Err(Error::Wrong(String::from_str(alloc, NO_FILE)?));
@@ -149,7 +149,7 @@ fn table_of(alloc: Global, files: &[Read]) -> Result<CheckedSources, Error>
 ///   that there are.
 /// - `OutOfMemory`.
 pub fn read_type(alloc: Global, sources: &[Source], words: &str) -> Result<(Schema, usize), Error>
-    ensures named { IfOk result (λ r. length r.0.names.items ≡ length r.0.nodes.items) }
+    ensures named { IfOk result (λ r. NamesItsNodes r.0) }
     ensures within { IfOk result (λ r. r.1 < length r.0.nodes.items) }
 {
     let files = tokens_in(alloc, sources)?;
@@ -174,8 +174,8 @@ pub fn read_type(alloc: Global, sources: &[Source], words: &str) -> Result<(Sche
 /// - `Wrong`: no file is given.
 /// - `OutOfMemory`.
 pub fn check_sources(alloc: Global, sources: &[Source]) -> Result<CheckedSources, Error>
-    ensures named { IfOk result (λ c. length c.schema.names.items ≡ length c.schema.nodes.items) }
-    ensures declared { IfOk result (λ c. length c.schema.types.items ≤ length c.schema.nodes.items) }
+    ensures named { IfOk result (λ made. NamesItsNodes made.schema) }
+    ensures declared { IfOk result (λ made. HasItsTypes made.schema) }
 {
     let files = tokens_in(alloc, sources)?;
     table_of(alloc, &files)

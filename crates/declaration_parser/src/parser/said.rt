@@ -2,9 +2,10 @@
 use super::Parser;
 use crate::attributes::{
     AttributeWalk, ConditionedAttribute, attribute, behind_first, first_part, first_word, front,
-    held, is_derived, last_word, up_to,
+    held, last_word, up_to,
 };
 use crate::declaration::{Body, Field, Layout};
+use crate::derives::is_derived;
 use crate::tokens::{Token, Word, is_listed, row_of};
 use crate::words::{
     ALMOST_WAY, LEFT_OUT, NO_BYTES, OF_ITEMS, OF_SERDE, ON_SOME_DEVICES, ONE_SIDE, OTHER_CONDITION,

@@ -120,7 +120,7 @@ impl<'a> Scopes<'a> {
     }
 
     /// The import of a module or a crate by this name, if a module has it.
-    fn import_of(&self, module: usize, name: &str) -> Option<&Import<'a>> {
+    pub(super) fn import_of(&self, module: usize, name: &str) -> Option<&Import<'a>> {
         if !self.is_used(name) {
             return None;
         }

@@ -293,7 +293,7 @@ impl<'a> Scopes<'a> {
     }
 
     /// Whether a step may pass on what a scope has under a name: it is one of the step's, or `use` leads there.
-    fn may_lead_to(&self, step: Step<'a>, place: usize, name: &str) -> bool {
+    pub(super) fn may_lead_to(&self, step: Step<'a>, place: usize, name: &str) -> bool {
         let is_led = self.leads_to(step, place);
         if is_led || !self.is_used(name) {
             return is_led;

@@ -1,0 +1,3 @@
+﻿#! [no_std]
+#[derive(Serialize)]
+pub struct A(u8);
