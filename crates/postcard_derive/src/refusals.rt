@@ -4,6 +4,7 @@ use crate::names::{NamedField, Use, holds_itself, rows_of};
 use crate::scope::{OF_THE_CRATE, Origins, PathWord, is_capital, is_small, is_wordy, words_of};
 use crate::text::Text;
 use declaration_parser::declaration::{Declaration, Layout};
+use declaration_parser::derives::OF_OTHER_CRATE;
 use declaration_parser::sent::is_primitive;
 use declaration_parser::tokens::{is_among, is_lifetime, row_of};
 use std::alloc::{AllocError, Global};
@@ -29,13 +30,14 @@ fn layout_refusal(scope: &Origins, layout: Layout, words: &[PathWord]) -> &'stat
     let is_integer = words.len() == 1 && (is_among(first, fixed) || is_capital(first));
     let is_bytes = are_at(words, words.len().saturating_sub(4), &["Vec", "<", "u8"])
         || (first == "&" && are_at(words, 2, &["[", "u8", "]"]));
-    let is_hidden = |krate: &str| !is_among(scope.origin(krate), &["", krate]);
     match layout {
         Layout::Little | Layout::Big if !is_integer =>
             "` can't be sent as its bytes: `postcard::fixint` has integers of 16 to 128 bits; write the type that is on the wire",
-        Layout::Little | Layout::Big if is_hidden("postcard") =>
+        Layout::Little | Layout::Big if scope.is_hidden("postcard") =>
             "` is sent by `postcard::fixint`, but this file has another `postcard`: call that otherwise",
-        Layout::Buffer if is_hidden("serde_bytes") =>
+        Layout::Little | Layout::Big | Layout::Buffer if scope.has_star() =>
+            "` is sent by the crate that its `with` names, but a `*` of this file may bring in another by that name: bring in each name by itself",
+        Layout::Buffer if scope.is_hidden("serde_bytes") =>
             "` is sent by `serde_bytes`, but this file has another one: call that otherwise",
         Layout::Buffer if !is_bytes =>
             "` can't be sent by `serde_bytes` here: write `Vec<u8>` or `&'a [u8]`, which have those bytes",
@@ -165,6 +167,12 @@ pub fn refused(
         }
         for row in &rows_of(alloc, it)? {
             text.judge(scope, it, row)?;
+        }
+        for derive in ["Serialize", "Deserialize"] {
+            if it.is_by_use(derive) && scope.has_other_derive(derive) {
+                text.put_line(it.line, it);
+                text.put_why(derive, OF_OTHER_CRATE);
+            }
         }
         if holds_itself(alloc, uses, it.name)? {
             text.put_line(it.line, it);

@@ -1,5 +1,8 @@
 //! Where the names of a file come from, and the words of a type with the paths that they are in.
-use declaration_parser::tokens::{Token, Word, first_letter, is_among, is_listed, is_of_word};
+use declaration_parser::derives::{has_own, has_serdes};
+use declaration_parser::tokens::{
+    Token, Word, first_letter, is_among, is_listed, is_name, is_of_word,
+};
 use std::alloc::{AllocError, Global};
 
 /// What begins a path within the crate.
@@ -20,20 +23,57 @@ impl<'a> Origins<'a> {
         let mut head = "";
         for token in tokens {
             let word = token.text.as_str();
-            if is_listed(before, "struct enum union type mod trait const") {
-                origins.push((word, "self"))?;
-            } else if !head.is_empty() && is_among(word, &[";", ",", "}"]) {
-                origins.push((before, head))?;
+            let is_declared = is_listed(before, "struct enum union type mod trait const");
+            let is_brought_in = !head.is_empty() && is_among(word, &[";", ",", "}"]);
+            let origin = if is_declared {
+                (word, "self")
+            } else {
+                (before, head)
+            };
+            if is_declared || is_brought_in {
+                origins.push(origin)?;
             }
             match (before, word) {
                 ("use", ":") => continue,
                 ("use", _) => head = word,
+                // of `extern crate`
+                ("crate", _) if head.is_empty() && is_name(word) => head = word,
                 (_, ";") => head = "",
                 _ => {}
             }
             before = word;
         }
         Ok(Origins { origins })
+    }
+
+    /// Whether the file has something else by the name of a crate.
+    pub fn is_hidden(&self, krate: &str) -> bool {
+        self.origins
+            .iter()
+            .any(|(name, from)| *name == krate && *from != krate)
+    }
+
+    /// Whether a `*` brings in all of a module of the crate, which this file may not have. What `super` has is mostly in this file.
+    pub fn has_star(&self) -> bool {
+        self.origins.iter().any(|(name, from)| {
+            let is_module = self.origin(from) == "self" && !is_capital(from);
+            *name == "*" && (is_module || is_among(from, &["crate", "self"]))
+        })
+    }
+
+    /// Whether a derive of this name, which a `use` brings in, may be another crate's than serde.
+    pub fn has_other_derive(&self, name: &str) -> bool {
+        for (known, from) in &self.origins {
+            let by = self.origin(from);
+            let is_near = is_among(from, OF_THE_CRATE) || is_among(by, OF_THE_CRATE);
+            if *known == name && !is_near && !has_serdes(from) && !has_serdes(by) {
+                return true;
+            }
+            if *known == "*" && has_own(from) {
+                return true;
+            }
+        }
+        false
     }
 
     /// Where a name is from; empty if the file doesn't have it.
