@@ -10,7 +10,7 @@ const NOT_OF_SERDE: &str = "alkahest deser miniserde rkyv serde_lite simd_json_d
 
 /// What is said of a derive that a `use` brings in from a crate that isn't known to have serde's.
 pub const OF_OTHER_CRATE: &str =
-    "` is brought in by a `use` from another crate than serde: write `serde::` before it in the derive if it is serde's, else leave the type out";
+    "` is brought in by a `use` from another crate than serde: write `serde::` before it in the derive if it is serde's, `rkyv::` if it is rkyv's, else leave the type out";
 
 /// Whether a crate has serde's derives.
 pub fn has_serdes(krate: &str) -> bool {

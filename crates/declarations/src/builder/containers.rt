@@ -77,26 +77,23 @@ impl<'a> Builder<'a, '_> {
         all
     }
 
-    /// The place of the type that is an argument, if there is one.
-    #[cycle(types)]
-    fn argument(&mut self, words: Option<&'a [Token]>, depth: u32) -> usize {
-        match words {
-            Some(words) => self.whole(words, depth),
-            None => self.wrong(&[NO_ARGUMENTS]),
-        }
-    }
-
     /// The place of a known type that holds others, or a length.
     #[cycle(types)]
     pub(super) fn formed(&mut self, row: FormRow, depth: u32) -> usize {
         let of = self.arguments();
         let (form, types, length) = row;
-        let (mut first, mut second, mut most) = (0, 0, None);
-        if types > 0 {
-            first = self.argument(of.first().copied(), depth);
+        if of.len() < types {
+            return self.wrong(&[NO_ARGUMENTS]);
         }
-        if types > 1 {
-            second = self.argument(of.get(1).copied(), depth);
+        let (mut first, mut second, mut most) = (0, 0, None);
+        let words = of.first().copied().unwrap_or(&[]);
+        if types > 0 {
+            first = self.whole(words, depth);
+        }
+        if let Some(words) = of.get(1)
+            && types > 1
+        {
+            second = self.whole(words, depth);
         }
         if let Some(words) = of.get(length) {
             most = Some(self.length(words));
@@ -104,7 +101,6 @@ impl<'a> Builder<'a, '_> {
         if self.words.is_wrong {
             return NOWHERE;
         }
-        let words = of.first().copied().unwrap_or(&[]);
         match form {
             KnownForm::Inner => first,
             KnownForm::Little | KnownForm::Big => self.ordered(form, first, words),

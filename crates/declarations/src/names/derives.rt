@@ -40,21 +40,16 @@ impl<'a> Scopes<'a> {
     /// Whether the derive of this name that a scope uses may be another crate's. What the scope itself brings in by the name hides
     /// what a `*` brings in and what is round it.
     pub fn has_other_derive(&self, scope: usize, name: &str) -> bool {
+        if self.derives.is_empty() {
+            return false;
+        }
         let mut at = scope;
-        let count = if self.derives.is_empty() {
-            0
-        } else {
-            self.scopes.len()
-        };
-        for _ in 0..count {
+        for _ in 0..self.scopes.len() {
             let is_own = |it: &Import<'_>| it.scope == at && it.name == name;
             let is_sure = self.imports.iter().any(|it| is_own(it) && it.leads_out());
             for it in &self.derives {
-                let may_be = it.is_glob || it.name == name;
-                let is_led = !is_sure
-                    && may_be
-                    && self.may_lead_to(Step::Scope(at), it.scope, name);
-                if is_led || is_own(it) {
+                let may_be = !is_sure && (it.is_glob || it.name == name);
+                if is_own(it) || (may_be && self.may_lead_to(Step::Scope(at), it.scope, name)) {
                     return true;
                 }
             }

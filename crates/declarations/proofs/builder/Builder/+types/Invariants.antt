@@ -1,9 +1,6 @@
 use Rattle.std.proofs.Common.{◌+◌, ◌*◌}
 use Rattle.declarations.proofs.builder.Builder.+types.Given as goal
 
-abbrev pub decreases-argument : goal.decreases-argument
-decreases-argument l = 16 * l.depth + 2
-
 abbrev pub decreases-array : goal.decreases-array
 decreases-array l = 16 * l.depth + 2
 
