@@ -81,6 +81,7 @@ pub(crate) fn count_record(record: Owned, found: &mut Found) {
 }
 
 /// Feeds a chunk, then what is left of it after each result.
+#[inline(always)]
 fn feed_piece(
     alloc: Global,
     accumulator: &mut CobsAccumulator<512>,
