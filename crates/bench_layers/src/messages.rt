@@ -6,6 +6,7 @@ ghost use Rattle.std.specs.Prelude.{◌≤◌, length};
 use crate::answers::{Answer, Found, NONE_FOUND, Parts, REFUSED};
 use postcard::accumulator::{CobsAccumulator, FeedResult};
 use std::alloc::Global;
+use std::slice;
 
 /// The record as it is read from a stream.
 pub(crate) type Owned = (u32, u64, String, Option<u16>, Vec<u16>);
@@ -108,12 +109,16 @@ fn feed_piece(
 }
 
 /// Feeds a stream in chunks of `piece` bytes to a `CobsAccumulator<512>`, and counts the results; the sum is over the records. Nothing is
-/// found if `piece` is 0.
+/// found if `piece` is 0. Chunks of one byte are compiled by themselves, as in the peers.
 #[unsafe(no_mangle)]
 pub extern "C" fn postcard_c_stream(alloc: Global, stream: &[u8], piece: usize, found: &mut Found) {
     let mut accumulator: CobsAccumulator<512> = CobsAccumulator::new();
     let mut counts = NONE_FOUND;
-    if piece > 0 {
+    if piece == 1 {
+        for byte in stream {
+            feed_piece(alloc, &mut accumulator, slice::from_ref(byte), &mut counts);
+        }
+    } else if piece > 0 {
         for bytes in stream.chunks(piece) {
             feed_piece(alloc, &mut accumulator, bytes, &mut counts);
         }

@@ -89,11 +89,11 @@ fn copy_bytes(bytes: &[u8], buffer: &mut [u8], place: usize, sentinel: u8)
 /// # Example
 /// ```rust
 /// let mut buffer = [7; 4];
-/// check(&rt, copy_until(&[3, 2, 10, 4], &mut buffer, 0, 10) == 2);
+/// check(&rt, copy_until_sentinel(&[3, 2, 10, 4], &mut buffer, 0, 10) == 2);
 /// check(&rt, are_equal(&buffer, &[9, 8, 7, 7]));
 /// ```
 #[inline(always)]
-pub fn copy_until(bytes: &[u8], buffer: &mut [u8], place: usize, sentinel: u8) -> usize
+pub fn copy_until_sentinel(bytes: &[u8], buffer: &mut [u8], place: usize, sentinel: u8) -> usize
     requires room { place + length bytes.now ≤ length buffer.old }
     ensures within { result ≤ length bytes.now }
     ensures clear { NoZero (masked sentinel (take result bytes.now)) }

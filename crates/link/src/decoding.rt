@@ -203,7 +203,7 @@ impl<const N: usize> Decoding for ArrayBuffer<N> {
 
     #[inline(always)]
     fn hold_until(&mut self, bytes: &[u8], sentinel: u8) -> usize {
-        let count = cobs::copy_until(bytes, &mut self.bytes[..], self.count, sentinel);
+        let count = cobs::copy_until_sentinel(bytes, &mut self.bytes[..], self.count, sentinel);
         self.count += count;
         count
     }
@@ -246,7 +246,12 @@ impl Decoding for OwnedBuffer {
 
     #[inline(always)]
     fn hold_until(&mut self, bytes: &[u8], sentinel: u8) -> usize {
-        let count = cobs::copy_until(bytes, self.bytes.as_mut_slice(), self.count, sentinel);
+        let count = cobs::copy_until_sentinel(
+            bytes,
+            self.bytes.as_mut_slice(),
+            self.count,
+            sentinel,
+        );
         self.count += count;
         count
     }

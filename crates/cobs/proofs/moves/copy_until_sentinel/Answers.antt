@@ -8,7 +8,7 @@ use Rattle.cobs.proofs.EncodingLemmas.{nonzero_push}
 use Rattle.cobs.proofs.MaskingLemmas.{masked_length, masked_append}
 use Rattle.cobs.proofs.SourcesLemmas.{masked_positive}
 use Rattle.cobs.proofs.WindowsLemmas.{written_next}
-use Rattle.cobs.proofs.moves.copy_until.Goals as goal
+use Rattle.cobs.proofs.moves.copy_until_sentinel.Goals as goal
 
 pub loop-end-preserved : goal.loop-end-preserved
 loop-end-preserved c =
@@ -23,7 +23,7 @@ loop-end-preserved c =
     record {
       clear = subst NoZero next (nonzero_push done x c.loop-end.invariant.clear (masked_positive s (get_or m i 0) c.if-byte-sentinel.false));
       copied = ap (λ b. set b (c.args.place + i) x) c.loop-end.invariant.copied
-      ∙ ap (λ j. set (written_over c.args.place done old) j x) (omega (arith, long))
-      ∙ written_next done old c.args.place x (omega (arith, long, c.requires, c.loop-end-test.true))
-      ∙ ap (λ b. written_over c.args.place b old) next;
+          ∙ ap (λ j. set (written_over c.args.place done old) j x) (omega (arith, long))
+          ∙ written_next done old c.args.place x (omega (arith, long, c.requires, c.loop-end-test.true))
+          ∙ ap (λ b. written_over c.args.place b old) next;
     }
