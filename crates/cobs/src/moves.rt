@@ -89,7 +89,8 @@ fn copy_bytes(bytes: &[u8], buffer: &mut [u8], place: usize, sentinel: u8)
 /// # Example
 /// ```rust
 /// let mut buffer = [7; 4];
-/// check(&rt, copy_until_sentinel(&[3, 2, 10, 4], &mut buffer, 0, 10) == 2);
+/// let count = copy_until_sentinel(&[3, 2, 10, 4], &mut buffer, 0, 10);
+/// check(&rt, count == 2);
 /// check(&rt, are_equal(&buffer, &[9, 8, 7, 7]));
 /// ```
 #[inline(always)]

@@ -84,10 +84,8 @@ fn decoded_in_chunks(rt: HostRuntime) {
     copy_over(&[10, 11], &mut buffer, 1, 10);
     check(&rt, are_equal(&buffer, &[7, 0, 1, 7]));
     let mut buffer = [7; 4];
-    check(
-        &rt,
-        copy_until_sentinel(&[3, 2, 10, 4], &mut buffer, 0, 10) == 2,
-    );
+    let count = copy_until_sentinel(&[3, 2, 10, 4], &mut buffer, 0, 10);
+    check(&rt, count == 2);
     check(&rt, are_equal(&buffer, &[9, 8, 7, 7]));
     let is_decoded = match CobsDecoderOwned::new(rt.alloc(), 4) {
         Ok(mut decoder) => takes(decoder.push(&[3, 10, 11, 2, 12, 0]), 6, 4),
