@@ -185,7 +185,7 @@ impl OwnedBuffer {
     }
 }
 
-// What a frame needs once is a call of its own, so that taking a chunk is small enough to be compiled into each push.
+// Decoding what is held is a call of its own, since a push is compiled into each of its callers.
 impl<const N: usize> Decoding for ArrayBuffer<N> {
     ghost use Rattle.link.specs.Decoding.{in_array};
 

@@ -209,7 +209,8 @@ impl Progress {
     )
         requires room { 0 < length bytes.now → self.old.len + length bytes.now ≤ length buffer.old }
         requires clear { (k : ℕ) → k < length bytes.now → slice_index bytes.now k ≢ sentinel }
-        ensures { TakesOn self.old buffer.old sentinel bytes.now (length bytes.now) self.new buffer.new }
+        ensures { TakesOn self.old buffer.old sentinel bytes.now (length bytes.now) self.new
+            buffer.new }
     {
         let mut read: usize = 0;
         while read < bytes.len() {
@@ -227,8 +228,8 @@ impl Progress {
         requires clear { (k : ℕ) → read ≤ k → k < end → slice_index buffer.old k ≢ sentinel }
         ensures within { result ≤ end - read }
         ensures coded { read < end → result ≡ 0 → Owes self.new.state }
-        ensures front { TakesOn self.old buffer.old sentinel (take (end - read) (drop read buffer.old))
-            result self.new buffer.new }
+        ensures front { TakesOn self.old buffer.old sentinel
+            (take (end - read) (drop read buffer.old)) result self.new buffer.new }
     {
         let len = self.len;
         match self.state {
@@ -275,8 +276,8 @@ impl Progress {
         requires clear { (k : ℕ) → read ≤ k → k < end → slice_index buffer.old k ≢ sentinel }
         ensures some { 0 < result }
         ensures within { result ≤ end - read }
-        ensures front { TakesOn self.old buffer.old sentinel (take (end - read) (drop read buffer.old))
-            result self.new buffer.new }
+        ensures front { TakesOn self.old buffer.old sentinel
+            (take (end - read) (drop read buffer.old)) result self.new buffer.new }
     {
         let taken = self.take_within(buffer, read, end, sentinel);
         if 0 < taken {

@@ -38,7 +38,7 @@ fn node_of(
     most: Option<u64>,
     of: Option<IntegerType>,
 ) -> Result<Option<Node>, AllocError>
-    ensures { IfOk result (λ made. IfSome made (λ node. IsNodeOf form first second most of node)) }
+    ensures { IfOk result (λ made. IfSome made (λ n. IsNodeOf form first second most of n)) }
 {
     Ok(Some(match (form, most, of) {
         (KnownForm::Option, _, _) => Node::Option(first),
