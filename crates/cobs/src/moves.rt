@@ -111,7 +111,7 @@ pub fn copy_until_sentinel(bytes: &[u8], buffer: &mut [u8], place: usize, sentin
     bytes.len()
 }
 
-// The same of at most 64.
+// Copies at most 64 bytes over a buffer, from a position on.
 #[inline(always)]
 pub(crate) fn copy_few(bytes: &[u8], buffer: &mut [u8], place: usize, sentinel: u8)
     requires few { length bytes.now ≤ 64 }
