@@ -1,15 +1,17 @@
 -- What the table of a decoder says of the bytes of a frame so far.
-use Rattle.std.proofs.Common.{◌≡◌, ℕ, zero, suc, pred, ◌+◌, ◌-◌, ◌^◌, ◌<◌, ◌≤◌, ◌==◌, nat_lt, min, if◌then◌else◌, Bool, true, false, List, [], ◌∷◌, ◌++◌, length, inl, inr, refl, ap, sym, ◌∙◌, arith, Ok, Err, None, Some, sub-one, set}
+use Rattle.std.proofs.Common.{◌≡◌, ℕ, zero, suc, pred, ◌+◌, ◌-◌, ◌^◌, ◌<◌, ◌≤◌, ◌==◌, nat_lt, min, if◌then◌else◌, Bool, true, false, List, [], ◌∷◌, ◌++◌, length, inl, inr, refl, ap, sym, ◌∙◌, arith, Ok, Err, None, Some, sub-one, set, drop, Result, Option}
 use Rattle.std.proofs.lemmas.List.{append-nil, length_push, set_past, drop-set-lt}
 use Rattle.std.proofs.Math.Bool.{and-false}
 use Rattle.std.proofs.lemmas.Bool.{ne_eqb, lt-ltb, le-ltb}
 use Rattle.std.proofs.lemmas.Bool.Decides.{eqb_tells}
+use Rattle.std.specs.Prelude.{IfOk, IsNone}
 use Rattle.cobs.specs.Frames.{part, part_from, after}
 use Rattle.cobs.specs.Feeding.{by_code, fed, next, told_by, listed, stands_by, standing, at_byte, answer_of, frame_after, placed, stored}
-use Rattle.cobs.specs.Taking.{StoresByte, left_in, left_behind}
+use Rattle.cobs.specs.Taking.{left_in, left_behind}
 use Rattle.cobs.specs.declared.dec.state.DecoderState.{DecoderState}
 use Rattle.cobs.specs.declared.dec.state.DecoderState.TheVariants.{Idle, Grab, GrabChain}
 use Rattle.cobs.specs.declared.dec.state.DecodeResult.TheVariants.{DataComplete}
+use Rattle.cobs.specs.declared.dec.report.DecodeError.{DecodeError}
 use Rattle.cobs.specs.declared.dec.report.DecodeError.TheVariants.{InvalidFrame, TargetBufTooSmall}
 use Rattle.cobs.specs.declared.dec.progress.Progress.{Progress}
 use Rattle.cobs.specs.Streaming.{HasStreamed}
@@ -133,6 +135,16 @@ code_told (Grab zero) left byte e z p = (rw (ne_eqb byte 0 (λ e. omega arith)) 
 code_told (Grab (suc n)) left byte e z p = absurd (omega (arith, z))
 code_told Idle left byte e z p = absurd (cc)
 code_told (GrabChain n) left byte e z p = absurd (cc)
+
+-- A byte of a frame is taken: a byte of the message that doesn't fit is counted and refused.
+pub record StoresByte (before : Progress) (old : List ℕ) (byte : ℕ)
+    (result : Result (Option ℕ) DecodeError) (behind : Progress) (new : List ℕ) : Type 0 where
+  pub stands : (p : List ℕ) → HasStreamed before p → HasStreamed behind (p ++ byte ∷ [])
+  pub answer : (p : List ℕ) → HasStreamed before p → result ≡ at_byte (length old) p byte
+  pub buffer : (p : List ℕ) → HasStreamed before p → new ≡ placed p byte old
+  pub none : IfOk result IsNone
+  pub len : behind.len ≤ before.len + 1
+  pub rest : drop (before.len + 1) new ≡ drop (before.len + 1) old
 
 -- a byte is taken
 module _ (buffer : List ℕ) (d d' : Progress) (byte : ℕ) (p : 0 < byte) (l : byte < 256) (on : d'.state ≡ next d.state byte) where

@@ -12,7 +12,7 @@ use Rattle.std.proofs.lemmas.Nat.Bits.{bit_at-zero, bit_at-lt, bit_at_or, bit_at
 use Rattle.std.specs.Int.{bit_at}
 use Rattle.std.specs.Simd.Lanes.{mask_l, sel_l, zip2, top}
 use mir.Val.{bits, hbits}
-use Rattle.cobs.specs.Codes.{Marks, Coding}
+use Rattle.cobs.specs.Codes.{Marks, Coding, Positive}
 use Rattle.cobs.specs.Sentinel.{masked}
 use Rattle.cobs.proofs.CodingLemmas.{is_more, front_at, all_at, zero_at}
 use Rattle.cobs.proofs.MaskingLemmas.{masked_drop, masked_take, masked_length}
@@ -201,14 +201,13 @@ halves_positive lanes low high long el eh e j l =
           omega (arith, some k few, (lesser_lane low high k same (omega (arith, few, ll))).1, ap (λ x. get_or x k 0) eh, get_or-take 32 (drop 32 lanes) k 0 few, get_or-drop 32 lanes k 0, there)
     ]
 
--- 64 bytes from a place on, of which the least aren't zero
-part_clear : (at : ℕ) (bytes lanes least : List ℕ) → lanes ≡ take 64 (drop at bytes) → ((j : ℕ) → j < 64 → 0 < get_or least j 0) → ((j : ℕ) → j < 64 → get_or least j 0 ≤ get_or lanes j 0)
-    → (k : ℕ) → at ≤ k → k < at + 64 → 0 < get_or bytes k 0
-part_clear at bytes lanes least e some less k l q =
+-- 64 bytes from a place on, which aren't zero
+part_clear : (at : ℕ) (bytes lanes : List ℕ) → lanes ≡ take 64 (drop at bytes) → Positive 64 lanes → (k : ℕ) → at ≤ k → k < at + 64 → 0 < get_or bytes k 0
+part_clear at bytes lanes e some k l q =
     let j : ℕ = k - at in
     let few : j < 64 = omega (arith, l, q) in
     let there : get_or bytes (at + j) 0 ≡ get_or bytes k 0 = ap (λ i. get_or bytes i 0) (omega (arith, l)) in
-    omega (arith, some j few, less j few, ap (λ x. get_or x j 0) e, get_or-take 64 (drop at bytes) j 0 few, get_or-drop at bytes j 0, there)
+    omega (arith, some j few, ap (λ x. get_or x j 0) e, get_or-take 64 (drop at bytes) j 0 few, get_or-drop at bytes j 0, there)
 
 -- the same of bytes that are XORed
 pub masked_lanes : (s at : ℕ) (bytes : List ℕ) → masked s (take 64 (drop at bytes)) ≡ take 64 (drop at (masked s bytes))
@@ -218,21 +217,20 @@ masked_lanes s at bytes = sym (ap (take 64) (masked_drop s at bytes) ∙ masked_
 pub lanes_long : (s at : ℕ) (bytes lanes : List ℕ) → at + 64 ≤ length bytes → lanes ≡ masked s (take 64 (drop at bytes)) → length lanes ≡ 64
 lanes_long s at bytes lanes l e = ap length e ∙ masked_length s (take 64 (drop at bytes)) ∙ length-take-le 64 (drop at bytes) (omega (arith, length-drop at bytes, l))
 
--- bytes in four parts that meet, of which the least aren't zero
-pub all_clear : (p q r n : ℕ) (bytes a b d e least : List ℕ) → p ≤ 64 → q ≤ p + 64 → r ≤ q + 64 → n ≤ r + 64 → ((j : ℕ) → j < 64 → 0 < get_or least j 0)
-    → ((j : ℕ) → j < 64 → (get_or least j 0 ≤ get_or a j 0) × (get_or least j 0 ≤ get_or b j 0) × (get_or least j 0 ≤ get_or d j 0) × (get_or least j 0 ≤ get_or e j 0))
-    → a ≡ take 64 (drop 0 bytes) → b ≡ take 64 (drop p bytes) → d ≡ take 64 (drop q bytes) → e ≡ take 64 (drop r bytes) → (k : ℕ) → k < n → 0 < get_or bytes k 0
-all_clear p q r n bytes a b d e least lp lq lr ln some four ha hb hd he k l = elim (cases_lt k 64) [
-  | inl x ↦ part_clear 0 bytes a least ha some (λ j z. (four j z).0) k (omega arith) (omega (arith, x))
+-- bytes in four parts that meet, which aren't zero
+pub all_clear : (p q r n : ℕ) (bytes a b d e : List ℕ) → p ≤ 64 → q ≤ p + 64 → r ≤ q + 64 → n ≤ r + 64 → Positive 64 a × Positive 64 b × Positive 64 d × Positive 64 e
+    → a ≡ take 64 (drop 0 bytes) → b ≡ take 64 (drop p bytes) → d ≡ take 64 (drop q bytes) → e ≡ take 64 (drop r bytes) → Positive n bytes
+all_clear p q r n bytes a b d e lp lq lr ln four ha hb hd he k l = elim (cases_lt k 64) [
+  | inl x ↦ part_clear 0 bytes a ha four.0 k (omega arith) (omega (arith, x))
   | inr x ↦ elim (cases_lt k (p + 64)) [
-    | inl y ↦ part_clear p bytes b least hb some (λ j z. (four j z).1) k (omega (arith, x, lp)) y
+    | inl y ↦ part_clear p bytes b hb four.1 k (omega (arith, x, lp)) y
     | inr y ↦ elim (cases_lt k (q + 64)) [
-      | inl z ↦ part_clear q bytes d least hd some (λ j w. (four j w).2) k (omega (arith, y, lq)) z
-      | inr z ↦ part_clear r bytes e least he some (λ j w. (four j w).3) k (omega (arith, z, lr)) (omega (arith, l, ln))
+      | inl z ↦ part_clear q bytes d hd four.2 k (omega (arith, y, lq)) z
+      | inr z ↦ part_clear r bytes e he four.3 k (omega (arith, z, lr)) (omega (arith, l, ln))
     ]
   ]
 ]
 
 -- 64 lanes that are all the bytes
-pub whole_clear : (bytes lanes : List ℕ) → length bytes ≡ 64 → lanes ≡ take 64 (drop 0 bytes) → ((j : ℕ) → j < 64 → 0 < get_or lanes j 0) → (k : ℕ) → k < 64 → 0 < get_or bytes k 0
-whole_clear bytes lanes long e some k l = part_clear 0 bytes lanes lanes e some (λ j q. omega arith) k (omega arith) l
+pub whole_clear : (bytes lanes : List ℕ) → length bytes ≡ 64 → lanes ≡ take 64 (drop 0 bytes) → Positive 64 lanes → Positive 64 bytes
+whole_clear bytes lanes long e some k l = part_clear 0 bytes lanes e some k (omega arith) l

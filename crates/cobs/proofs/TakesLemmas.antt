@@ -1,22 +1,24 @@
 -- What the streaming decoders do with a byte and with a piece.
-use Rattle.std.proofs.Common.{◌≡◌, ℕ, suc, ◌+◌, ◌^◌, ◌<◌, ◌≤◌, min, false, List, [], ◌∷◌, ◌++◌, length, take, drop, append_assoc, length-append, length-take, length-drop, get_or, Option, Some, None, Result, Ok, Err, inl, inr, refl, ap, sym, ◌∙◌, subst, arith}
-use Rattle.std.proofs.lemmas.List.{append-nil, take-take, drop_more}
+use Rattle.std.proofs.Common.{◌≡◌, ◌≢◌, ℕ, zero, suc, ◌+◌, ◌-◌, ◌^◌, ◌<◌, ◌≤◌, min, nat_lt, if◌then◌else◌, false, set, List, [], ◌∷◌, ◌++◌, length, take, drop, append_assoc, length-append, length-take, length-drop, get_or, Option, Some, None, Result, Ok, Err, inl, inr, refl, ap, sym, ◌∙◌, subst, arith}
+use Rattle.std.proofs.lemmas.List.{append-nil, take-take, drop_more, set_past}
 use Rattle.std.specs.Prelude.{bit_xor, IfOk, IfSome, IsNone}
 use Rattle.cobs.specs.Frames.{NoZero, part, part_from, after}
 use Rattle.cobs.specs.InPlace.{written_over}
-use Rattle.cobs.specs.Feeding.{at_zero, at_byte, answer_of, frame_after, placed, told_by, fed, standing, listed}
+use Rattle.cobs.specs.Feeding.{at_zero, at_byte, answer_of, frame_after, placed, told_by, fed, next, standing, listed}
 use Rattle.cobs.specs.Pieces.{frame_met}
 use Rattle.cobs.specs.Reports.{parsed_size, frame_size}
 use Rattle.cobs.specs.Sentinel.{masked}
 use Rattle.cobs.specs.Streaming.{HasStreamed}
-use Rattle.cobs.specs.Taking.{FeedsByte, StoresByte, TakesPiece, TakesFront, Owes}
-use Rattle.std.proofs.lemmas.Bool.{ne_eqb}
-use Rattle.cobs.specs.declared.dec.state.DecoderState.TheVariants.{Idle, GrabChain}
+use Rattle.cobs.specs.Taking.{FeedsByte, TakesPiece, TakesFront, Owes, left_in}
+use Rattle.std.proofs.lemmas.Bool.{cases_lt, ne_eqb, lt-ltb, le-ltb}
+use Rattle.cobs.specs.declared.dec.state.DecoderState.{DecoderState}
+use Rattle.cobs.specs.declared.dec.state.DecoderState.TheVariants.{Idle, Grab, GrabChain}
 use Rattle.cobs.specs.declared.dec.report.DecodeError.{DecodeError}
+use Rattle.cobs.specs.declared.dec.report.DecodeError.TheVariants.{TargetBufTooSmall}
 use Rattle.cobs.specs.declared.dec.report.DecodeReport.{DecodeReport}
 use Rattle.cobs.specs.declared.dec.progress.Progress.{Progress}
 use Rattle.cobs.proofs.DecodingLemmas.{part_append, nonzero_append}
-use Rattle.cobs.proofs.FeedsLemmas.{frame_byte, answer_byte, part_told}
+use Rattle.cobs.proofs.FeedsLemmas.{StoresByte, frame_byte, answer_byte, part_told, takes_told, takes_over}
 use Rattle.cobs.proofs.MaskingLemmas.{masked_zero, masked_length, masked_get}
 use Rattle.cobs.proofs.MessagesLemmas.{decoded_next, decoded_left, placed_zero, length-placed, message_here, message_met}
 use Rattle.cobs.proofs.PassingLemmas.{all_placed}
@@ -61,6 +63,26 @@ pub takes_nonzero : (d : Progress) (old : List ℕ) (byte : ℕ) (result : Resul
 takes_nonzero d old byte result d' new z h a b w r =
     takes_byte d old byte result d' new (λ p s. rw (frame_byte p byte z) (h p s)) (λ p s. a p s ∙ sym (answer_byte (length old) p byte z)) b w r
 
+-- a byte of a frame was taken
+pub takes_stored : (d : Progress) (old : List ℕ) (byte : ℕ) (result : Result (Option ℕ) DecodeError) (d' : Progress) (new : List ℕ) → 0 < byte → length new ≡ length old → StoresByte d old byte result d' new → FeedsByte d old byte result d' new
+takes_stored d old byte result d' new z r s = takes_nonzero d old byte result d' new z s.stands s.answer s.buffer (none_within result (λ n. n ≤ length new) s.none) r
+
+-- and it told a byte of the message
+pub takes_put : (d : Progress) (old : List ℕ) (byte x : ℕ) (result : Result (Option ℕ) DecodeError) (d' : Progress) (new : List ℕ) → 0 < byte → byte < 256 → length old < 2 ^ 64 → length new ≡ length old
+    → told_by (fed d.state byte) ≡ Some x → d'.state ≡ next d.state byte → d'.len ≡ min (d.len + 1) (2 ^ 64 - 1)
+    → result ≡ (if nat_lt d.len (length old) then Ok None else Err TargetBufTooSmall) → new ≡ set old d.len x → FeedsByte d old byte result d' new
+takes_put d old byte x result d' new some small w room told state len answer put = elim (cases_lt d.len (length old)) [
+  | inl l ↦
+      let is : result ≡ Ok None = answer ∙ rw (lt-ltb d.len (length old) l) refl in
+      takes_stored d old byte result d' new some room
+      (subst (λ r. StoresByte d old byte r d' new) (sym is) (subst (λ b. StoresByte d old byte (Ok None) d' b) (sym put) (takes_told old d d' byte some small state x told len l w)))
+  | inr g ↦
+      let is : result ≡ Err TargetBufTooSmall = answer ∙ rw (le-ltb d.len (length old) g) refl in
+      let same : new ≡ old = put ∙ set_past old d.len x g in
+      takes_stored d old byte result d' new some room
+      (subst (λ r. StoresByte d old byte r d' new) (sym is) (subst (λ b. StoresByte d old byte (Err TargetBufTooSmall) d' b) (sym same) (takes_over old d d' byte some small state x told len g)))
+]
+
 pub takes_piece : (d : Progress) (old piece : List ℕ) (result : Result (Option DecodeReport) DecodeError) (d' : Progress) (new : List ℕ)
     → ((p : List ℕ) → HasStreamed d p → Came p piece old result d' new) → IfOk result (λ o. IfSome o (λ r. (parsed_size r ≤ length piece) × (frame_size r ≤ length new))) → length new ≡ length old
     → TakesPiece d old piece result d' new
@@ -96,6 +118,12 @@ owes_idle code z = (rw (ne_eqb code 0 (λ e. omega arith)) refl, rw (ne_eqb code
 
 pub owes_chain : Owes (GrabChain 0)
 owes_chain code z = (rw (ne_eqb code 0 (λ e. omega arith)) refl, rw (ne_eqb code 0 (λ e. omega arith)) refl)
+
+pub owes_other : (state : DecoderState) → left_in state ≡ 0 → ((n : ℕ) → state ≢ Grab n) → Owes state
+owes_other Idle none other = owes_idle
+owes_other (Grab n) none other = absurd (other n refl)
+owes_other (GrabChain zero) none other = owes_chain
+owes_other (GrabChain (suc n)) none other = absurd (omega (arith, none))
 
 -- nothing was taken in
 pub none_taken : (p piece old new : List ℕ) (n : ℕ) (d : Progress) → n ≡ 0 → TakesFront p piece old n d new → HasStreamed d p × (new ≡ old)

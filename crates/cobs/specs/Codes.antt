@@ -1,7 +1,10 @@
 -- How the bytes of a chunk are coded in the open block of a frame.
-use Rattle.std.specs.Prelude.{◌≡◌, ℕ, suc, ◌+◌, ◌<◌, ◌≤◌, List, [], ◌∷◌, ◌++◌, length, slice_index}
+use Rattle.std.specs.Prelude.{◌≡◌, ℕ, suc, ◌+◌, ◌<◌, ◌≤◌, List, [], ◌∷◌, ◌++◌, length, take, drop, slice_index}
 use Rattle.std.specs.Int.{bit_at}
 use Rattle.cobs.specs.Frames.{shortest_frame, shortest_from}
+use Rattle.cobs.specs.InPlace.{written_over}
+use Rattle.cobs.specs.Sentinel.{masked}
+use Rattle.cobs.specs.declared.codes.Place.{Place}
 
 -- The buffer has closed blocks, a position for the code of the open run, that run, and then bytes that are still to be coded:
 -- with these the message is whole, and whatever follows it goes on after them.
@@ -31,9 +34,10 @@ pub record Putting (bytes : List ℕ) (code_at at : ℕ) (message rest : List �
   pub goes_on : (more : List ℕ)
       → shortest_frame (message ++ more) ≡ closed ++ shortest_from run (rest ++ more)
 
--- The bytes are, from a position on, within the buffer and the open block.
+-- The bytes, at least one, are from a position on within the buffer and the open block.
 pub record InBlock (buffer : List ℕ) (code_at from : ℕ) (bytes : List ℕ) : Type 0 where
   pub begins : code_at < from
+  pub some : 0 < length bytes
   pub within : from + length bytes ≤ length buffer
   pub short : from + length bytes ≤ code_at + 255
 
@@ -75,6 +79,16 @@ pub record Stepped (before : List ℕ) (code_at from : ℕ)
   pub coding : (message : List ℕ) → Open before code_at from message
       → Coding buffer last (from + length bytes) (message ++ bytes) []
 
+-- So many bytes that are in the open block are coded there, each byte of the buffer XORed with the sentinel.
+abbrev pub CodedThere : ℕ → List ℕ → Place → ℕ → List ℕ → ℕ → Type 0
+CodedThere sentinel before at n buffer last =
+    Coded (masked sentinel before) at.code_at at.len (masked sentinel (take n (drop at.len before))) (masked sentinel buffer) last
+
+-- Bytes were copied into the open block and coded there, in the same way.
+abbrev pub PutThere : ℕ → List ℕ → Place → List ℕ → List ℕ → ℕ → Type 0
+PutThere sentinel before at bytes buffer last =
+    Stepped (masked sentinel before) at.code_at at.len bytes (masked sentinel buffer) last
+
 -- the bits that are set are the positions, from one on, of the bytes that are zero
 pub record Marks (bits from : ℕ) (bytes : List ℕ) : Type 0 where
   pub low : (k : ℕ) → bit_at bits k ≡ 1 → from ≤ k
@@ -87,3 +101,11 @@ pub record Fills (width n : ℕ) : Type 0 where
   pub wide : width ≤ 32
   pub some : width ≤ n
   pub few : n ≤ width + width
+
+-- Bytes are written over a buffer, from a position on, each XORed with the sentinel.
+abbrev pub Copied : ℕ → ℕ → List ℕ → List ℕ → List ℕ → Type 0
+Copied place sentinel bytes before buffer = buffer ≡ written_over place (masked sentinel bytes) before
+
+-- Each of the first n bytes is more than zero.
+abbrev pub Positive : ℕ → List ℕ → Type 0
+Positive n bytes = (k : ℕ) → k < n → 0 < slice_index bytes k

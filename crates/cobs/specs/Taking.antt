@@ -1,8 +1,8 @@
 -- What the streaming decoders do with what they are given, each byte XORed with the sentinel: what each keeps, and its buffer,
 -- before and afterwards.
-use Rattle.std.specs.Prelude.{◌≡◌, ℕ, ◌+◌, ◌-◌, ◌==◌, if◌then◌else◌, ◌<◌, ◌≤◌, false, List, [], ◌∷◌, ◌++◌, length, take, drop, Option, None, Result, Ok, Err, IfOk, IfSome, IsNone, ◌≢◌, slice_index}
+use Rattle.std.specs.Prelude.{◌≡◌, ℕ, ◌+◌, ◌-◌, ◌==◌, if◌then◌else◌, ◌<◌, ◌≤◌, false, List, ◌++◌, length, take, Option, None, Result, Ok, Err, IfOk, IfSome, ◌≢◌, slice_index}
 use Rattle.cobs.specs.Frames.{NoZero, part, part_from, after}
-use Rattle.cobs.specs.Feeding.{answer_of, at_byte, frame_after, placed, by_code, told_by, fed, next}
+use Rattle.cobs.specs.Feeding.{answer_of, frame_after, placed, by_code, told_by, fed, next}
 use Rattle.cobs.specs.InPlace.{overwritten, written_over}
 use Rattle.cobs.specs.Pieces.{first_answer, frame_left, frame_met, buffer_left}
 use Rattle.cobs.specs.Sentinel.{masked}
@@ -35,16 +35,6 @@ pub record FeedsByte (before : Progress) (old : List ℕ) (byte : ℕ)
   pub within : IfOk result (λ o. IfSome o (λ n. n ≤ length new))
   -- The buffer's length is unchanged.
   pub room : length new ≡ length old
-
--- A byte of a frame is taken (private contracts alone): a byte of the message that doesn't fit is counted and refused.
-pub record StoresByte (before : Progress) (old : List ℕ) (byte : ℕ)
-    (result : Result (Option ℕ) DecodeError) (behind : Progress) (new : List ℕ) : Type 0 where
-  pub stands : (p : List ℕ) → HasStreamed before p → HasStreamed behind (p ++ byte ∷ [])
-  pub answer : (p : List ℕ) → HasStreamed before p → result ≡ at_byte (length old) p byte
-  pub buffer : (p : List ℕ) → HasStreamed before p → new ≡ placed p byte old
-  pub none : IfOk result IsNone
-  pub len : behind.len ≤ before.len + 1
-  pub rest : drop (before.len + 1) new ≡ drop (before.len + 1) old
 
 -- A chunk is pushed: the same, up to the first result.
 pub record TakesPiece (before : Progress) (old piece : List ℕ)

@@ -1,23 +1,29 @@
-//! A chunk is copied into an open block, and each of its zeros becomes the code of the block that it begins.
+//! Chunks of a message are appended to a frame, block by block, each zero as a code.
 //!
-//! It goes by 64 bytes, and then by those that are left: fewer than 64 by vectors of 32 to 1 bytes, the last
-//! overlapping. They are copied by vectors, which show whether there is a zero among them. The zeros are found by
-//! masks, and 64 zeros are filled at once. Bytes are written XORed with the sentinel, as all of a frame is; a chunk
-//! has the message's bytes.
+//! Fewer than 8 bytes into the open block go by a loop; others by 64, and those that are left by vectors of 32 to 1
+//! bytes, the last overlapping. Reloading written bytes costs double, so the copy shows whether there is a zero. Zeros
+//! are found by masks, and 64 zeros are filled at once. Bytes are written XORed with the sentinel.
 //!
-//! Each byte moves once. Bytes of a full block, and 64 of another, are inspected as they are copied, since reloading
-//! written bytes costs double. In several blocks each 64 bytes are marked at once; in one block only if a zero is
-//! seen.
+//! If the bytes don't fit, the position has length 0, which no frame has: an `Option` would go through memory.
 //!
-//! Rejected: searching all input, which is quadratic without zeros; a search and a copy for each run, which is slow
-//! for dense zeros; inspecting before copying, a third slower without zeros; a separate step for 64 bytes, a fifth
-//! faster for zeros only, and five functions more.
-ghost use Rattle.std.specs.Prelude.{◌≡◌, ◌≢◌, ℕ, ◌+◌, ◌<◌, ◌≤◌, length, take, drop, slice_index, true};
+//! Rejected: searching all input, which is quadratic without zeros; a search and a copy for each run, which is slow for
+//! dense zeros; inspecting before copying, a third slower without zeros; a separate step for 64 bytes.
+ghost use Rattle.std.specs.Prelude.{◌≡◌, ◌≢◌, ℕ, ◌+◌, ◌<◌, ◌≤◌, [], length, take, drop, slice_index, true};
 ghost use Rattle.std.specs.Int.{bit_at};
-ghost use Rattle.cobs.specs.Codes.{InBlock, FewInBlock, Coded, Marks, Stepped};
+ghost use Rattle.cobs.specs.Codes.{InBlock, FewInBlock, Coded, Marks, CodedThere, PutThere};
+ghost use Rattle.cobs.specs.Held.{pushed, Laid, FitsBlock, GoesOnFromBlock, GoesOnIn, WentOnIn, HoldsFrame};
 ghost use Rattle.cobs.specs.Sentinel.{masked};
 
-use crate::moves::{copy_clear, copy_clear_64, copy_marked, marks_of, row_over, zeros_of_ends};
+use crate::moves::{
+    copy_64, copy_clear, copy_marked, is_positive, marks_of, row_over, zeros_of_ends,
+};
+
+// The positions of the last block's code and of the frame's end.
+#[derive(Clone, Copy)]
+pub(crate) struct Place {
+    pub(crate) code_at: usize,
+    pub(crate) len: usize,
+}
 
 // The lowest bit that is set, and the others.
 #[inline(always)]
@@ -37,26 +43,18 @@ pub(crate) fn lowest(bits: u64) -> (usize, u64)
 // Writes a code at each zero of at most 64 bytes that are in the open block, from a position on, by the marks of
 // their zeros. Returns the position of the last code.
 #[inline(always)]
-fn put_codes_marked(
-    dest: &mut [u8],
-    code_at: usize,
-    from: usize,
-    n: usize,
-    marks: u64,
-    sentinel: u8,
-) -> usize
-    requires block { FewInBlock dest.old code_at from n }
-    requires marks { Marks marks 0 (masked sentinel (take n (drop from dest.old))) }
-    ensures { Coded (masked sentinel dest.old) code_at from
-        (masked sentinel (take n (drop from dest.old))) (masked sentinel dest.new) result }
+fn put_codes_marked(dest: &mut [u8], at: Place, n: usize, marks: u64, sentinel: u8) -> usize
+    requires block { FewInBlock dest.old at.code_at at.len n }
+    requires marks { Marks marks 0 (masked sentinel (take n (drop at.len dest.old))) }
+    ensures { CodedThere sentinel dest.old at n dest.new result }
 {
-    let mut code = code_at;
+    let mut code = at.code_at;
     let mut zeros = marks;
     while zeros != 0 {
         let (n, others) = lowest(zeros);
-        let at = from + n;
-        dest[code] = sentinel ^ (at - code) as u8;
-        code = at;
+        let here = at.len + n;
+        dest[code] = sentinel ^ (here - code) as u8;
+        code = here;
         zeros = others;
     }
     code
@@ -64,49 +62,29 @@ fn put_codes_marked(
 
 // The same of bytes that are all zero.
 #[inline(always)]
-fn put_codes_of_zeros(dest: &mut [u8], code_at: usize, from: usize, n: usize, sentinel: u8) -> usize
-    requires block { FewInBlock dest.old code_at from n }
+fn put_codes_of_zeros(dest: &mut [u8], at: Place, n: usize, sentinel: u8) -> usize
+    requires block { FewInBlock dest.old at.code_at at.len n }
     requires zeros { (k : ℕ) → k < n
-        → slice_index (masked sentinel (take n (drop from dest.old))) k ≡ 0 }
-    ensures { Coded (masked sentinel dest.old) code_at from
-        (masked sentinel (take n (drop from dest.old))) (masked sentinel dest.new) result }
+        → slice_index (masked sentinel (take n (drop at.len dest.old))) k ≡ 0 }
+    ensures { CodedThere sentinel dest.old at n dest.new result }
 {
-    dest[code_at] = sentinel ^ (from - code_at) as u8;
-    row_over(dest, from, n, sentinel ^ 1);
-    from + n - 1
+    dest[at.code_at] = sentinel ^ (at.len - at.code_at) as u8;
+    row_over(dest, at.len, n, sentinel ^ 1);
+    at.len + n - 1
 }
 
 // The same as `put_codes_marked`: if all are zero they are filled at once.
 #[inline(always)]
-fn put_codes_of_marks(
-    dest: &mut [u8],
-    code_at: usize,
-    from: usize,
-    n: usize,
-    marks: u64,
-    sentinel: u8,
-) -> usize
-    requires block { FewInBlock dest.old code_at from n }
-    requires marks { Marks marks 0 (masked sentinel (take n (drop from dest.old))) }
-    ensures { Coded (masked sentinel dest.old) code_at from
-        (masked sentinel (take n (drop from dest.old))) (masked sentinel dest.new) result }
+fn put_codes_of_marks(dest: &mut [u8], at: Place, n: usize, marks: u64, sentinel: u8) -> usize
+    requires block { FewInBlock dest.old at.code_at at.len n }
+    requires marks { Marks marks 0 (masked sentinel (take n (drop at.len dest.old))) }
+    ensures { CodedThere sentinel dest.old at n dest.new result }
 {
-    if marks != 0 && are_all_marked(marks, n) {
-        put_codes_of_zeros(dest, code_at, from, n, sentinel)
+    if marks != 0 && n <= marks.trailing_ones() as usize {
+        put_codes_of_zeros(dest, at, n, sentinel)
     } else {
-        put_codes_marked(dest, code_at, from, n, marks, sentinel)
+        put_codes_marked(dest, at, n, marks, sentinel)
     }
-}
-
-// Whether so many bytes are all marked.
-#[inline(always)]
-fn are_all_marked(marks: u64, n: usize) -> bool
-    ensures { result ≡ true → (k : ℕ) → k < n → k < 64 → bit_at marks k ≡ 1 }
-{
-    if n == 64 {
-        return marks == u64::MAX;
-    }
-    n <= marks.trailing_ones() as usize
 }
 
 // Writes a code at each zero of n bytes that are in the buffer, for the sentinel zero, and returns the position of the
@@ -116,11 +94,12 @@ pub(crate) fn put_codes_standing(dest: &mut [u8], code_at: usize, from: usize, n
     requires { FewInBlock dest.old code_at from n }
     ensures { Coded dest.old code_at from (take n (drop from dest.old)) dest.new result }
 {
+    let at = Place { code_at, len: from };
     let marks = marks_of(&dest[from..from + n], 0);
-    if marks != 0 && n == 64 && are_all_marked(marks, n) {
-        return put_codes_of_zeros(dest, code_at, from, n, 0);
+    if n == 64 && marks == u64::MAX {
+        return put_codes_of_zeros(dest, at, n, 0);
     }
-    put_codes_marked(dest, code_at, from, n, marks, 0)
+    put_codes_marked(dest, at, n, marks, 0)
 }
 
 // Copies at most 64 bytes into the open block and writes a code at each of their zeros. Returns the position of the
@@ -129,71 +108,170 @@ pub(crate) fn put_codes_standing(dest: &mut [u8], code_at: usize, from: usize, n
 #[inline(always)]
 fn put_some<const WAY: usize, const CALL: usize>(
     dest: &mut [u8],
-    code_at: usize,
-    from: usize,
+    at: Place,
     bytes: &[u8],
     sentinel: u8,
 ) -> usize
-    requires block { InBlock dest.old code_at from bytes.now }
-    requires some { 0 < length bytes.now }
+    requires block { InBlock dest.old at.code_at at.len bytes.now }
     requires few { length bytes.now ≤ 64 }
-    ensures { Stepped (masked sentinel dest.old) code_at from bytes.now
-        (masked sentinel dest.new) result }
+    ensures { PutThere sentinel dest.old at bytes.now dest.new result }
 {
     if WAY == 0 && bytes.len() == 64 {
-        if copy_clear_64(bytes, dest, from, sentinel) {
-            return code_at;
+        if is_positive(copy_64(bytes, 0, dest, at.len, sentinel)) {
+            return at.code_at;
         }
         let marks = zeros_of_ends::<32>(bytes, 0);
-        return put_codes_of_marks(dest, code_at, from, bytes.len(), marks, sentinel);
+        return put_codes_of_marks(dest, at, bytes.len(), marks, sentinel);
     }
-    let marks = copy_marked(bytes, dest, from, sentinel);
-    put_codes_of_marks(dest, code_at, from, bytes.len(), marks, sentinel)
+    let marks = copy_marked(bytes, dest, at.len, sentinel);
+    put_codes_of_marks(dest, at, bytes.len(), marks, sentinel)
 }
 
 // The same of any bytes.
 #[inline(always)]
-fn put_bytes<const WAY: usize>(
-    dest: &mut [u8],
-    code_at: usize,
-    from: usize,
-    bytes: &[u8],
-    sentinel: u8,
-) -> usize
-    requires block { InBlock dest.old code_at from bytes.now }
-    requires some { 0 < length bytes.now }
-    ensures { Stepped (masked sentinel dest.old) code_at from bytes.now
-        (masked sentinel dest.new) result }
+fn put_bytes<const WAY: usize>(dest: &mut [u8], at: Place, bytes: &[u8], sentinel: u8) -> usize
+    requires block { InBlock dest.old at.code_at at.len bytes.now }
+    ensures { PutThere sentinel dest.old at bytes.now dest.new result }
 {
-    let mut code = code_at;
-    let mut at = from;
+    let mut place = at;
     let mut rest = bytes;
     while 64 < rest.len() {
         let (front, after) = rest.split_at(64);
-        code = put_some::<WAY, 0>(dest, code, at, front, sentinel);
-        at += 64;
+        place.code_at = put_some::<WAY, 0>(dest, place, front, sentinel);
+        place.len += 64;
         rest = after;
     }
-    put_some::<WAY, 1>(dest, code, at, rest, sentinel)
+    put_some::<WAY, 1>(dest, place, rest, sentinel)
 }
 
-// The same as `put_bytes`, of the bytes of a block: those of a full one are inspected as they are copied, unless they
-// begin with a zero. Reloading written bytes costs double.
+// The same of the bytes of a block: those of a full one are inspected as they are copied, unless a zero is first.
 #[inline(always)]
-pub(crate) fn put_block<const WAY: usize>(
+fn put_block<const WAY: usize>(dest: &mut [u8], at: Place, bytes: &[u8], sentinel: u8) -> usize
+    requires block { InBlock dest.old at.code_at at.len bytes.now }
+    ensures { PutThere sentinel dest.old at bytes.now dest.new result }
+{
+    if bytes.len() == 254 && bytes[0] != 0 && copy_clear(bytes, dest, at.len, sentinel) {
+        return at.code_at;
+    }
+    put_bytes::<WAY>(dest, at, bytes, sentinel)
+}
+
+// Copies a chunk into the open block, which has space for it, and writes a code at each of its zeros. Whatever is
+// written is XORed with the sentinel, so contracts speak of the buffer without that: masked once more. The number
+// says how 64 bytes are copied: 0 if few zeros are likely. Each caller has a copy of its own by its number.
+#[inline(always)]
+fn put_run<const WAY: usize>(dest: &mut [u8], at: Place, piece: &[u8], sentinel: u8) -> Place
+    requires { FitsBlock dest.old sentinel at.code_at at.len piece.now }
+    ensures holds { GoesOnIn sentinel dest.old at.code_at at.len piece.now dest.new result }
+{
+    let code_at = put_block::<WAY>(dest, at, piece, sentinel);
+    let end = at.len + piece.len();
+    dest[code_at] = sentinel ^ (end - code_at) as u8;
+    Place { code_at, len: end }
+}
+
+// The same in one pass: for a few bytes a call that copies a slice costs more than they do.
+#[inline(always)]
+fn put_few(dest: &mut [u8], at: Place, piece: &[u8], sentinel: u8) -> Place
+    requires { FitsBlock dest.old sentinel at.code_at at.len piece.now }
+    ensures holds { GoesOnIn sentinel dest.old at.code_at at.len piece.now dest.new result }
+{
+    let mut code_at = at.code_at;
+    let mut here = at.len;
+    for byte in piece {
+        if *byte == 0 {
+            dest[code_at] = sentinel ^ (here - code_at) as u8;
+            code_at = here;
+        } else {
+            dest[here] = sentinel ^ *byte;
+        }
+        here += 1;
+    }
+    dest[code_at] = sentinel ^ (here - code_at) as u8;
+    Place { code_at, len: here }
+}
+
+// The same for a first chunk, which opens the frame: compiled by itself, since its positions are known.
+#[inline(never)]
+fn put_first(piece: &[u8], dest: &mut [u8], sentinel: u8) -> Place
+    requires { FitsBlock dest.old sentinel 0 1 piece.now }
+    ensures holds { GoesOnIn sentinel dest.old 0 1 piece.now dest.new result }
+{
+    put_run::<0>(dest, Place { code_at: 0, len: 1 }, piece, sentinel)
+}
+
+// Returns the open block; after a full one a new block is opened. A full block is closed only here, by the byte after
+// it, so that the buffer always begins with the shortest frame.
+#[inline(always)]
+fn open_block(dest: &mut [u8], at: Place, sentinel: u8) -> Place
+    requires holds { HoldsFrame (masked sentinel dest.old) at.code_at at.len }
+    requires room { at.len < length dest.old }
+    ensures laid { Laid (masked sentinel dest.new) result.code_at result.len }
+    ensures goes_on { GoesOnFromBlock (masked sentinel dest.new) result.code_at result.len
+        (pushed (masked sentinel dest.old) at.len) }
+    ensures open { result.len < result.code_at + 255 }
+{
+    if at.len == at.code_at + 255 {
+        dest[at.len] = sentinel ^ 1;
+        return Place {
+            code_at: at.len,
+            len: at.len + 1,
+        };
+    }
+    at
+}
+
+// Appends bytes to the frame, block by block, and returns its new end: length 0 if they don't all fit. It is compiled
+// once for each number: one copy is for the sentinel zero, which XORs nothing.
+#[inline(never)]
+fn put_blocks<const WAY: usize>(dest: &mut [u8], at: Place, bytes: &[u8], sentinel: u8) -> Place
+    requires { HoldsFrame (masked sentinel dest.old) at.code_at at.len }
+    ensures { WentOnIn sentinel dest.old at.len bytes.now dest.new result }
+{
+    let mut place = at;
+    let mut rest = bytes;
+    while !rest.is_empty() {
+        if dest.len() - place.len < rest.len() {
+            return Place { code_at: 0, len: 0 };
+        }
+        let open = open_block(dest, place, sentinel);
+        if dest.len() - open.len < rest.len() {
+            return Place { code_at: 0, len: 0 };
+        }
+        let n = rest.len().min(open.code_at + 255 - open.len);
+        place = put_run::<WAY>(dest, open, &rest[..n], sentinel);
+        rest = &rest[n..];
+    }
+    place
+}
+
+// Appends bytes to the frame, and returns its new end: length 0 if they don't all fit. A few bytes into the open
+// block need no call, and a first chunk of one block a short one. Each caller has a copy of its own by its number.
+#[inline(always)]
+pub(crate) fn put_all<const CALL: usize>(
     dest: &mut [u8],
-    code_at: usize,
-    from: usize,
+    at: Place,
     bytes: &[u8],
     sentinel: u8,
-) -> usize
-    requires block { InBlock dest.old code_at from bytes.now }
-    requires some { 0 < length bytes.now }
-    ensures { Stepped (masked sentinel dest.old) code_at from bytes.now
-        (masked sentinel dest.new) result }
+) -> Place
+    requires { HoldsFrame (masked sentinel dest.old) at.code_at at.len }
+    ensures went_on { WentOnIn sentinel dest.old at.len bytes.now dest.new result }
+    ensures nothing { bytes.now ≡ [] → dest.new ≡ dest.old }
 {
-    if bytes.len() == 254 && bytes[0] != 0 && copy_clear(bytes, dest, from, sentinel) {
-        return code_at;
+    if bytes.is_empty() {
+        return at;
     }
-    put_bytes::<WAY>(dest, code_at, from, bytes, sentinel)
+    if bytes.len() < 8 {
+        let end = at.len + bytes.len();
+        if end <= dest.len() && end <= at.code_at + 255 {
+            return put_few(dest, at, bytes, sentinel);
+        }
+    }
+    if at.len == 1 && bytes.len() <= 254 && bytes.len() < dest.len() {
+        return put_first(bytes, dest, sentinel);
+    }
+    if sentinel == 0 {
+        return put_blocks::<1>(dest, at, bytes, 0);
+    }
+    put_blocks::<2>(dest, at, bytes, sentinel)
 }

@@ -1,5 +1,5 @@
-//! The position of the first sentinel: by 255 bytes as long as they have none, by 64, by a mask of the last ones, by a loop
-//! under 4. Up to 64 bytes are searched where the call is.
+//! The position of the first sentinel: by 255 bytes as long as they have none, by 64, by a mask of the last ones, by a
+//! loop under 4. Up to 64 bytes are searched where the call is.
 //!
 //! Rejected: `memchr`, which goes by a vector a step, and takes nearly twice as many instructions.
 ghost use Rattle.std.specs.Prelude.{◌≡◌, ◌≢◌, ℕ, ◌<◌, ◌≤◌, length, slice_index};

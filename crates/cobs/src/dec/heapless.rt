@@ -35,14 +35,15 @@ impl<const N: usize> CobsDecoderHeapless<N> {
         CobsDecoderHeapless::new_with_sentinel(0)
     }
 
-    /// An idle decoder of frames that end with `sentinel` and whose bytes are each XORed with it, over a buffer of
-    /// zeros.
+    /// As [`Self::new`], of frames that end with `sentinel` and whose bytes are each XORed with it.
     pub fn new_with_sentinel(sentinel: u8) -> CobsDecoderHeapless<N>
         ensures idle { ArrayHas result [] }
         ensures buffer { array_buffer result ≡ replicate N 0 }
         ensures sentinel { array_sentinel result ≡ sentinel }
     {
-        CobsDecoderHeapless::filled(ArrayVec::new(), sentinel)
+        let mut decoder = CobsDecoderHeapless::new_with_vec(ArrayVec::new());
+        decoder.sentinel = sentinel;
+        decoder
     }
 
     /// An idle decoder of frames that end with a zero, whose buffer has the vector's bytes and then zeros.
@@ -53,17 +54,6 @@ impl<const N: usize> CobsDecoderHeapless<N> {
         ensures sentinel { array_sentinel result ≡ 0 }
         ensures room { length (array_buffer result) ≡ N }
     {
-        CobsDecoderHeapless::filled(vec, 0)
-    }
-
-    // The same for any sentinel.
-    fn filled(vec: ArrayVec<u8, N>, sentinel: u8) -> CobsDecoderHeapless<N>
-        ensures idle { ArrayHas result [] }
-        ensures buffer { array_buffer result
-            ≡ vec.entry.items ++ replicate (N - length vec.entry.items) 0 }
-        ensures sentinel { array_sentinel result ≡ sentinel }
-        ensures room { length (array_buffer result) ≡ N }
-    {
         let mut array = vec;
         while !array.is_full() {
             array.push(0);
@@ -71,12 +61,12 @@ impl<const N: usize> CobsDecoderHeapless<N> {
         CobsDecoderHeapless {
             array,
             progress: Progress::new(),
-            sentinel,
+            sentinel: 0,
         }
     }
 
-    /// Takes a byte. At the sentinel after a complete frame it returns the message's length n: the message is
-    /// `dest()[..n]`. Until then, and at a sentinel between frames, it returns `None`.
+    /// Takes a byte. At the sentinel after a complete frame it returns the length n of the message, `dest()[..n]`, and
+    /// otherwise `None`.
     ///
     /// # Errors
     /// As [`CobsDecoder::feed`](crate::CobsDecoder::feed).
@@ -128,10 +118,7 @@ impl<const N: usize> CobsDecoderHeapless<N> {
         self.array.as_slice()
     }
 
-    /// The buffer, for writing. The frame goes on: what is written over decoded bytes replaces them.
-    ///
-    /// The decoder's state afterwards is a lending clause, which only a proof by hand can use; `overwrite` states it
-    /// in plain clauses.
+    /// The buffer, for writing, as [`CobsDecoder::dest_mut`](crate::CobsDecoder::dest_mut).
     pub fn dest_mut(&mut self) -> &mut [u8]
         ensures* lends { sem 𝓛 (LendsArrayBuffer N.row self.entry result) }
         ensures value { result.now ≡ array_buffer self.old }

@@ -1,26 +1,26 @@
-//! Decoding a buffer in place: the first 256 bytes are one window; longer frames, and rows of codes 01, have a loop.
-ghost use Rattle.std.specs.Prelude.{◌≡◌, ◌≢◌, ℕ, ◌<◌, ◌≤◌, List, [], length, take, drop, slice_index, IfOk, OnErr};
+//! Decoding in place, and whole input into a new vector, which is then decoded in place. The first 256 bytes are one window;
+//! longer frames, and rows of codes 01, have a loop.
+ghost use Rattle.std.specs.Prelude.{◌≡◌, ◌≢◌, ℕ, ◌<◌, ◌≤◌, List, [], length, take, drop, slice_index, IfOk, IfErr, OnErr, MatchResult, ◌⊎◌};
 ghost use Rattle.cobs.specs.Frames.{Frame, NoZero, part};
 ghost use Rattle.cobs.specs.Reports.{frame_size};
 ghost use Rattle.cobs.specs.InPlace.{stretch, in_place, in_place_length, overwritten, DecodesInPlace};
 ghost use Rattle.cobs.specs.Sentinel.{masked, ComeBefore};
+ghost use Rattle.cobs.specs.Whole.{frame_in, message_of_stretch, message_of_frame, RefusesWhole};
+ghost use Rattle.cobs.specs.declared.dec.report.DecodeVecError.TheVariants.{OutOfMemory};
 
 use super::progress::Progress;
-use super::report::{DecodeError, DecodeReport};
+use super::report::{DecodeError, DecodeReport, DecodeVecError, Reported};
 use super::state::by_code;
-use super::whole::{answer_behind, apart, with_parsed};
+use super::whole::{answer_behind, apart, before, behind_zeros, with_parsed};
 use super::window::put_zeros;
 use crate::finding::{before_by_64, before_few};
 use crate::moves::{is_clear_255, mask, move_down};
+use std::alloc::Global;
 
 // Decodes the bytes at the start of a buffer that are in a frame, each XORed with the sentinel, in place: those of
 // one window. After the code of a full block no byte is outside it.
 #[inline(always)]
-fn decode_short_in_place(
-    buf: &mut [u8],
-    end: usize,
-    sentinel: u8,
-) -> Result<DecodeReport, DecodeError>
+fn decode_short_in_place(buf: &mut [u8], end: usize, sentinel: u8) -> Reported
     requires few { end ≤ 255 }
     requires stops { ComeBefore sentinel buf.old end }
     requires bytes { (k : ℕ) → slice_index buf.old k < 256 }
@@ -39,9 +39,8 @@ fn decode_short_in_place(
     with_parsed(answer_behind(state, len), end)
 }
 
-// The position of the first sentinel of more than 64 bytes, if it is among the first 256 and they don't begin with a
-// row of codes 01, which are filled faster than they are put one by one; otherwise 256. The first byte and the 64th
-// show a row.
+// The position of the first sentinel of more than 64 bytes, if it is among the first 256; 256 otherwise, or if they begin with
+// a row of codes 01, which is filled faster in steps: the first byte and the 64th show it.
 #[inline(always)]
 fn near_end(bytes: &[u8], sentinel: u8) -> usize
     requires { 64 < length bytes.now }
@@ -59,10 +58,7 @@ fn near_end(bytes: &[u8], sentinel: u8) -> usize
 // As `decode_in_place_report_with_sentinel`, of a buffer that doesn't begin with the sentinel: 255 bytes are searched
 // and moved at a time. It is compiled once for each number: one copy is for the sentinel zero, which XORs nothing.
 #[inline(never)]
-fn decode_long_in_place<const COPY: usize>(
-    buf: &mut [u8],
-    sentinel: u8,
-) -> Result<DecodeReport, DecodeError>
+fn decode_long_in_place<const COPY: usize>(buf: &mut [u8], sentinel: u8) -> Reported
     requires some { 0 < length buf.old }
     requires begins { slice_index buf.old 0 ≢ sentinel }
     requires bytes { (k : ℕ) → slice_index buf.old k < 256 }
@@ -86,10 +82,7 @@ fn decode_long_in_place<const COPY: usize>(
 
 // The same, by itself: its result goes through memory that is set to zero first, here and not on its caller's faster paths.
 #[inline(always)]
-fn decode_long_apart<const COPY: usize>(
-    buf: &mut [u8],
-    sentinel: u8,
-) -> Result<DecodeReport, DecodeError>
+fn decode_long_apart<const COPY: usize>(buf: &mut [u8], sentinel: u8) -> Reported
     requires some { 0 < length buf.old }
     requires begins { slice_index buf.old 0 ≢ sentinel }
     requires bytes { (k : ℕ) → slice_index buf.old k < 256 }
@@ -104,13 +97,9 @@ fn all_bytes(bytes: &[u8])
     ensures { (k : ℕ) → slice_index bytes.now k < 256 }
 {}
 
-// As `decode_in_place_report_with_sentinel`, by the copy of that number. A short frame is searched for its end, and
-// then moved.
+// As `decode_in_place_report_with_sentinel`, by the copy of that number: a short frame is searched, and then moved.
 #[inline(always)]
-pub(crate) fn decode_by<const COPY: usize>(
-    buf: &mut [u8],
-    sentinel: u8,
-) -> Result<DecodeReport, DecodeError>
+pub(crate) fn decode_by<const COPY: usize>(buf: &mut [u8], sentinel: u8) -> Reported
     ensures { DecodesInPlace buf.old (stretch (masked sentinel buf.old)) buf.new result }
 {
     all_bytes(buf);
@@ -179,15 +168,7 @@ pub fn decode_in_place_report_with_sentinel(
 /// Decodes as [`decode_in_place_report`], and returns the message's length alone.
 ///
 /// # Errors
-/// `InvalidFrame`, with the length of the part of a message that the bytes determine; that part is then at the start
-/// of the buffer.
-///
-/// # Example
-/// With `room` beginning with a frame of 5 bytes:
-/// ```rust
-/// let decoded = cobs::decode_in_place(&mut room[..5]);
-/// check(&rt, matches!(&decoded, Ok(4)));
-/// ```
+/// As [`decode_in_place_report`].
 pub fn decode_in_place(buf: &mut [u8]) -> Result<usize, DecodeError>
     ensures answer { result ≡ in_place_length (stretch buf.old) }
     ensures frame { IfOk result (λ n. stretch buf.old ≢ []
@@ -203,10 +184,8 @@ pub fn decode_in_place(buf: &mut [u8]) -> Result<usize, DecodeError>
     }
 }
 
-/// Decodes as [`decode_in_place`], after every byte of the buffer was XORed with the sentinel, and returns the
-/// message's length.
-///
-/// Bytes after the first sentinel stay XORed.
+/// Decodes as [`decode_in_place`], after every byte of the buffer was XORed with the sentinel: those after the first
+/// sentinel stay so.
 ///
 /// # Errors
 /// As [`decode_in_place`].
@@ -227,7 +206,7 @@ pub fn decode_in_place_with_sentinel(buf: &mut [u8], sentinel: u8) -> Result<usi
 
 // As `decode_in_place_report_with_sentinel`, of bytes without a sentinel: of a short frame none is searched.
 #[inline(always)]
-fn decode_clear_report(frame: &mut [u8], sentinel: u8) -> Result<DecodeReport, DecodeError>
+fn decode_clear_report(frame: &mut [u8], sentinel: u8) -> Reported
     requires { NoZero (masked sentinel frame.old) }
     ensures { DecodesInPlace frame.old (stretch (masked sentinel frame.old)) frame.new result }
 {
@@ -271,4 +250,81 @@ pub fn decode_clear_in_place(frame: &mut [u8], sentinel: u8) -> Result<usize, De
         Ok(told) => Ok(told.frame_size()),
         Err(error) => Err(error),
     }
+}
+
+// Decodes the bytes before the first sentinel, each XORed with it, in a new vector, by the copy of that number.
+#[inline(always)]
+fn decode_copied<const COPY: usize>(
+    alloc: Global,
+    bytes: &[u8],
+    sentinel: u8,
+) -> Result<Vec<u8>, DecodeVecError>
+    ensures { MatchResult result
+        (λ v. message_of_stretch (stretch (masked sentinel bytes.now)) ≡ Ok v.items)
+        (λ e. RefusesWhole e (message_of_stretch (stretch (masked sentinel bytes.now)))) }
+{
+    let Ok(mut copied) = bytes.to_vec(alloc) else {
+        return Err(DecodeVecError::OutOfMemory);
+    };
+    match decode_by::<COPY>(copied.as_mut_slice(), sentinel) {
+        Ok(report) => {
+            copied.truncate(report.frame_size());
+            Ok(copied)
+        }
+        Err(error) => Err(DecodeVecError::Decode(error)),
+    }
+}
+
+/// Decodes the first frame of a source, as [`decode`](crate::decode) with a large enough buffer, into a new vector.
+///
+/// # Errors
+/// - `Decode`: there is no frame, with the error of `decode`.
+/// - `OutOfMemory`: the message couldn't be allocated. If the source has no frame either, either error may come.
+///
+/// # Allocates
+/// The frame's length, once.
+///
+/// # Example
+/// With `MESSAGE` as `[10, 11, 0, 12]`:
+/// ```rust
+/// let plain = cobs::decode_vec(alloc, &[3, 10, 11, 2, 12]);
+/// wants.bytes(plain, DecodeVecError::OutOfMemory, &MESSAGE);
+/// ```
+pub fn decode_vec(alloc: Global, source: &[u8]) -> Result<Vec<u8>, DecodeVecError>
+    ensures answer { MatchResult result (λ v. message_of_frame (frame_in source.now) ≡ Ok v.items)
+        (λ e. RefusesWhole e (message_of_frame (frame_in source.now))) }
+    ensures frame { IfOk result (λ v. Frame (frame_in source.now) v.items) }
+    ensures no_frame { IfErr result (λ e. (e ≡ OutOfMemory)
+        ⊎ ((m : List ℕ) → Frame (frame_in source.now) m → ⊥)) }
+{
+    let frame = before(behind_zeros(source), 0);
+    if frame.is_empty() {
+        return Err(DecodeVecError::Decode(DecodeError::EmptyFrame));
+    }
+    decode_copied::<0>(alloc, frame, 0)
+}
+
+/// Decodes the bytes before the first sentinel, as [`decode_with_sentinel`](crate::decode_with_sentinel) with a large
+/// enough buffer, into a new vector.
+///
+/// # Errors
+/// - `Decode`: the bytes aren't a frame, with the error of `decode_with_sentinel`.
+/// - `OutOfMemory`: the message couldn't be allocated. If the bytes aren't a frame either, either error may come.
+///
+/// # Allocates
+/// The length of the bytes before the sentinel, once.
+pub fn decode_vec_with_sentinel(
+    alloc: Global,
+    source: &[u8],
+    sentinel: u8,
+) -> Result<Vec<u8>, DecodeVecError>
+    ensures answer { MatchResult result
+        (λ v. message_of_stretch (stretch (masked sentinel source.now)) ≡ Ok v.items)
+        (λ e. RefusesWhole e (message_of_stretch (stretch (masked sentinel source.now)))) }
+    ensures frame { let p = stretch (masked sentinel source.now) in
+        IfOk result (λ v. p ≢ [] → Frame p v.items) }
+    ensures no_frame { IfErr result (λ e. (e ≡ OutOfMemory)
+        ⊎ ((m : List ℕ) → Frame (stretch (masked sentinel source.now)) m → ⊥)) }
+{
+    decode_copied::<1>(alloc, before(source, sentinel), sentinel)
 }

@@ -43,8 +43,7 @@ impl CobsDecoderOwned {
         CobsDecoderOwned::new_with_sentinel(alloc, size, 0)
     }
 
-    /// An idle decoder of frames that end with `sentinel` and whose bytes are each XORed with it, over a buffer of
-    /// `size` zeros.
+    /// As [`Self::new`], of frames that end with `sentinel` and whose bytes are each XORed with it.
     ///
     /// # Errors
     /// `AllocError` when out of memory.
@@ -67,8 +66,8 @@ impl CobsDecoderOwned {
         })
     }
 
-    /// Takes a byte. At the sentinel after a complete frame it returns the message's length n: the message is
-    /// `dest()[..n]`. Until then, and at a sentinel between frames, it returns `None`.
+    /// Takes a byte. At the sentinel after a complete frame it returns the length n of the message, `dest()[..n]`, and
+    /// otherwise `None`.
     ///
     /// # Errors
     /// As [`CobsDecoder::feed`](crate::CobsDecoder::feed).
@@ -147,10 +146,7 @@ impl CobsDecoderOwned {
         self.buffer.as_slice()
     }
 
-    /// The buffer, for writing. The frame goes on: what is written over decoded bytes replaces them.
-    ///
-    /// The decoder's state afterwards is a lending clause, which only a proof by hand can use; `overwrite` states it
-    /// in plain clauses.
+    /// The buffer, for writing, as [`CobsDecoder::dest_mut`](crate::CobsDecoder::dest_mut).
     pub fn dest_mut(&mut self) -> &mut [u8]
         ensures* lends { sem 𝓛 (LendsOwnedBuffer self.entry result) }
         ensures value { result.now ≡ owned_buffer self.old }

@@ -1,14 +1,14 @@
 //! Decoding a frame in chunks into a buffer: the state of the streaming decoders beside their buffer.
 //!
 //! What fits is taken by one search and one copy, with zeros written at the codes. First codes, sentinels, bytes that
-//! don't fit and chunks of up to 8 bytes go one by one. `take_255`, `take_some` and `take_some_within` have one caller
-//! for each copy, so they are inlined. `within` accompanies `answer` in contracts, since facts for each prefix don't
-//! bound an index.
-ghost use Rattle.std.specs.Prelude.{◌≡◌, ◌≢◌, ◌^◌, ℕ, ◌+◌, ◌-◌, ◌<◌, ◌≤◌, List, [], ◌∷◌, length, take, drop, slice_index, ◌↔◌, IsTrue, IfOk, IfSome};
+//! don't fit and chunks of up to 8 bytes go one by one. `take_some` and `take_some_within` have one caller for each
+//! copy, so they are inlined. Facts for each prefix don't bound an index: so contracts have `within` beside `answer`.
+ghost use Rattle.std.specs.Prelude.{◌≡◌, ◌≢◌, ◌^◌, min, nat_lt, if◌then◌else◌, Ok, Err, None, slice_set, ℕ, ◌+◌, ◌-◌, ◌<◌, ◌≤◌, List, [], ◌∷◌, length, take, drop, slice_index, ◌↔◌, IsTrue, IfOk, IfSome};
 ghost use Rattle.cobs.specs.Sentinel.{masked};
 ghost use Rattle.cobs.specs.Streaming.{HasStreamed};
+ghost use Rattle.cobs.specs.declared.dec.report.DecodeError.TheVariants.{TargetBufTooSmall};
 
-use super::report::{DecodeError, DecodeReport};
+use super::report::{DecodeError, DecodeReport, Fed, Pushed};
 use super::state::{DecoderState, by_code};
 use super::window::{FEW, ROW, WINDOW, copy_until, decode_at_once, put_zeros, same_by_64};
 use crate::finding::before_sentinel;
@@ -23,7 +23,7 @@ pub(crate) struct Progress {
 
 impl Progress {
     ghost use Rattle.cobs.specs.Feeding.{at_zero};
-    ghost use Rattle.cobs.specs.Taking.{FeedsByte, StoresByte, TakesPiece, TakesOn, Owes, left_in};
+    ghost use Rattle.cobs.specs.Taking.{FeedsByte, TakesPiece, TakesOn, Owes};
 
     pub(crate) fn new() -> Progress
         ensures { HasStreamed result [] }
@@ -38,23 +38,19 @@ impl Progress {
         ensures idle { IsTrue result ↔ HasStreamed self.now [] }
         ensures begun { (p : List ℕ) → HasStreamed self.now p → (IsTrue result ↔ p ≡ []) }
     {
-        match self.state {
-            DecoderState::Idle => self.len == 0,
-            DecoderState::Grab(_) => false,
-            DecoderState::GrabChain(_) => false,
-        }
+        matches!(self.state, DecoderState::Idle) && self.len == 0
     }
 
-    // Takes a byte of an open block. Here and at a code what is kept is written where it is known: where the two ways join, a
-    // byte costs a third more.
+    // Counts a byte of the message, and writes it if it fits.
     #[inline(always)]
-    fn take_plain(&mut self, buffer: &mut [u8], byte: u8) -> Result<Option<usize>, DecodeError>
-        requires some { 0 < byte }
-        requires open { 0 < left_in self.old.state }
-        ensures { StoresByte self.old buffer.old byte result self.new buffer.new }
+    fn put(&mut self, buffer: &mut [u8], byte: u8) -> Fed
+        ensures state { self.new.state ≡ self.old.state }
+        ensures len { self.new.len ≡ min (self.old.len + 1) (2 ^ 64 - 1) }
+        ensures answer { result ≡ if nat_lt self.old.len (length buffer.old) then Ok None
+            else Err TargetBufTooSmall }
+        ensures buffer { buffer.new ≡ slice_set buffer.old self.old.len byte }
     {
         let place = self.len;
-        self.state = self.state.behind(1);
         if buffer.len() <= place {
             self.len = place.saturating_add(1);
             return Err(DecodeError::TargetBufTooSmall);
@@ -62,35 +58,6 @@ impl Progress {
         buffer[place] = byte;
         self.len = place + 1;
         Ok(None)
-    }
-
-    // Takes a code.
-    #[inline(always)]
-    pub(crate) fn take_code(
-        &mut self,
-        buffer: &mut [u8],
-        code: u8,
-    ) -> Result<Option<usize>, DecodeError>
-        requires some { 0 < code }
-        requires closed { left_in self.old.state ≡ 0 }
-        ensures { StoresByte self.old buffer.old code result self.new buffer.new }
-    {
-        let place = self.len;
-        let state = self.state;
-        self.state = by_code(code);
-        match state {
-            DecoderState::Idle => Ok(None),
-            DecoderState::GrabChain(_) => Ok(None),
-            DecoderState::Grab(_) => {
-                self.len = place.saturating_add(1);
-                if place < buffer.len() {
-                    buffer[place] = 0;
-                    Ok(None)
-                } else {
-                    Err(DecodeError::TargetBufTooSmall)
-                }
-            }
-        }
     }
 
     // Takes the next bytes at once, each XORed with the sentinel, if they are codes 01 after a block, each of which is a zero
@@ -143,10 +110,11 @@ impl Progress {
         }
     }
 
-    // The same of bytes of any number, also codes 01, and with the code before them if no block is open: at least one. It is
-    // compiled once for each pair of numbers: one that is called once goes into its caller.
+    // The same of bytes of any number, also codes 01, and with the code before them if no block is open: at least one. A full
+    // block after another one is handled separately: what is kept is then known, and the same after it. It is compiled once for
+    // each number and kind: one that is called once goes into its caller.
     #[inline(always)]
-    pub(crate) fn take_some<const COPY: usize, const PLACE: usize>(
+    pub(crate) fn take_some<const COPY: usize, const FULL: bool>(
         &mut self,
         buffer: &mut [u8],
         bytes: &[u8],
@@ -160,6 +128,13 @@ impl Progress {
         ensures len { self.new.len ≤ self.old.len + result }
         ensures front { TakesOn self.old buffer.old sentinel bytes.now result self.new buffer.new }
     {
+        if FULL && bytes.len() == 255 && sentinel ^ bytes[0] == u8::MAX {
+            if let DecoderState::GrabChain(0) = self.state {
+                copy_over(&bytes[1..], buffer, self.len, sentinel);
+                self.len += WINDOW;
+                return 255;
+            }
+        }
         let row = self.take_row(buffer, bytes, sentinel);
         if 0 < row {
             return row;
@@ -170,33 +145,6 @@ impl Progress {
         }
         self.state = by_code(sentinel ^ bytes[0]);
         1 + self.take_clear(buffer, &bytes[1..], sentinel)
-    }
-
-    // The same of a code and as many bytes as a full block has. A full block after another one is handled separately: what is
-    // kept is then known, and the same after it.
-    #[inline(always)]
-    pub(crate) fn take_255<const COPY: usize>(
-        &mut self,
-        buffer: &mut [u8],
-        bytes: &[u8],
-        sentinel: u8,
-    ) -> usize
-        requires long { length bytes.now ≡ 255 }
-        requires room { self.old.len + length bytes.now ≤ length buffer.old }
-        requires clear { (k : ℕ) → k < length bytes.now → slice_index bytes.now k ≢ sentinel }
-        ensures some { 0 < result }
-        ensures within { result ≤ length bytes.now }
-        ensures front { TakesOn self.old buffer.old sentinel bytes.now result self.new buffer.new }
-    {
-        if sentinel ^ bytes[0] == u8::MAX {
-            if let DecoderState::GrabChain(0) = self.state {
-                copy_over(&bytes[1..], buffer, self.len, sentinel);
-                self.state = DecoderState::GrabChain(0);
-                self.len += WINDOW;
-                return 255;
-            }
-        }
-        self.take_some::<COPY, 0>(buffer, bytes, sentinel)
     }
 
     // The same of all of any number.
@@ -214,7 +162,7 @@ impl Progress {
     {
         let mut read: usize = 0;
         while read < bytes.len() {
-            read += self.take_some::<COPY, 1>(buffer, &bytes[read..], sentinel);
+            read += self.take_some::<COPY, false>(buffer, &bytes[read..], sentinel);
         }
     }
 
@@ -294,7 +242,7 @@ impl Progress {
 
     // Ends the frame at a zero.
     #[inline(always)]
-    pub(crate) fn end(&mut self, room: usize) -> Result<Option<usize>, DecodeError>
+    pub(crate) fn end(&mut self, room: usize) -> Fed
         requires { room < 2 ^ 63 }
         ensures stands { HasStreamed self.new [] }
         ensures answer { (p : List ℕ) → HasStreamed self.old p → result ≡ at_zero room p }
@@ -314,19 +262,25 @@ impl Progress {
         }
     }
 
-    // Takes a byte of a frame, or the zero after one.
+    // Takes a byte of a frame, or the zero after one. What is kept is written where it is known: where the ways join, a byte
+    // costs a third more.
     #[inline(always)]
-    pub(crate) fn feed(&mut self, buffer: &mut [u8], byte: u8) -> Result<Option<usize>, DecodeError>
+    pub(crate) fn feed(&mut self, buffer: &mut [u8], byte: u8) -> Fed
         ensures { FeedsByte self.old buffer.old byte result self.new buffer.new }
     {
         if byte == 0 {
             return self.end(buffer.len());
         }
-        let left = self.state.left();
-        if 0 < left {
-            return self.take_plain(buffer, byte);
+        let state = self.state;
+        if 0 < state.left() {
+            self.state = state.behind(1);
+            return self.put(buffer, byte);
         }
-        self.take_code(buffer, byte)
+        self.state = by_code(byte);
+        match state {
+            DecoderState::Grab(_) => self.put(buffer, 0),
+            _ => Ok(None),
+        }
     }
 
     // Takes bytes before a sentinel, at most a window, if the next code stands for a zero: they are searched as they are copied.
@@ -381,12 +335,7 @@ impl Progress {
     // Takes a chunk, of which each byte is XORed with the sentinel, up to the first result: bytes before a sentinel at once,
     // and sentinels and bytes that don't fit by themselves.
     #[inline(never)]
-    fn push_piece(
-        &mut self,
-        buffer: &mut [u8],
-        piece: &[u8],
-        sentinel: u8,
-    ) -> Result<Option<DecodeReport>, DecodeError>
+    fn push_piece(&mut self, buffer: &mut [u8], piece: &[u8], sentinel: u8) -> Pushed
         ensures { TakesPiece self.old buffer.old
             (masked sentinel piece.now) result self.new buffer.new }
     {
@@ -396,73 +345,45 @@ impl Progress {
             if at == piece.len() {
                 return Ok(None);
             }
-            match self.feed(buffer, sentinel ^ piece[at]) {
-                Ok(None) => at += 1,
-                Ok(Some(len)) => {
-                    return Ok(Some(DecodeReport {
-                        parsed: at + 1,
-                        decoded: len,
-                    }));
+            match self.feed(buffer, sentinel ^ piece[at])? {
+                None => at += 1,
+                Some(decoded) => {
+                    let parsed = at + 1;
+                    return Ok(Some(DecodeReport { parsed, decoded }));
                 }
-                Err(e) => return Err(e),
             }
         }
     }
 
-    // The same of few bytes, one by one. What is kept stays in registers meanwhile.
+    // The same of few bytes, one by one.
     #[inline(always)]
-    fn push_few(
-        &mut self,
-        buffer: &mut [u8],
-        piece: &[u8],
-        sentinel: u8,
-    ) -> Result<Option<DecodeReport>, DecodeError>
+    fn push_few(&mut self, buffer: &mut [u8], piece: &[u8], sentinel: u8) -> Pushed
         ensures { TakesPiece self.old buffer.old
             (masked sentinel piece.now) result self.new buffer.new }
     {
-        let mut now = *self;
         for at in 0..piece.len() {
-            match now.feed(buffer, sentinel ^ piece[at]) {
-                Ok(None) => {}
-                Ok(Some(decoded)) => {
-                    *self = now;
-                    let parsed = at + 1;
-                    return Ok(Some(DecodeReport { parsed, decoded }));
-                }
-                Err(e) => {
-                    *self = now;
-                    return Err(e);
-                }
+            if let Some(decoded) = self.feed(buffer, sentinel ^ piece[at])? {
+                let parsed = at + 1;
+                return Ok(Some(DecodeReport { parsed, decoded }));
             }
         }
-        *self = now;
         Ok(None)
     }
 
     // The same of one byte, by itself.
     #[inline(always)]
-    fn push_byte(
-        &mut self,
-        buffer: &mut [u8],
-        byte: u8,
-    ) -> Result<Option<DecodeReport>, DecodeError>
+    fn push_byte(&mut self, buffer: &mut [u8], byte: u8) -> Pushed
         ensures { TakesPiece self.old buffer.old (byte ∷ []) result self.new buffer.new }
     {
-        match self.feed(buffer, byte) {
-            Ok(None) => Ok(None),
-            Ok(Some(decoded)) => Ok(Some(DecodeReport { parsed: 1, decoded })),
-            Err(e) => Err(e),
+        match self.feed(buffer, byte)? {
+            Some(decoded) => Ok(Some(DecodeReport { parsed: 1, decoded })),
+            None => Ok(None),
         }
     }
 
-    // Takes a chunk up to the first result. The call gets a copy of what is kept, so that this can stay in registers elsewhere.
+    // Takes a chunk up to the first result. Each call gets a copy of what is kept, so that this can stay in registers.
     #[inline(always)]
-    pub(crate) fn push(
-        &mut self,
-        buffer: &mut [u8],
-        piece: &[u8],
-        sentinel: u8,
-    ) -> Result<Option<DecodeReport>, DecodeError>
+    pub(crate) fn push(&mut self, buffer: &mut [u8], piece: &[u8], sentinel: u8) -> Pushed
         ensures { TakesPiece self.old buffer.old
             (masked sentinel piece.now) result self.new buffer.new }
     {
@@ -470,7 +391,10 @@ impl Progress {
             return self.push_byte(buffer, sentinel ^ *byte);
         }
         if piece.len() <= 2 * FEW {
-            return self.push_few(buffer, piece, sentinel);
+            let mut few = *self;
+            let answer = few.push_few(buffer, piece, sentinel);
+            *self = few;
+            return answer;
         }
         let mut now = *self;
         let answer = now.push_piece(buffer, piece, sentinel);

@@ -4,6 +4,15 @@ ghost use Rattle.cobs.specs.Reports.{parsed_size, frame_size};
 
 use thiserror::Error;
 
+// What a byte of a frame, a chunk, a whole frame and a source lead to.
+pub(crate) type Fed = Result<Option<usize>, DecodeError>;
+
+pub(crate) type Pushed = Result<Option<DecodeReport>, DecodeError>;
+
+pub(crate) type Decoded = Result<usize, DecodeError>;
+
+pub(crate) type Reported = Result<DecodeReport, DecodeError>;
+
 /// Why decoding failed.
 ///
 /// # Example
@@ -83,11 +92,7 @@ pub type DecodingResult = DecodeReport;
 
 /// Why decoding into a new vector failed.
 ///
-/// # Example
-/// ```rust
-/// let refused = DecodeVecError::Decode(DecodeError::EmptyFrame);
-/// check(&rt, fails(decode_vec(rt.alloc(), &[0, 0]), refused));
-/// ```
+/// Example: see [`decode_vec`](crate::decode_vec).
 #[derive(Clone, Copy, PartialEq, Eq, Debug, Error)]
 pub enum DecodeVecError {
     /// The bytes couldn't be decoded.

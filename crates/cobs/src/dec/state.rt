@@ -54,6 +54,8 @@ pub(crate) fn by_code(code: u8) -> DecoderState
 }
 
 impl DecoderState {
+    ghost use Rattle.cobs.specs.Taking.{left_in, left_behind};
+
     /// Takes a byte, and returns what it means: over a frame and a zero, from `Idle`, the bytes of its message.
     ///
     /// The state after every zero is `Idle`.
@@ -87,10 +89,6 @@ impl DecoderState {
             DecoderState::GrabChain(_) => Ok(DecodeResult::NoData),
         }
     }
-}
-
-impl DecoderState {
-    ghost use Rattle.cobs.specs.Taking.{left_in, left_behind};
 
     // How many bytes of the open block are left.
     #[inline(always)]
@@ -99,8 +97,7 @@ impl DecoderState {
     {
         match self {
             DecoderState::Idle => 0,
-            DecoderState::Grab(left) => left,
-            DecoderState::GrabChain(left) => left,
+            DecoderState::Grab(left) | DecoderState::GrabChain(left) => left,
         }
     }
 

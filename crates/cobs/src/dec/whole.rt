@@ -5,9 +5,9 @@
 //! first, and what doesn't fit then is pushed or counted. Only bytes that are known to be in the frame are written.
 //! Loops are compiled twice, for zero and for any sentinel, which is a third slower.
 //!
-//! Rejected: searching 256 bytes first (678 instructions for 1 KiB without zeros, now 542); separate families for
-//! each sentinel, which agreed except in the report; copying searched vectors, which is faster only from 64 KiB on;
-//! one body inlined in two functions, which the compiler gives up.
+//! Rejected: searching 256 bytes first (678 instructions for 1 KiB without zeros, now 542); families for each sentinel,
+//! which agreed except in the report; copying searched vectors, faster only from 64 KiB on; one body inlined in two
+//! functions, which the compiler gives up.
 ghost use Rattle.std.specs.Prelude.{◌≡◌, ◌≢◌, ℕ, ◌+◌, ◌-◌, ◌^◌, ◌<◌, ◌≤◌, List, [], length, take, slice_index, IsTrue, IfOk, OnErr, IfSome, IsNone, true};
 ghost use Rattle.cobs.specs.Frames.{Frame, NoZero, part};
 ghost use Rattle.cobs.specs.Reports.{frame_size};
@@ -18,18 +18,15 @@ ghost use Rattle.cobs.specs.Whole.{unpadded, frame_in, decoded_from, decoded_int
 ghost use Rattle.cobs.specs.Streaming.{HasStreamed};
 
 use super::progress::Progress;
-use super::report::{DecodeError, DecodeReport};
-use super::state::DecoderState;
+use super::report::{DecodeError, DecodeReport, Decoded, Reported};
+use super::state::{DecoderState, by_code};
 use super::window::{copy_frame_until, decode_at_once, put_zeros};
 use crate::finding::before_sentinel;
 use crate::moves::{are_all, is_clear_255};
 
-// How many bytes a frame has at most if its message is decoded in one window.
-const SHORT: usize = 255;
-
 // The result after a whole frame, with how many bytes of a message it has: it is one if no block is open.
 #[inline(always)]
-pub(crate) fn answer_behind(state: DecoderState, len: usize) -> Result<usize, DecodeError>
+pub(crate) fn answer_behind(state: DecoderState, len: usize) -> Decoded
     ensures { result ≡ answer_behind state len }
 {
     if state.left() == 0 {
@@ -41,10 +38,7 @@ pub(crate) fn answer_behind(state: DecoderState, len: usize) -> Result<usize, De
 
 // The same result with how many bytes of the source were used.
 #[inline(always)]
-pub(crate) fn with_parsed(
-    answer: Result<usize, DecodeError>,
-    parsed: usize,
-) -> Result<DecodeReport, DecodeError>
+pub(crate) fn with_parsed(answer: Decoded, parsed: usize) -> Reported
     ensures { result ≡ with_parsed parsed answer }
 {
     match answer {
@@ -53,8 +47,8 @@ pub(crate) fn with_parsed(
     }
 }
 
-// The result of a call that isn't compiled into its caller, as it is. It is returned from where the call puts it, so that the
-// caller's faster paths keep their results in registers.
+// The result of a call that isn't inlined, as it is: it is returned from where the call puts it, so that the caller's faster
+// paths keep their results in registers.
 #[inline(always)]
 pub(crate) fn apart<T: Copy>(answer: Result<T, DecodeError>) -> Result<T, DecodeError>
     ensures { result ≡ answer }
@@ -83,7 +77,7 @@ pub(crate) fn is_short(frame: &[u8], sentinel: u8) -> bool
     requires { 0 < length frame.now }
     ensures { IsTrue result → length frame.now ≤ 255 }
 {
-    frame.len() <= SHORT && (frame.len() < 64 || frame[0] != sentinel ^ 1)
+    frame.len() <= 255 && (frame.len() < 64 || frame[0] != sentinel ^ 1)
 }
 
 // Takes the bytes of a source before its first sentinel, each XORed with it: all of the source fits. They are searched as they
@@ -103,11 +97,13 @@ pub(crate) fn take_source<const COPY: usize>(
     ensures dest { dest.new
         ≡ overwritten (part (stretch (masked sentinel source.now))) dest.old }
 {
-    let mut progress = Progress::new();
-    let _ = progress.take_code(dest, sentinel ^ source[0]);
+    let mut progress = Progress {
+        state: by_code(sentinel ^ source[0]),
+        len: 0,
+    };
     let mut read: usize = 1;
     while 255 <= source.len() - read && is_clear_255(&source[read..read + 255], sentinel) {
-        read += progress.take_255::<COPY>(dest, &source[read..read + 255], sentinel);
+        read += progress.take_some::<COPY, true>(dest, &source[read..read + 255], sentinel);
     }
     let end = read + before_sentinel(&source[read..], sentinel);
     progress.take_all::<COPY>(dest, &source[read..end], sentinel);
@@ -122,7 +118,7 @@ pub(crate) fn decode_near<const CALL: usize, const SHORT: bool>(
     source: &[u8],
     dest: &mut [u8],
     sentinel: u8,
-) -> (Result<usize, DecodeError>, usize)
+) -> (Decoded, usize)
     requires fits { FitsWhole source.now dest.old sentinel }
     requires few { length source.now ≤ 255 }
     requires short { SHORT ≡ true → length source.now ≤ 65 }
@@ -138,11 +134,7 @@ pub(crate) fn decode_near<const CALL: usize, const SHORT: bool>(
 // Decodes a frame of one window, each byte of it XORed with the sentinel, whose bytes all fit: nothing is searched, since no
 // byte of it is the sentinel. After the code of a full block there is none that isn't its.
 #[inline(always)]
-pub(crate) fn decode_short(
-    frame: &[u8],
-    dest: &mut [u8],
-    sentinel: u8,
-) -> Result<usize, DecodeError>
+pub(crate) fn decode_short(frame: &[u8], dest: &mut [u8], sentinel: u8) -> Decoded
     requires some { 0 < length frame.now }
     requires few { length frame.now ≤ 255 }
     requires room { length frame.now ≤ length dest.old + 1 }
@@ -171,11 +163,7 @@ fn take_frame(frame: &[u8], dest: &mut [u8], sentinel: u8) -> Progress
 
 // Decodes a frame, each byte of it XORed with the sentinel, and also counts the bytes of its message that don't fit.
 #[inline(never)]
-pub(crate) fn decode_counted(
-    frame: &[u8],
-    dest: &mut [u8],
-    sentinel: u8,
-) -> Result<usize, DecodeError>
+pub(crate) fn decode_counted(frame: &[u8], dest: &mut [u8], sentinel: u8) -> Decoded
     requires { NoZero (masked sentinel frame.now) }
     ensures { DecodesInto dest.old (masked sentinel frame.now) dest.new result }
 {
@@ -231,11 +219,7 @@ fn begins_with_row(bytes: &[u8], sentinel: u8) -> bool {
 // Decodes the bytes of a source before its first sentinel, each XORed with it, by `take_source`. Its result goes through memory
 // that is set to zero first: where this is compiled into its caller, so that the faster paths don't pay for it.
 #[inline(always)]
-fn decode_many<const COPY: usize>(
-    bytes: &[u8],
-    dest: &mut [u8],
-    sentinel: u8,
-) -> (Result<usize, DecodeError>, usize)
+fn decode_many<const COPY: usize>(bytes: &[u8], dest: &mut [u8], sentinel: u8) -> (Decoded, usize)
     requires { FitsWhole bytes.now dest.old sentinel }
     ensures { DecodesFront dest.old (stretch (masked sentinel bytes.now)) dest.new result.0
         result.1 }
@@ -244,33 +228,20 @@ fn decode_many<const COPY: usize>(
     (answer_behind(state, len), end)
 }
 
-// Whether a source is short, fits and begins with a frame.
-#[inline(always)]
-fn is_few(source: &[u8], room: usize, sentinel: u8) -> bool
-    ensures some { IsTrue result → 0 < length source.now }
-    ensures few { IsTrue result → length source.now ≤ 65 }
-    ensures room { IsTrue result → length source.now ≤ room + 1 }
-    ensures begins { IsTrue result → slice_index source.now 0 ≢ sentinel }
-{
-    let len = source.len();
-    0 < len && len <= 64 && len - 1 <= room && source[0] != sentinel
-}
-
 // Decodes the bytes of a source before its first sentinel, each XORed with it, if there are some and all of the source
-// fits. Also returns how many they are. It is compiled once for each caller, into which it is inlined.
-//
-// A long row of codes 01 is left to a decoder to which it is pushed, which fills it at once.
+// fits. Also returns how many they are. It is compiled once for each caller, into which it is inlined. A long row of codes 01
+// is left to a decoder to which it is pushed, which fills it at once.
 #[inline(always)]
 fn decode_part<const CALL: usize, const COPY: usize>(
     source: &[u8],
     dest: &mut [u8],
     sentinel: u8,
-) -> Option<(Result<usize, DecodeError>, usize)>
+) -> Option<(Decoded, usize)>
     ensures done { IfSome result (λ t. DecodesFront dest.old
         (stretch (masked sentinel source.now)) dest.new t.0 t.1) }
     ensures same { IsNone result → dest.new ≡ dest.old }
 {
-    if is_few(source, dest.len(), sentinel) {
+    if source.len() <= 64 && has_room(source, dest.len()) && source[0] != sentinel {
         return Some(decode_near::<CALL, true>(source, dest, sentinel));
     }
     if !has_room(source, dest.len()) || source[0] == sentinel {
@@ -285,10 +256,9 @@ fn decode_part<const CALL: usize, const COPY: usize>(
     Some(decode_many::<COPY>(source, dest, sentinel))
 }
 
-// As `decode`, by a decoder to which what follows leading zeros is pushed, and then a zero: it sees which byte
-// doesn't fit.
+// As `decode`, by a decoder to which what follows leading zeros is pushed, and then a zero: it sees which byte doesn't fit.
 #[inline(never)]
-fn decode_pushed(source: &[u8], rest: &[u8], dest: &mut [u8]) -> Result<DecodeReport, DecodeError>
+fn decode_pushed(source: &[u8], rest: &[u8], dest: &mut [u8]) -> Reported
     requires rest { rest.now ≡ unpadded source.now }
     requires within { length rest.now ≤ length source.now }
     ensures { DecodesSource dest.old source.now dest.new result }
@@ -311,10 +281,9 @@ fn decode_pushed(source: &[u8], rest: &[u8], dest: &mut [u8]) -> Result<DecodeRe
     }
 }
 
-// As `decode`, of a source that begins with zeros, or doesn't fit. The frame's end is searched first, except after a
-// long row of codes 01. Only bytes that are known to be in the frame are written.
+// As `decode`, of a source that begins with zeros, or doesn't fit: its end is searched first, except after a row of codes 01.
 #[inline(never)]
-fn decode_slowly(source: &[u8], dest: &mut [u8]) -> Result<DecodeReport, DecodeError>
+fn decode_slowly(source: &[u8], dest: &mut [u8]) -> Reported
     ensures { DecodesSource dest.old source.now dest.new result }
 {
     let rest = behind_zeros(source);
@@ -333,7 +302,7 @@ fn decode_slowly(source: &[u8], dest: &mut [u8]) -> Result<DecodeReport, DecodeE
 
 // The same, by itself as `decode_many` is.
 #[inline(always)]
-fn decode_else(source: &[u8], dest: &mut [u8]) -> Result<DecodeReport, DecodeError>
+fn decode_else(source: &[u8], dest: &mut [u8]) -> Reported
     ensures { DecodesSource dest.old source.now dest.new result }
 {
     apart(decode_slowly(source, dest))
@@ -373,7 +342,7 @@ pub fn decode(source: &[u8], dest: &mut [u8]) -> Result<DecodeReport, DecodeErro
 
 // As `decode_with_sentinel`, of a source that doesn't fit: the end of the bytes to decode is searched first.
 #[inline(never)]
-fn decode_stretch(source: &[u8], dest: &mut [u8], sentinel: u8) -> Result<usize, DecodeError>
+fn decode_stretch(source: &[u8], dest: &mut [u8], sentinel: u8) -> Decoded
     ensures { DecodesInto dest.old (stretch (masked sentinel source.now)) dest.new result }
 {
     let frame = before(source, sentinel);
@@ -385,7 +354,7 @@ fn decode_stretch(source: &[u8], dest: &mut [u8], sentinel: u8) -> Result<usize,
 
 // The same, by itself as `decode_many` is.
 #[inline(always)]
-fn decode_stretch_else(source: &[u8], dest: &mut [u8], sentinel: u8) -> Result<usize, DecodeError>
+fn decode_stretch_else(source: &[u8], dest: &mut [u8], sentinel: u8) -> Decoded
     ensures { DecodesInto dest.old (stretch (masked sentinel source.now)) dest.new result }
 {
     apart(decode_stretch(source, dest, sentinel))
@@ -397,7 +366,7 @@ fn decode_before<const CALL: usize, const COPY: usize>(
     source: &[u8],
     dest: &mut [u8],
     sentinel: u8,
-) -> Result<usize, DecodeError>
+) -> Decoded
     ensures { DecodesInto dest.old (stretch (masked sentinel source.now)) dest.new result }
 {
     match decode_part::<CALL, COPY>(source, dest, sentinel) {

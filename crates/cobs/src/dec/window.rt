@@ -12,10 +12,8 @@ use crate::moves::{are_all, copy_clear_some, copy_few, copy_if_clear, copy_over}
 
 // How many bytes are copied at once: what follows the code of a full block among them is of that block.
 pub(crate) const WINDOW: usize = 254;
-
 // How many bytes of a chunk are looked at at once: a fill of more goes byte by byte in the processor.
 pub(crate) const ROW: usize = 1024;
-
 // How many bytes are searched and copied at once: of fewer each is fed by itself, and of a chunk of up to twice as many.
 pub(crate) const FEW: usize = 4;
 
@@ -57,30 +55,8 @@ pub(crate) fn copy_until(bytes: &[u8], buffer: &mut [u8], place: usize, sentinel
     at + copy_few_until(&bytes[at..], buffer, place + at, sentinel)
 }
 
-// The same of at most 64, which are copied as they are searched if none is the sentinel: for one frame, since it is longer.
-#[inline(always)]
-fn copy_short_until(bytes: &[u8], buffer: &mut [u8], place: usize, sentinel: u8) -> usize
-    requires few { length bytes.now ≤ 64 }
-    requires room { place + length bytes.now ≤ length buffer.old }
-    ensures stops { ComeBefore sentinel bytes.now result }
-    ensures buffer { buffer.new
-        ≡ written_over place (take result (masked sentinel bytes.now)) buffer.old }
-{
-    if bytes.len() < 4 {
-        let n = before_near(bytes, sentinel);
-        copy_few(&bytes[..n], buffer, place, sentinel);
-        return n;
-    }
-    let marks = copy_clear_some(bytes, buffer, place, sentinel);
-    if marks == 0 {
-        return bytes.len();
-    }
-    let n = lowest(marks).0;
-    copy_few(&bytes[..n], buffer, place, sentinel);
-    n
-}
-
-// The same of a frame: of a short one all bytes are looked at together. Each caller has a copy of its own by its number.
+// The same of a frame, also of at most 64 bytes, which are then looked at together, and copied meanwhile if none is the
+// sentinel: for one frame, since it is longer. Each caller has a copy of its own by its number.
 #[inline(always)]
 pub(crate) fn copy_frame_until<const CALL: usize, const SHORT: bool>(
     bytes: &[u8],
@@ -94,10 +70,21 @@ pub(crate) fn copy_frame_until<const CALL: usize, const SHORT: bool>(
     ensures buffer { buffer.new
         ≡ written_over place (take result (masked sentinel bytes.now)) buffer.old }
 {
-    if SHORT {
-        return copy_short_until(bytes, buffer, place, sentinel);
+    if !SHORT {
+        return copy_until(bytes, buffer, place, sentinel);
     }
-    copy_until(bytes, buffer, place, sentinel)
+    if bytes.len() < 4 {
+        let n = before_near(bytes, sentinel);
+        copy_few(&bytes[..n], buffer, place, sentinel);
+        return n;
+    }
+    let marks = copy_clear_some(bytes, buffer, place, sentinel);
+    if marks == 0 {
+        return bytes.len();
+    }
+    let n = lowest(marks).0;
+    copy_few(&bytes[..n], buffer, place, sentinel);
+    n
 }
 
 // How many bytes at the start are this one, in steps of 64.

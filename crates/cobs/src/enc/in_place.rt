@@ -2,7 +2,8 @@
 ghost use Rattle.std.specs.Prelude.{◌≡◌, ◌+◌, ◌<◌, ◌≤◌, [], length, take, drop};
 ghost use Rattle.cobs.specs.Frames.{shortest_frame};
 ghost use Rattle.cobs.specs.Codes.{Coding};
-ghost use Rattle.cobs.specs.Sentinel.{masked, frame_for};
+ghost use Rattle.cobs.specs.Held.{EncodesStanding};
+ghost use Rattle.cobs.specs.Sentinel.{frame_for};
 
 use crate::codes::put_codes_standing;
 use crate::moves::mask;
@@ -40,9 +41,7 @@ pub fn encode_in_place(buffer: &mut [u8], n: usize, sentinel: u8) -> usize
 fn encode_long(buffer: &mut [u8], n: usize, sentinel: u8) -> usize
     requires few { n ≤ 254 }
     requires room { n < length buffer.old }
-    ensures plus_one { result ≡ n + 1 }
-    ensures length { result ≡ length (shortest_frame (take n (drop 1 buffer.old))) }
-    ensures frame { take result buffer.new ≡ frame_for sentinel (take n (drop 1 buffer.old)) }
+    ensures { EncodesStanding sentinel buffer.old n buffer.new result }
 {
     encode_standing(buffer, n, sentinel)
 }
@@ -52,30 +51,19 @@ fn encode_long(buffer: &mut [u8], n: usize, sentinel: u8) -> usize
 fn encode_standing(buffer: &mut [u8], n: usize, sentinel: u8) -> usize
     requires few { n ≤ 254 }
     requires room { n < length buffer.old }
-    ensures plus_one { result ≡ n + 1 }
-    ensures length { result ≡ length (shortest_frame (take n (drop 1 buffer.old))) }
-    ensures frame { take result buffer.new ≡ frame_for sentinel (take n (drop 1 buffer.old)) }
+    ensures { EncodesStanding sentinel buffer.old n buffer.new result }
 {
     let code_at = put_all_codes(buffer, n);
     let end = n + 1;
     buffer[code_at] = (end - code_at) as u8;
-    mask_frame(buffer, end, sentinel);
-    end
-}
-
-// XORs the frame with the sentinel.
-#[inline(always)]
-fn mask_frame(buffer: &mut [u8], end: usize, sentinel: u8)
-    requires { end ≤ length buffer.old }
-    ensures { take end buffer.new ≡ masked sentinel (take end buffer.old) }
-{
     if sentinel != 0 {
         mask(&mut buffer[..end], sentinel);
     }
+    end
 }
 
-// Writes a code at each zero of the message, and returns the position of the last code. A short message takes no step of
-// the loop.
+// Writes a code at each zero of the message, and returns the position of the last code. A short message takes no step
+// of the loop.
 #[inline(always)]
 fn put_all_codes(buffer: &mut [u8], n: usize) -> usize
     requires few { n ≤ 254 }

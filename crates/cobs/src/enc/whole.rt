@@ -4,7 +4,7 @@ ghost use Rattle.cobs.specs.Frames.{NoZero, shortest_frame, most_length};
 ghost use Rattle.cobs.specs.Sentinel.{between_zeros, frame_for};
 
 use super::DestBufTooSmallError;
-use super::block::{Place, put_all};
+use crate::codes::{Place, put_all};
 use crate::max_encoding_length;
 use crate::moves::is_clear_255;
 use memchr::memrchr;
@@ -205,13 +205,6 @@ pub fn encode_vec(alloc: Global, source: &[u8]) -> Result<Vec<u8>, AllocError>
 ///
 /// # Allocates
 /// `max_encoding_length(source.len())` and two bytes, once.
-///
-/// # Example
-/// With `MESSAGE` as `[10, 11, 0, 12]`:
-/// ```rust
-/// let between = cobs::encode_vec_including_sentinels(alloc, &MESSAGE);
-/// wants.bytes(between, AllocError, &[0, 3, 10, 11, 2, 12, 0]);
-/// ```
 pub fn encode_vec_including_sentinels(alloc: Global, source: &[u8]) -> Result<Vec<u8>, AllocError>
     ensures { IfOk result (λ frame. frame.items ≡ between_zeros (shortest_frame source.now)) }
 {
@@ -227,15 +220,7 @@ pub fn encode_vec_including_sentinels(alloc: Global, source: &[u8]) -> Result<Ve
 /// `AllocError` when out of memory.
 ///
 /// # Allocates
-/// `max_encoding_length(source.len())` bytes, once: the frame's length for up to 254 bytes, and at most a byte more for
-/// each 254. So the source is read once.
-///
-/// # Example
-/// With `MESSAGE` as `[10, 11, 0, 12]`:
-/// ```rust
-/// let masked = cobs::encode_vec_with_sentinel(alloc, &MESSAGE, 10);
-/// wants.bytes(masked, AllocError, &[9, 0, 1, 8, 6]);
-/// ```
+/// As [`encode_vec`].
 pub fn encode_vec_with_sentinel(
     alloc: Global,
     source: &[u8],

@@ -8,13 +8,13 @@ use Rattle.cobs.proofs.codes.put_block.Goals.{else-bytes-eq254-via-then-bytes-eq
 pub returns-then-copy_clear : goal.returns-then-copy_clear
 returns-then-copy_clear g c =
     stepped_clear c.args.sentinel c.args.dest.now c.copy_clear.new.buffer c.args.bytes.now
-    c.args.code_at c.args.from c.requires.some c.requires.block.begins c.requires.block.short
+    c.args.at.code_at c.args.at.len c.requires.block.some c.requires.block.begins c.requires.block.short
     c.requires.block.within c.copy_clear.ensures.copied (λ k l. c.copy_clear.ensures.clear
     c.if-copy_clear.true k (omega (arith, l, c.if-bytes-eq254.true)))
 
 pub returns : goal.returns
 returns g c =
-    let from = c.args.from in
+    let from = c.args.at.len in
     let front : take from c.else-bytes-eq254.dest ≡ take from c.args.dest.now =
     elim c.else-bytes-eq254.branch [
       | else-bytes-eq254-via-then-bytes-eq254+then-bytes-ne0+else-copy_clear w ↦
@@ -23,5 +23,5 @@ returns g c =
       | else-bytes-eq254-via-then-bytes-eq254+else-bytes-ne0 w ↦ ap (take from) w.dest-is
       | else-bytes-eq254-via-else-bytes-eq254 w ↦ ap (take from) w.dest-is
     ] in
-    stepped_again c.args.sentinel c.args.dest.now c.else-bytes-eq254.dest _ c.args.bytes.now c.args.code_at from
+    stepped_again c.args.sentinel c.args.dest.now c.else-bytes-eq254.dest _ c.args.bytes.now c.args.at.code_at from
     c.put_bytes.result front c.put_bytes.ensures

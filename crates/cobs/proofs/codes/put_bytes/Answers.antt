@@ -11,7 +11,7 @@ loop-rest-init g c = record {
   later = omega arith;
   begins = c.requires.block.begins;
   end = refl;
-  some = c.requires.some;
+  some = c.requires.block.some;
   whole = ([], refl, λ m o. rw (append-nil m) o);
 }
 
@@ -20,9 +20,9 @@ loop-rest-preserved g c =
     let front = c.split_at.result.0.now in
     let back = c.split_at.result.1.now in
     let done = c.loop-rest.invariant.whole in
-    let step = c.put_some-code.ensures in
+    let step = c.put_some.ensures in
     let long : length front ≡ 64 = omega (arith, c.split_at.ensures.front_len) in
-    let there : c.loop-rest.at + length front ≡ c.loop-rest.at + 64 = omega (arith, long) in
+    let there : c.loop-rest.place.len + length front ≡ c.loop-rest.place.len + 64 = omega (arith, long) in
     record {
       later = omega (arith, step.later, c.loop-rest.invariant.later);
       begins = omega (arith, step.begins, long);
@@ -31,15 +31,15 @@ loop-rest-preserved g c =
       whole = (
         done.0 ++ front,
         done.1 ∙ ap (λ b. done.0 ++ b) c.split_at.ensures.by_index.0 ∙ sym (append_assoc done.0 front back),
-        λ m o. subst (λ j. Open (masked c.args.sentinel c.put_some-code.new.dest) c.put_some-code.result j (m ++ (done.0 ++ front))) there
-            (subst (λ b. Open (masked c.args.sentinel c.put_some-code.new.dest) c.put_some-code.result (c.loop-rest.at + length front) b) (append_assoc m done.0 front) (open_coded _ _ _ _ (step.coding (m ++ done.0) (done.2 m o)))),
+        λ m o. subst (λ j. Open (masked c.args.sentinel c.put_some.new.dest) c.put_some.result j (m ++ (done.0 ++ front))) there
+            (subst (λ b. Open (masked c.args.sentinel c.put_some.new.dest) c.put_some.result (c.loop-rest.place.len + length front) b) (append_assoc m done.0 front) (open_coded _ _ _ _ (step.coding (m ++ done.0) (done.2 m o)))),
       );
     }
 
 pub returns : goal.returns
 returns g c =
     let done = c.loop-rest.invariant.whole in
-    let last = c.put_some.ensures in
+    let last = c.put_some-2.ensures in
     record {
       begins = omega (arith, last.begins, c.loop-rest.invariant.end);
       later = omega (arith, last.later, c.loop-rest.invariant.later);
@@ -51,26 +51,17 @@ returns g c =
 pub split_at-requires : goal.split_at-requires
 split_at-requires g c = grind (arith, common_steps)
 
-pub put_some-code-requires-clause-block : goal.put_some-code-requires-clause-block
-put_some-code-requires-clause-block g c = grind (arith, common_steps)
+pub put_some-requires-clause-block : goal.put_some-requires-clause-block
+put_some-requires-clause-block g c = grind (arith, common_steps)
 
-pub put_some-code-requires-clause-some : goal.put_some-code-requires-clause-some
-put_some-code-requires-clause-some g c = grind (arith, common_steps)
-
-pub put_some-code-requires-clause-few : goal.put_some-code-requires-clause-few
-put_some-code-requires-clause-few g c = grind (arith, common_steps)
-
-pub overflow_add-at : goal.overflow_add-at
-overflow_add-at g c = grind (arith, common_steps)
+pub put_some-requires-clause-few : goal.put_some-requires-clause-few
+put_some-requires-clause-few g c = grind (arith, common_steps)
 
 pub loop-rest-smaller : goal.loop-rest-smaller
 loop-rest-smaller g c = grind (arith, common_steps)
 
-pub put_some-requires-clause-block : goal.put_some-requires-clause-block
-put_some-requires-clause-block g c = grind (arith, common_steps)
+pub put_some-requires-2-clause-block : goal.put_some-requires-2-clause-block
+put_some-requires-2-clause-block g c = grind (arith, common_steps)
 
-pub put_some-requires-clause-some : goal.put_some-requires-clause-some
-put_some-requires-clause-some g c = grind (arith, common_steps)
-
-pub put_some-requires-clause-few : goal.put_some-requires-clause-few
-put_some-requires-clause-few g c = grind (arith, common_steps)
+pub put_some-requires-2-clause-few : goal.put_some-requires-2-clause-few
+put_some-requires-2-clause-few g c = grind (arith, common_steps)

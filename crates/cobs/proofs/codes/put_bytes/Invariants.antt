@@ -5,11 +5,11 @@ use Rattle.cobs.proofs.codes.put_bytes.Given as goal
 
 abbrev pub invariant-loop-rest : goal.invariant-loop-rest
 invariant-loop-rest g l = record {
-  later : l.fn.code_at ≤ l.code;
-  begins : l.code < l.at;
-  end : l.at + length l.rest ≡ l.fn.from + length l.fn.bytes;
+  later : l.fn.at.code_at ≤ l.place.code_at;
+  begins : l.place.code_at < l.place.len;
+  end : l.place.len + length l.rest ≡ l.fn.at.len + length l.fn.bytes;
   some : 0 < length l.rest;
-  whole : (front : List ℕ) × (l.fn.bytes ≡ front ++ l.rest) × ((m : List ℕ) → Open (masked l.sentinel l.fn.dest) l.fn.code_at l.fn.from m → Open (masked l.sentinel l.dest) l.code l.at (m ++ front));
+  whole : (front : List ℕ) × (l.fn.bytes ≡ front ++ l.rest) × ((m : List ℕ) → Open (masked l.sentinel l.fn.dest) l.fn.at.code_at l.fn.at.len m → Open (masked l.sentinel l.dest) l.place.code_at l.place.len (m ++ front));
 }
 
 abbrev pub decreases-loop-rest : goal.decreases-loop-rest

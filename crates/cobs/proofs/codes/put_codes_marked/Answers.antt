@@ -9,8 +9,8 @@ use Rattle.cobs.proofs.codes.put_codes_marked.Goals as goal
 pub loop-zeros-preserved : goal.loop-zeros-preserved
 loop-zeros-preserved c =
     let f = c.lowest-n.ensures in
-    let there = drop c.args.from c.args.dest.now in
-    let long : length (masked c.args.sentinel (take c.args.n there)) ≡ c.args.n = masked_length c.args.sentinel (take c.args.n there) ∙ length-take-le c.args.n there (omega (arith, length-drop c.args.from c.args.dest.now, c.requires.block.within)) in
+    let there = drop c.args.at.len c.args.dest.now in
+    let long : length (masked c.args.sentinel (take c.args.n there)) ≡ c.args.n = masked_length c.args.sentinel (take c.args.n there) ∙ length-take-le c.args.n there (omega (arith, length-drop c.args.at.len c.args.dest.now, c.requires.block.within)) in
     rw (masked_put c.args.sentinel c.loop-zeros.dest c.loop-zeros.code _) (going_on _ _ _ _ _ _ _ _ _ (omega (arith, long, c.requires.block.few)) f.set f.below f.others f.no_more c.loop-zeros.invariant)
 
 pub returns : goal.returns
@@ -34,8 +34,8 @@ loop-zeros-init c = grind (arith, common_steps)
 pub lowest-n-requires : goal.lowest-n-requires
 lowest-n-requires c = grind (arith, common_steps)
 
-pub overflow_add-at : goal.overflow_add-at
-overflow_add-at c = grind (arith, common_steps)
+pub overflow_add-here : goal.overflow_add-here
+overflow_add-here c = grind (arith, common_steps)
 
 pub overflow_sub-dest : goal.overflow_sub-dest
 overflow_sub-dest c = grind (arith, common_steps)

@@ -10,7 +10,7 @@ store-requires c =
     (omega arith, (long, c.requires.room))
 
 pub returns-clause-copied : goal.returns-clause-copied
-returns-clause-copied c = c.store.ensures ∙ ap (λ b. written_over c.args.place (masked c.args.sentinel b) c.args.buffer.now) c.load-lanes.ensures
+returns-clause-copied c = c.store.ensures ∙ ap (λ b. written_over c.args.place (masked c.args.sentinel b) c.args.to.now) c.load-lanes.ensures
 
 pub returns-clause-lanes : goal.returns-clause-lanes
 returns-clause-lanes c = c.load-lanes.ensures

@@ -30,8 +30,8 @@ copied s place m old b1 b2 b3 b4 count fits w1 w2 w3 w4 =
 long_from : (at : ℕ) (m lanes : List ℕ) → at + 64 ≤ length m → lanes ≡ take 64 (drop at m) → length lanes ≡ 64
 long_from at m lanes l e = ap length e ∙ length-take-le 64 (drop at m) (omega (arith, length-drop at m, l))
 
-pub least_of_four-least-requires : goal.least_of_four-least-requires
-least_of_four-least-requires c =
+pub least_of_four-requires : goal.least_of_four-requires
+least_of_four-requires c =
     let m = c.args.bytes.now in (
       long_from 0 m _ (omega (arith, c.requires.count)) c.copy_64-first.ensures.lanes,
       long_from 64 m _ (omega (arith, c.requires.count)) c.copy_64-second.ensures.lanes,
@@ -40,19 +40,19 @@ least_of_four-least-requires c =
     )
 
 pub is_positive-requires : goal.is_positive-requires
-is_positive-requires c = c.least_of_four-least.ensures.long
+is_positive-requires c = c.least_of_four.ensures.long
 
 pub returns-clause-copied : goal.returns-clause-copied
 returns-clause-copied c =
     copied c.args.sentinel c.args.place c.args.bytes.now c.args.buffer.now
-    c.copy_64-first.new.buffer c.copy_64-second.new.buffer c.copy_64-third.new.buffer
-    c.copy_64-fourth.new.buffer
+    c.copy_64-first.new.to c.copy_64-second.new.to c.copy_64-third.new.to
+    c.copy_64-fourth.new.to
     c.requires.count c.requires.room c.copy_64-first.ensures.copied
     c.copy_64-second.ensures.copied c.copy_64-third.ensures.copied
     c.copy_64-fourth.ensures.copied
 
 pub returns-clause-clear : goal.returns-clause-clear
 returns-clause-clear c = λ t.
-    all_clear 64 128 190 254 c.args.bytes.now c.copy_64-first.result c.copy_64-second.result c.copy_64-third.result c.copy_64-fourth.result c.least_of_four-least.result
-    (omega arith) (omega arith) (omega arith) (omega arith) (c.is_positive.ensures t) c.least_of_four-least.ensures.lanes
+    all_clear 64 128 190 254 c.args.bytes.now c.copy_64-first.result c.copy_64-second.result c.copy_64-third.result c.copy_64-fourth.result
+    (omega arith) (omega arith) (omega arith) (omega arith) (c.least_of_four.ensures.lanes (c.is_positive.ensures t))
     c.copy_64-first.ensures.lanes c.copy_64-second.ensures.lanes c.copy_64-third.ensures.lanes c.copy_64-fourth.ensures.lanes

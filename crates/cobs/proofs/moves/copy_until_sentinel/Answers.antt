@@ -1,4 +1,4 @@
-use Rattle.std.proofs.Common.{◌≡◌, ◌+◌, ◌++◌, length, take, set, get_or, ap, ◌∙◌, ◌∷◌, [], sym, subst, arith}
+use Rattle.std.proofs.Common.{◌≡◌, ◌+◌, length, take, set, get_or, ap, ◌∙◌, ◌∷◌, [], sym, subst, arith}
 use Rattle.std.proofs.lemmas.List.{take_more, length-take-le}
 use Rattle.std.specs.Prelude.{bit_xor}
 use Rattle.cobs.specs.Frames.{NoZero}

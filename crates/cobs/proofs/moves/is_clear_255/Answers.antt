@@ -20,7 +20,7 @@ pub returns : goal.returns
 returns c = λ t.
     let s = c.args.sentinel in
     let m = c.args.bytes.now in
-    all_clear 64 128 191 255 (masked s m) c.load_masked-first.result c.load_masked-second.result c.load_masked-third.result c.load_masked-fourth.result c.least_of_four.result
-    (omega arith) (omega arith) (omega arith) (omega arith) (c.is_positive.ensures t) c.least_of_four.ensures.lanes
+    all_clear 64 128 191 255 (masked s m) c.load_masked-first.result c.load_masked-second.result c.load_masked-third.result c.load_masked-fourth.result
+    (omega arith) (omega arith) (omega arith) (omega arith) (c.least_of_four.ensures.lanes (c.is_positive.ensures t))
     (c.load_masked-first.ensures ∙ masked_lanes s 0 m) (c.load_masked-second.ensures ∙ masked_lanes s 64 m)
     (c.load_masked-third.ensures ∙ masked_lanes s 128 m) (c.load_masked-fourth.ensures ∙ masked_lanes s 191 m)

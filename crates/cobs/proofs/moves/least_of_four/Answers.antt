@@ -1,4 +1,5 @@
-use Rattle.std.proofs.Common.{◌≡◌, ◌∙◌, ◌<◌, ◌≤◌, ℕ, List, length, get_or, sym, arith}
+use Rattle.std.proofs.Common.{◌≡◌, ◌∙◌, ℕ, List, length, sym, arith}
+use Rattle.cobs.specs.Codes.{Positive}
 use Rattle.cobs.proofs.LanesLemmas.{lesser_of, lesser_length, lesser_lane}
 use Rattle.cobs.proofs.moves.least_of_four.Goals as goal
 
@@ -6,8 +7,11 @@ use Rattle.cobs.proofs.moves.least_of_four.Goals as goal
 long : (a b : List ℕ) → length a ≡ 64 → length b ≡ 64 → length (lesser_of a b) ≡ 64
 long a b l m = lesser_length a b (l ∙ sym m) ∙ l
 
-lane : (a b : List ℕ) (j : ℕ) → length a ≡ 64 → length b ≡ 64 → j < 64 → (get_or (lesser_of a b) j 0 ≤ get_or a j 0) × (get_or (lesser_of a b) j 0 ≤ get_or b j 0)
-lane a b j l m q = lesser_lane a b j (l ∙ sym m) (omega (arith, l, q))
+lanes : (a b : List ℕ) → length a ≡ 64 → length b ≡ 64 → Positive 64 (lesser_of a b) → Positive 64 a × Positive 64 b
+lanes a b l m some = (
+  λ j q. omega (arith, some j q, (lesser_lane a b j (l ∙ sym m) (omega (arith, l, q))).0),
+  λ j q. omega (arith, some j q, (lesser_lane a b j (l ∙ sym m) (omega (arith, l, q))).1),
+)
 
 pub returns-clause-long : goal.returns-clause-long
 returns-clause-long c =
@@ -16,16 +20,12 @@ returns-clause-long c =
     long (lesser_of (lesser_of c.args.a c.args.b) c.args.c) c.args.d three c.requires.3
 
 pub returns-clause-lanes : goal.returns-clause-lanes
-returns-clause-lanes c = λ j q.
+returns-clause-lanes c = λ some.
     let ab = lesser_of c.args.a c.args.b in
     let abc = lesser_of ab c.args.c in
     let two = long c.args.a c.args.b c.requires.0 c.requires.1 in
     let three = long ab c.args.c two c.requires.2 in
-    let of_two = lane c.args.a c.args.b j c.requires.0 c.requires.1 q in
-    let of_three = lane ab c.args.c j two c.requires.2 q in
-    let of_all = lane abc c.args.d j three c.requires.3 q in (
-      omega (arith, of_all.0, of_three.0, of_two.0),
-      omega (arith, of_all.0, of_three.0, of_two.1),
-      omega (arith, of_all.0, of_three.1),
-      of_all.1,
-    )
+    let of_three : Positive 64 abc × Positive 64 c.args.d = lanes abc c.args.d three c.requires.3 some in
+    let of_two : Positive 64 ab × Positive 64 c.args.c = lanes ab c.args.c two c.requires.2 of_three.0 in
+    let of_one : Positive 64 c.args.a × Positive 64 c.args.b = lanes c.args.a c.args.b c.requires.0 c.requires.1 of_two.0 in
+    (of_one.0, of_one.1, of_two.1, of_three.1)

@@ -2,11 +2,15 @@ use Rattle.std.proofs.Common.{◌≡◌, ◌∙◌, ◌+◌, ◌-◌, length, ta
 use Rattle.std.proofs.lemmas.List.{length-take-le}
 use borrow.Rule.Slice.PartMut.{put_mid}
 use Rattle.cobs.specs.InPlace.{written_over}
+use Rattle.cobs.proofs.MaskingLemmas.{masked_zero}
 use Rattle.cobs.proofs.StandingLemmas.{row_put}
 use Rattle.cobs.proofs.moves.row_over.Goals as goal
 
 pub returns-then-n-eq64 : goal.returns-then-n-eq64
-returns-then-n-eq64 c = c.row_of_64.ensures ∙ ap (λ k. written_over c.args.place (replicate k c.args.byte) c.args.buffer.now) (sym c.if-n-eq64.true)
+returns-then-n-eq64 c =
+    c.store.ensures
+    ∙ ap (λ b. written_over c.args.place b c.args.buffer.now) (masked_zero (replicate 64 c.args.byte))
+    ∙ ap (λ k. written_over c.args.place (replicate k c.args.byte) c.args.buffer.now) (sym c.if-n-eq64.true)
 
 pub returns-else-n-eq64 : goal.returns-else-n-eq64
 returns-else-n-eq64 c =

@@ -20,7 +20,7 @@ loop-at-preserved c =
     record {
       within = omega (arith, c.loop-at-test.true);
       over =
-          c.row_of_64.ensures
+          c.row_over.ensures
           ∙ ap (written_over (c.args.place + at) (replicate 64 0)) c.loop-at.invariant.over
           ∙ written_then c.args.place (c.args.place + at) (replicate at 0) (replicate 64 0) old (omega (arith, zeros at, zeros 64, c.requires.room, c.loop-at-test.true)) (omega (arith, zeros at))
           ∙ ap (λ z. written_over c.args.place z old) (replicate-append-replicate {A = ℕ} at 64 0);
@@ -33,7 +33,7 @@ returns c =
     let old = c.args.buffer.now in
     let front : take (n - 64) (replicate at 0) ≡ replicate (n - 64) 0 = take-replicate (n - 64) at 0 (omega (arith, c.loop-at-test.false)) in
     let all : n - 64 + 64 ≡ n = omega (arith, c.requires.many) in
-    c.row_of_64-2.ensures
+    c.row_over-2.ensures
     ∙ ap (written_over (c.args.place + (n - 64)) (replicate 64 0)) c.loop-at.invariant.over
     ∙ written_twice c.args.place (n - 64) (c.args.place + (n - 64)) (replicate at 0) (replicate 64 0) old (omega (arith, zeros at, c.loop-at-test.false)) (omega (arith, zeros at, zeros 64, c.loop-at.invariant.within)) (omega (arith, zeros 64, c.requires.room, c.requires.many)) (omega arith)
     ∙ ap (λ f. written_over c.args.place (f ++ replicate 64 0) old) front

@@ -1,15 +1,19 @@
 use Rattle.std.proofs.lemmas.Grind.{common_steps}
-use Rattle.std.proofs.Common.{◌≡◌, ◌≢◌, ◌+◌, ◌-◌, ◌^◌, ◌<◌, ◌≤◌, ℕ, zero, suc, false, List, [], ◌∷◌, ◌++◌, length, take, drop, get_or, inl, inr, length-take, length-drop, arith, sym, ap, ◌∙◌, subst}
+use Rattle.std.proofs.Common.{◌≡◌, ◌≢◌, ◌+◌, ◌-◌, ◌^◌, ◌<◌, ◌≤◌, ℕ, zero, suc, false, List, [], ◌∷◌, ◌++◌, length, take, drop, get_or, inl, inr, refl, length-take, length-drop, arith, sym, ap, ◌∙◌, subst}
 use Rattle.std.proofs.lemmas.Bool.{cases_lt}
 use Rattle.std.proofs.lemmas.List.{take-take, length-take-le, get_or-take, get_or-drop}
 use Rattle.std.specs.Prelude.{bit_xor, min}
-use Rattle.cobs.specs.Feeding.{placed}
+use Rattle.cobs.specs.Feeding.{by_code, placed}
 use Rattle.cobs.specs.Frames.{NoZero, part, part_from, after}
 use Rattle.cobs.specs.InPlace.{stretch, overwritten, written_over}
 use Rattle.cobs.specs.Sentinel.{masked}
 use Rattle.cobs.specs.Streaming.{HasStreamed}
-use Rattle.cobs.specs.Taking.{TakesFront, left_in}
+use Rattle.cobs.specs.Taking.{TakesFront}
 use Rattle.cobs.specs.declared.dec.progress.Progress.{Progress}
+use Rattle.cobs.specs.declared.dec.state.DecoderState.{DecoderState}
+use Rattle.cobs.specs.declared.dec.state.DecoderState.TheVariants.{Idle}
+use Rattle.cobs.proofs.FeedsLemmas.{stays}
+use Rattle.cobs.proofs.TakesLemmas.{owes_idle}
 use Rattle.cobs.proofs.MaskingLemmas.{masked_length, masked_get, masked_take, masked_drop}
 use Rattle.cobs.proofs.ShortLemmas.{Entering, entering_new, entered_long, entered_shorter, entering_byte, entering_front}
 use Rattle.cobs.proofs.SourcesLemmas.{clear_byte, masked_positive, stretch_front}
@@ -87,6 +91,19 @@ module _ (s read n : ℕ) (source : List ℕ) (l : read ≤ length source) (befo
   stretch_is end = stretch_front s source (read + n) (omega (arith, w, long, l)) none_before
       (λ q. sym (get_or-drop read source n 0) ∙ sym (get_or-take (length source - read) (drop read source) n 0 (omega (arith, q))) ∙ end (omega (arith, q, long)))
 
+-- the first code was taken
+begun : (s : ℕ) (source dest : List ℕ) (state : DecoderState) → 0 < length source → get_or source 0 0 ≢ s → bit_xor s (get_or source 0 0) < 256 → state ≡ by_code (bit_xor s (get_or source 0 0))
+    → Entering (masked s source) dest dest 1 (record { state = state; len = 0 })
+begun s source dest state some other small is =
+    let code = bit_xor s (get_or source 0 0) in
+    let idle : Progress = record { state = Idle; len = 0 } in
+    let new : HasStreamed idle [] = record { state = refl; len = refl } in
+    let first : 0 < code = masked_positive s (get_or source 0 0) other in
+    let told = owes_idle code first in
+    let on = λ (p : List ℕ) (h : HasStreamed idle p). stays dest idle p code first small h told.0 in
+    byte_taken s 0 source dest dest dest idle (record { state = state; len = 0 }) (entering_new (masked s source) dest idle new) some other
+    (λ p h. subst (λ x. HasStreamed (record { state = x; len = 0 }) (p ++ code ∷ [])) (told.1 ∙ sym is) (on p h).0) (λ p h. (on p h).2)
+
 pub loop-read-init : goal.loop-read-init
 loop-read-init g c =
     let s = c.args.sentinel in
@@ -94,19 +111,19 @@ loop-read-init g c =
     record {
       begun = omega arith;
       inside = omega (arith, c.requires.some);
-      entering = byte_taken s 0 source c.args.dest.now c.args.dest.now c.take_code.new.buffer c.new-progress.result c.take_code.new.self (entering_new (masked s source) c.args.dest.now c.new-progress.result c.new-progress.ensures) c.requires.some c.requires.begins c.take_code.ensures.stands c.take_code.ensures.buffer;
+      entering = begun s source c.args.dest.now c.by_code.result c.requires.some c.requires.begins c.by_code.ensures.byte c.by_code.ensures.state;
       none = none_first s source c.requires.begins;
     }
 
-pub take_255-read-requires-clause-room : goal.take_255-read-requires-clause-room
-take_255-read-requires-clause-room g c =
+pub take_some-read-requires-clause-room : goal.take_some-read-requires-clause-room
+take_some-read-requires-clause-room g c =
     let source = c.args.source.now in
     let read = c.loop-read.read in
     part_fits c.args.sentinel read (read + 255 - read) source c.args.dest.now c.loop-read.dest c.loop-read.progress c.loop-read.invariant.entering c.loop-read.invariant.begun (omega arith)
     (omega (arith, c.loop-read-test.true, c.loop-read.invariant.inside)) c.requires.room
 
-pub take_255-read-requires-clause-clear : goal.take_255-read-requires-clause-clear
-take_255-read-requires-clause-clear g c =
+pub take_some-read-requires-clause-clear : goal.take_some-read-requires-clause-clear
+take_some-read-requires-clause-clear g c =
     let read = c.loop-read.read in
     let none = clear_on c.args.sentinel read c.args.source.now c.loop-read.invariant.none (omega (arith, c.loop-read-test.true, c.loop-read.invariant.inside)) (c.is_clear_255.ensures c.if-is_clear_255.true) in
     none_in c.args.sentinel read (read + 255 - read) c.args.source.now (λ k l. none k (omega (arith, l)))
@@ -116,7 +133,7 @@ loop-read-preserved g c =
     let s = c.args.sentinel in
     let source = c.args.source.now in
     let read = c.loop-read.read in
-    let t = c.take_255-read in
+    let t = c.take_some-read in
     let fits : read + 255 ≤ length source = omega (arith, c.loop-read-test.true, c.loop-read.invariant.inside) in
     let none = clear_on s read source c.loop-read.invariant.none fits (c.is_clear_255.ensures c.if-is_clear_255.true) in
     let few : t.result ≤ 255 = omega (arith, t.ensures.within, length-take (read + 255 - read) (drop read source)) in
@@ -198,14 +215,8 @@ returns-clause-within g c =
     let e = c.before_sentinel.ensures in
     inside c.args.sentinel c.loop-read.read c.before_sentinel.result c.args.source.now c.args.dest.now c.loop-read.dest c.loop-read.progress i.inside i.none e.within e.none i.entering
 
-pub take_code-requires-clause-some : goal.take_code-requires-clause-some
-take_code-requires-clause-some g c = masked_positive c.args.sentinel (get_or c.args.source.now 0 0) c.requires.begins
-
-pub take_code-requires-clause-closed : goal.take_code-requires-clause-closed
-take_code-requires-clause-closed g c = ap left_in c.new-progress.ensures.state
-
-pub new-progress-requires : goal.new-progress-requires
-new-progress-requires g c = grind (arith, common_steps)
+pub by_code-requires : goal.by_code-requires
+by_code-requires g c = masked_positive c.args.sentinel (get_or c.args.source.now 0 0) c.requires.begins
 
 pub bounds-source-0 : goal.bounds-source-0
 bounds-source-0 g c = grind (arith, common_steps)
@@ -231,17 +242,17 @@ is_clear_255-requires g c = grind (arith, common_steps)
 pub overflow_add-read-in-loop-read : goal.overflow_add-read-in-loop-read
 overflow_add-read-in-loop-read g c = grind (arith, common_steps)
 
-pub slice_bounds-take_255-count : goal.slice_bounds-take_255-count
-slice_bounds-take_255-count g c = grind (arith, common_steps)
+pub slice_bounds-take_some-count : goal.slice_bounds-take_some-count
+slice_bounds-take_some-count g c = grind (arith, common_steps)
 
-pub slice_bounds-take_255-start : goal.slice_bounds-take_255-start
-slice_bounds-take_255-start g c = grind (arith, common_steps)
+pub slice_bounds-take_some-start : goal.slice_bounds-take_some-start
+slice_bounds-take_some-start g c = grind (arith, common_steps)
 
-pub slice_bounds-take_255-end : goal.slice_bounds-take_255-end
-slice_bounds-take_255-end g c = grind (arith, common_steps)
+pub slice_bounds-take_some-end : goal.slice_bounds-take_some-end
+slice_bounds-take_some-end g c = grind (arith, common_steps)
 
-pub take_255-read-requires-clause-long : goal.take_255-read-requires-clause-long
-take_255-read-requires-clause-long g c = grind (arith, common_steps)
+pub take_some-read-requires-clause-some : goal.take_some-read-requires-clause-some
+take_some-read-requires-clause-some g c = grind (arith, common_steps)
 
 pub loop-read-smaller : goal.loop-read-smaller
 loop-read-smaller g c = grind (arith, common_steps)

@@ -1,9 +1,11 @@
 use Rattle.std.proofs.lemmas.Grind.{common_steps}
-use Rattle.std.proofs.Common.{◌≡◌, ◌+◌, ◌-◌, ◌<◌, ◌≤◌, arith, ap, sym, ◌∙◌, get_or, length, drop, length-take, length-drop, Ok, None, List, ℕ}
+use Rattle.std.proofs.Common.{◌≡◌, ◌+◌, ◌-◌, ◌<◌, ◌≤◌, arith, ap, sym, ◌∙◌, get_or, length, drop, length-take, length-drop, Ok, Err, None, subst, List, ℕ}
+use Rattle.std.proofs.lemmas.Result.{err_from_is_err_and}
 use Rattle.std.specs.Prelude.{bit_xor}
 use Rattle.cobs.specs.Feeding.{answer_of, frame_after, placed}
 use Rattle.cobs.specs.Sentinel.{masked}
 use Rattle.cobs.specs.Streaming.{HasStreamed}
+use Rattle.cobs.specs.Taking.{TakesPiece}
 use Rattle.cobs.proofs.MaskingLemmas.{masked_length, masked_get}
 use Rattle.cobs.proofs.TakesLemmas.{takes_piece}
 use Rattle.cobs.proofs.TurnsLemmas.{Turn, turn_some, turn_refused, turn_on, turn_end, turn_front_for}
@@ -60,28 +62,30 @@ loop-at-preserved c =
       turns = λ p s.
           let t = turned a p s in
           turn_on p (bytes a) c.args.buffer.now (now_at a) c.take_stretch-at.new.buffer c.take_stretch-at.new.self t (some a) c.feed.new.buffer c.feed.new.self
-          (sym (answers a t.now t.stands) ∙ c.in-Ok-None.is ∙ ap (λ o. Ok o) c.in-Ok-None.field-0-is) (has a t.now t.stands) (put a t.now t.stands);
+          (sym (answers a t.now t.stands) ∙ c.in_ok-feed.was ∙ ap (λ o. Ok o) c.in-None.is) (has a t.now t.stands) (put a t.now t.stands);
     }
 
-pub returns-in-Ok-Some : goal.returns-in-Ok-Some
-returns-in-Ok-Some c =
-    let a = (goal.at.returns-in-Ok-Some c).After-feed in
+pub returns-in-Some : goal.returns-in-Some
+returns-in-Some c =
+    let a = (goal.at.returns-in-Some c).After-feed in
     takes_piece c.args.self.now c.args.buffer.now (bytes a) _ c.feed.new.self c.feed.new.buffer
     (λ p s.
     let t = turned a p s in
-    let o = turn_some p (bytes a) c.args.buffer.now (now_at a) c.take_stretch-at.new.buffer c.take_stretch-at.new.self t (some a) c.in-Ok-Some.len (sym (answers a t.now t.stands) ∙ c.in-Ok-Some.is ∙ ap (λ o. Ok o) c.in-Ok-Some.field-0-is) in
+    let o = turn_some p (bytes a) c.args.buffer.now (now_at a) c.take_stretch-at.new.buffer c.take_stretch-at.new.self t (some a) c.in-Some.decoded (sym (answers a t.now t.stands) ∙ c.in_ok-feed.was ∙ ap (λ o. Ok o) c.in-Some.is) in
     record { left = _; outcome = rw (← put a t.now t.stands) at o; stands = has a t.now t.stands })
-    (omega (arith, some a), omega (arith, rw c.in-Ok-Some.field-0-is at c.in-Ok-Some.ensures.within)) (c.feed.auto.buffer ∙ room a)
+    (omega (arith, some a), omega (arith, rw (c.in_ok-feed.was, c.in-Some.is) at c.feed.ensures.within)) (c.feed.auto.buffer ∙ room a)
 
-pub returns-in-Err : goal.returns-in-Err
-returns-in-Err c =
-    let a = (goal.at.returns-in-Err c).After-feed in
-    takes_piece c.args.self.now c.args.buffer.now (bytes a) _ c.feed.new.self c.feed.new.buffer
+pub returns-in_err-feed : goal.returns-in_err-feed
+returns-in_err-feed c =
+    let a = (goal.at.returns-in_err-feed c).After-feed in
+    let e = err_from_is_err_and c.from_residual.result c.from_residual.ensures.1 in
+    subst (λ r. TakesPiece c.args.self.now c.args.buffer.now (bytes a) r c.feed.new.self c.feed.new.buffer) (sym (e.1 ∙ ap (λ x. Err x) e.2))
+    (takes_piece c.args.self.now c.args.buffer.now (bytes a) _ c.feed.new.self c.feed.new.buffer
     (λ p s.
     let t = turned a p s in
-    let o = turn_refused p (bytes a) c.args.buffer.now (now_at a) c.take_stretch-at.new.buffer c.take_stretch-at.new.self t (some a) c.in-Err.e (sym (answers a t.now t.stands) ∙ c.in-Err.is) in
+    let o = turn_refused p (bytes a) c.args.buffer.now (now_at a) c.take_stretch-at.new.buffer c.take_stretch-at.new.self t (some a) _ (sym (answers a t.now t.stands) ∙ c.in_err-feed.was) in
     record { left = _; outcome = rw (← put a t.now t.stands) at o; stands = has a t.now t.stands })
-    tt (c.feed.auto.buffer ∙ room a)
+    tt (c.feed.auto.buffer ∙ room a))
 
 pub returns-then-at-piece : goal.returns-then-at-piece
 returns-then-at-piece c =
@@ -120,11 +124,8 @@ bounds-piece-at c = grind (arith, common_steps)
 pub feed-requires : goal.feed-requires
 feed-requires c = grind (arith, common_steps)
 
-pub overflow_add-at-in-Ok-None : goal.overflow_add-at-in-Ok-None
-overflow_add-at-in-Ok-None c = grind (arith, common_steps)
+pub overflow_add-at-in-None : goal.overflow_add-at-in-None
+overflow_add-at-in-None c = grind (arith, common_steps)
 
 pub loop-at-smaller : goal.loop-at-smaller
 loop-at-smaller c = grind (arith, common_steps)
-
-pub overflow_add-result : goal.overflow_add-result
-overflow_add-result c = grind (arith, common_steps)

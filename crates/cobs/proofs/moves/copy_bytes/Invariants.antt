@@ -1,7 +1,0 @@
-use Rattle.std.proofs.Common.{◌≡◌, take}
-use Rattle.cobs.specs.InPlace.{written_over}
-use Rattle.cobs.specs.Sentinel.{masked}
-use Rattle.cobs.proofs.moves.copy_bytes.Given as goal
-
-abbrev pub invariant-loop-i : goal.invariant-loop-i
-invariant-loop-i l = l.buffer ≡ written_over l.place (masked l.sentinel (take l.i l.bytes)) l.fn.buffer
