@@ -1,4 +1,6 @@
 //! Groups, parts and attributes, as slices of tokens.
+ghost use Rattle.std.specs.Iterator.{at_most};
+
 use crate::tokens::{Token, Word, is_among, is_name};
 
 /// The text of the first of these tokens; nothing if there is none.
@@ -19,18 +21,16 @@ pub fn last_word(tokens: &[Token]) -> &str {
 
 /// Which word the first is.
 pub fn front(tokens: &[Token]) -> Word {
-    match tokens {
-        [token, ..] => token.word,
-        _ => Word::Other,
+    if let [it, ..] = tokens {
+        it.word
+    } else {
+        Word::Other
     }
 }
 
 /// The line of the first; 0 if there is none.
 pub fn line_at(tokens: &[Token]) -> usize {
-    match tokens {
-        [token, ..] => token.line,
-        _ => 0,
-    }
+    if let [it, ..] = tokens { it.line } else { 0 }
 }
 
 /// A name without what makes it one.
@@ -46,20 +46,18 @@ pub fn name_at(tokens: &[Token]) -> Option<&str> {
 
 /// What follows the first alone.
 pub fn behind_first(tokens: &[Token]) -> &[Token] {
-    match tokens {
-        [_, rest @ ..] => rest,
-        _ => &[],
+    if let [_, rest @ ..] = tokens {
+        rest
+    } else {
+        &[]
     }
 }
 
 /// What follows the first, or the group that it opens.
 pub fn behind(tokens: &[Token]) -> &[Token] {
-    match tokens {
-        [first, ..] => {
-            let (_, rest) = tokens.split_at(first.span.max(1).min(tokens.len()));
-            rest
-        }
-        _ => &[],
+    match group(tokens) {
+        Some((_, rest)) => rest,
+        None => behind_first(tokens),
     }
 }
 
@@ -92,16 +90,13 @@ fn parted<'a>(tokens: &'a [Token], ends: &[&str], is_type: bool) -> (&'a [Token]
         if rest.is_empty() || (depth == 0 && is_among(first_word(rest), ends)) {
             break;
         }
-        let word = if is_type { front(rest) } else { Word::Other };
-        depth = match word {
-            Word::Less => depth.saturating_add(1),
-            Word::Greater => depth.saturating_sub(1),
-            _ => depth,
-        };
-        rest = match word {
-            Word::Dash => behind(behind_first(rest)),
-            _ => behind(rest),
-        };
+        match front(rest) {
+            Word::Less if is_type => depth = depth.saturating_add(1),
+            Word::Greater if is_type => depth = depth.saturating_sub(1),
+            Word::Dash if is_type => rest = behind_first(rest),
+            _ => {}
+        }
+        rest = behind(rest);
     }
     tokens.split_at(tokens.len().saturating_sub(rest.len()))
 }
@@ -125,10 +120,9 @@ pub fn attribute(tokens: &[Token]) -> Option<(&[Token], &[Token])> {
 /// what it holds have no brackets.
 pub fn passed_over(tokens: &[Token]) -> Option<(&[Token], &[Token])> {
     match tokens {
-        [_, mark, rest @ ..] if matches!(mark.word, Word::Bang) => match front(rest) {
-            Word::Paren | Word::Bracket | Word::Brace => group(rest),
-            _ if name_at(rest).is_some() => group(behind_first(rest)),
-            _ => None,
+        [_, mark, rest @ ..] if matches!(mark.word, Word::Bang) => match name_at(rest) {
+            Some(_) => group(behind_first(rest)),
+            None => group(rest),
         },
         _ => None,
     }
@@ -146,12 +140,14 @@ pub struct ConditionedAttribute<'a> {
     pub condition: &'a [Token],
 }
 
-/// Goes over attributes, of which those in a `cfg_attr` are by themselves.
+/// Goes over attributes, of which those in a `cfg_attr` are by themselves. What has no words is none.
 #[derive(Clone, Copy, Drop)]
 pub struct AttributeWalk<'a> {
     rest: &'a [Token],
     parts: &'a [Token],
     condition: &'a [Token],
+    /// How often it goes on at most.
+    left: usize,
 }
 
 impl<'a> AttributeWalk<'a> {
@@ -161,31 +157,32 @@ impl<'a> AttributeWalk<'a> {
             rest,
             parts: &[],
             condition: &[],
+            left: rest.len(),
         }
     }
+}
 
-    /// The next attribute.
-    pub fn next(&mut self) -> Option<ConditionedAttribute<'a>> {
-        for _ in 0..=self.rest.len() {
-            if !self.parts.is_empty() {
-                let (words, behind) = first_part(self.parts);
-                self.parts = behind;
-                let condition = self.condition;
-                return Some(ConditionedAttribute { words, condition });
-            }
+impl<'a> Iterator for AttributeWalk<'a> {
+    type Item = ConditionedAttribute<'a>;
+
+    ghost remaining = { λ s. at_most s.left };
+
+    fn next(&mut self) -> Option<ConditionedAttribute<'a>> {
+        self.left = self.left.checked_sub(1)?;
+        let mut words: &'a [Token] = &[];
+        let mut condition = self.condition;
+        if self.parts.is_empty() {
             // what is no attribute is a comment that marks
-            let (words, behind) = attribute(self.rest).unwrap_or((&[], behind_first(self.rest)));
-            self.rest = behind;
-            match first_word(words) {
-                "" => {}
-                "cfg_attr" => (self.condition, self.parts) = first_part(held(words)),
-                _ => {
-                    let condition: &'a [Token] = &[];
-                    return Some(ConditionedAttribute { words, condition });
-                }
+            (words, self.rest) = attribute(self.rest).unwrap_or((&[], behind_first(self.rest)));
+            condition = &[];
+            if first_word(words) == "cfg_attr" {
+                (self.condition, self.parts) = first_part(held(words));
+                words = &[];
             }
+        } else {
+            (words, self.parts) = first_part(self.parts);
         }
-        None
+        Some(ConditionedAttribute { words, condition })
     }
 }
 

@@ -4,8 +4,8 @@ use crate::faults::Faults;
 use crate::tokens::Token;
 use std::alloc::Global;
 
-/// Takes tokens from the start. What is wrong is noted and hides the tokens after it, so that the calls that follow take nothing
-/// and note nothing: so those who read need not ask after each step.
+/// Takes tokens from the start. What is wrong is noted and hides the tokens after it, so those who read need not ask after each
+/// step.
 #[derive(Drop)]
 pub struct Cursor<'a> {
     /// The tokens that aren't read yet.
@@ -75,14 +75,13 @@ impl<'a> Cursor<'a> {
 
     /// Notes what is wrong at the last token, unless it follows something that is wrong.
     pub fn wrong(&mut self, pieces: &[&str]) {
-        if self.is_wrong {
-            return;
+        if !self.is_wrong {
+            self.note_field();
+            self.faults.put_all(pieces);
+            self.faults.put("\n");
+            self.is_wrong = true;
+            self.rest = &[];
         }
-        self.note_field();
-        self.faults.put_all(pieces);
-        self.faults.put("\n");
-        self.is_wrong = true;
-        self.rest = &[];
     }
 
     /// Notes the line, and which type is read, which variant and which field of it, as far as one is.

@@ -1,5 +1,4 @@
 //! Serde's derives, and those of other crates that are called as these.
-use crate::attributes::behind_first;
 use crate::tokens::{Token, Word, is_listed};
 
 /// Crates that have serde's derives, also by the name that a `Cargo.toml` often gives serde.
@@ -51,8 +50,8 @@ pub fn is_derived(words: &[Token], name: &str) -> bool {
 pub fn renamed_derive(tokens: &[Token]) -> Option<&Token> {
     // Whether the `use` that is gone over is of another crate that has such derives.
     let mut is_other = false;
-    let mut rest = tokens;
-    for _ in 0..tokens.len() {
+    for place in 0..tokens.len() {
+        let (_, rest) = tokens.split_at(place);
         match rest {
             [of, first, ..] if matches!(of.word, Word::Import) => {
                 is_other = has_own(first.text.as_str());
@@ -65,7 +64,6 @@ pub fn renamed_derive(tokens: &[Token]) -> Option<&Token> {
                     && is_derived(tokens, name.text.as_str()) => return Some(name),
             _ => {}
         }
-        rest = behind_first(rest);
     }
     None
 }

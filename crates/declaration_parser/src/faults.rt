@@ -4,8 +4,7 @@ ghost use Rattle.std.specs.Prelude.{◌≡◌, [], false, string_bytes, IfOk, Is
 use std::alloc::{AllocError, Global};
 use std::fmt::Write;
 
-/// Lines that are made of pieces. If memory runs out, the other calls go on, and [`finished`](Faults::finished) says so at the
-/// end: so those who note a fault need not ask at each piece.
+/// Lines that are made of pieces. If memory runs out, the calls go on, and [`finished`](Faults::finished) says so at the end.
 #[derive(Drop)]
 pub struct Faults<'a> {
     whole: String,

@@ -66,10 +66,8 @@ impl<'a> Marking<'a> {
 
     /// Adds what a comment marks, all if it has no words.
     fn add_comment(&mut self, comment: &'a Token) {
-        let words = match comment.text.as_str().split_once(':') {
-            Some((_, words)) => words,
-            None => "Serialize, Deserialize",
-        };
+        let parts = comment.text.as_str().split_once(':');
+        let (_, words) = parts.unwrap_or(("", "Serialize, Deserialize"));
         for word in words.split(',') {
             let word = word.trim();
             let is_written = word == "Serialize";
@@ -94,11 +92,7 @@ impl<'a> Marking<'a> {
                 marking.add_comment(token);
             }
         }
-        let mut all = AttributeWalk::of(attributes);
-        for _ in 0..attributes.len() {
-            let Some(it) = all.next() else {
-                break;
-            };
+        for it in AttributeWalk::of(attributes) {
             // more conditions may make a `cfg`
             let is_condition = is_among(first_word(it.words), &["cfg", "cfg_attr"]);
             marking.is_conditional = marking.is_conditional || is_condition;

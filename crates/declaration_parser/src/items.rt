@@ -91,16 +91,8 @@ pub struct Walk<'a> {
 impl Item<'_> {
     /// Whether an attribute of this name is before it, under a condition or none. One that more conditions make may be any.
     pub fn has(&self, name: &str) -> bool {
-        let mut attributes = AttributeWalk::of(self.attributes);
-        for _ in 0..self.attributes.len() {
-            let Some(it) = attributes.next() else {
-                break;
-            };
-            if is_among(first_word(it.words), &[name, "cfg_attr"]) {
-                return true;
-            }
-        }
-        false
+        let names = [name, "cfg_attr"];
+        AttributeWalk::of(self.attributes).any(|it| is_among(first_word(it.words), &names))
     }
 
     /// How many tokens after its attributes are passed over with it: those of a call.
@@ -155,10 +147,7 @@ impl<'a> Walk<'a> {
     fn add_scope(&mut self, kind: Kind, name: &'a str, end: usize) -> usize {
         let place = self.scopes.len();
         let outer = self.scope;
-        let file = match self.scopes.get(outer) {
-            Some(it) => it.file,
-            None => outer,
-        };
+        let file = self.scopes.get(outer).map_or(outer, |it| it.file);
         let scope = Scope {
             kind,
             name,
@@ -243,31 +232,24 @@ impl<'a> Walk<'a> {
     /// Reads what an item begins with, and gives what follows: at its name.
     fn read_item(&mut self, item: &mut Item<'a>, words: &'a [Token]) -> &'a [Token] {
         let rest = behind_first(words);
-        let is_named = name_at(rest).is_some();
+        let after = behind_first(rest);
+        let named = name_at(rest).is_some();
         match front(words) {
-            Word::Module if is_named => return self.read_module(item, rest),
-            Word::Function if is_named => self.read_body(Kind::Body, rest),
+            Word::Module if named => return self.read_module(item, rest),
+            Word::Function if named => self.read_body(Kind::Body, rest),
             Word::Impl => self.read_body(Kind::Impl, rest),
-            Word::Brace => self.open(Kind::Body, "", words),
-            Word::Struct | Word::Enum | Word::Union if is_named => self.take(
+            Word::Brace => self.read_body(Kind::Body, words),
+            Word::Struct | Word::Enum | Word::Union if named => self.take(
                 item,
                 ItemKind::Type,
                 rest,
             ),
-            Word::Alias if is_named => self.take(item, ItemKind::Alias, rest),
-            Word::Constant if is_named => self.take(item, ItemKind::Constant, rest),
-            Word::Static if first_word(rest) == "mut" => self.take(
-                item,
-                ItemKind::Static,
-                behind_first(rest),
-            ),
-            Word::Static if is_named => self.take(item, ItemKind::Static, rest),
+            Word::Alias if named => self.take(item, ItemKind::Alias, rest),
+            Word::Constant if named => self.take(item, ItemKind::Constant, rest),
+            Word::Static if first_word(rest) == "mut" => self.take(item, ItemKind::Static, after),
+            Word::Static if named => self.take(item, ItemKind::Static, rest),
             Word::Import if first_word(rest) != "<" => self.take(item, ItemKind::Import, rest),
-            Word::Extern if first_word(rest) == "crate" => self.take(
-                item,
-                ItemKind::Crate,
-                behind_first(rest),
-            ),
+            Word::Extern if first_word(rest) == "crate" => self.take(item, ItemKind::Crate, after),
             // Attributes may follow a `pub` that begins none of these.
             _ if item.is_public => return words,
             _ => {}
@@ -282,15 +264,10 @@ impl<'a> Walk<'a> {
         if has_value && !matches!(front(behind_first(words)), Word::Colon) {
             return;
         }
-        let is_type = kind == ItemKind::Type;
-        let (whole, rest) = up_to(words, if is_type { BODY } else { &[";"] });
+        let (whole, rest) = up_to(words, if kind == ItemKind::Type { BODY } else { &[";"] });
         item.kind = kind;
         item.words = whole;
-        self.quiet = if is_type {
-            behind(rest).len()
-        } else {
-            rest.len()
-        };
+        self.quiet = behind(rest).len();
         if has_value {
             let (_, value) = up_to(whole, &["="]);
             self.quiet = rest.len().saturating_add(value.len());
@@ -298,18 +275,13 @@ impl<'a> Walk<'a> {
         }
     }
 
-    /// Turns to the scope of the group at the start, if there is one.
-    fn open(&mut self, kind: Kind, name: &'a str, words: &'a [Token]) {
-        if let Some((_, after)) = group(words) {
-            self.scope = self.add_scope(kind, name, after.len());
-        }
-    }
-
     /// Reads a function, or what belongs to a type, up to its body or a semicolon. Lengths in braces may precede these.
     fn read_body(&mut self, kind: Kind, words: &'a [Token]) {
         let (_, body) = type_up_to(words, BODY);
         self.quiet = behind_first(body).len();
-        self.open(kind, "", body);
+        if let Some((_, after)) = group(body) {
+            self.scope = self.add_scope(kind, "", after.len());
+        }
     }
 
     /// Reads a module, at its name, and gives what is in it or follows it.
@@ -321,20 +293,18 @@ impl<'a> Walk<'a> {
         }
         let is_moved = rest.len() > self.moved;
         let is_misnamed = is_moved || item.has("path");
-        let Some((_, after)) = group(rest) else {
-            let kind = if is_misnamed {
-                Kind::Misnamed
-            } else {
-                Kind::Outline
-            };
-            self.add_scope(kind, name, 0);
-            return rest;
+        match (group(rest), is_misnamed) {
+            (None, false) => self.add_scope(Kind::Outline, name, 0),
+            (None, true) => self.add_scope(Kind::Misnamed, name, 0),
+            (Some((_, after)), _) => {
+                self.scope = self.add_scope(Kind::Module, name, after.len());
+                if is_misnamed && !is_moved {
+                    self.moved = after.len();
+                }
+                return behind_first(rest);
+            }
         };
-        if is_misnamed && !is_moved {
-            self.moved = after.len();
-        }
-        self.open(Kind::Module, name, rest);
-        behind_first(rest)
+        rest
     }
 }
 

@@ -24,29 +24,30 @@ pub enum Purpose {
     Schemas,
 }
 
+/// What the declarations of a file are read with.
+#[derive(Clone, Copy, Drop)]
+pub struct Job<'a, 'b> {
+    pub alloc: Global,
+    pub purpose: Purpose,
+    pub file: &'a Read,
+    pub by_hand: &'b ByHand<'a>,
+}
+
 /// Reads a declaration from the start of tokens.
 #[derive(Drop)]
-pub struct Parser<'a> {
-    alloc: Global,
-    purpose: Purpose,
-    file: &'a Read,
+pub struct Parser<'a, 'b> {
+    job: Job<'a, 'b>,
     /// What marks the declaration.
     marking: Marking<'a>,
     /// What is read, and what is wrong with it.
     pub at: Cursor<'a>,
 }
 
-impl<'a> Parser<'a> {
+impl<'a, 'b> Parser<'a, 'b> {
     /// A parser of the words of a declaration, after what marks it.
-    pub fn new(
-        alloc: Global,
-        purpose: Purpose,
-        file: &'a Read,
-        head: &Head<'a>,
-        words: &'a [Token],
-    ) -> Parser<'a> {
-        let mut at = Cursor::new(alloc, words);
-        at.faults.turn_to(file.file.as_str());
+    pub fn new(job: Job<'a, 'b>, head: &Head<'a>, words: &'a [Token]) -> Parser<'a, 'b> {
+        let mut at = Cursor::new(job.alloc, words);
+        at.faults.turn_to(job.file.file.as_str());
         if let [.., token] = head.attributes {
             at.line = token.line;
         }
@@ -54,18 +55,13 @@ impl<'a> Parser<'a> {
             at.line = line;
             at.refuse(word, NO_MARK);
         }
-        Parser {
-            alloc,
-            purpose,
-            file,
-            marking: head.marking,
-            at,
-        }
+        let marking = head.marking;
+        Parser { job, marking, at }
     }
 
     /// Refuses a word if implementations are to be written.
     fn refuse_in_code(&mut self, is_wrong: bool, word: &str, why: &str) {
-        if is_wrong && matches!(self.purpose, Purpose::Implementations) {
+        if is_wrong && matches!(self.job.purpose, Purpose::Implementations) {
             self.at.refuse(word, why);
         }
     }
@@ -122,7 +118,7 @@ impl<'a> Parser<'a> {
 
     /// Takes a field; nothing if it isn't sent.
     fn item(&mut self, place: usize, named: bool) -> Option<Field<'a>> {
-        if place == MOST_FIELDS && matches!(self.purpose, Purpose::Implementations) {
+        if place == MOST_FIELDS && matches!(self.job.purpose, Purpose::Implementations) {
             self.at
                 .wrong(&["more than 36 fields: make some of them a struct"]);
         }
@@ -174,16 +170,16 @@ impl<'a> Parser<'a> {
 
     /// Takes fields in braces, in parentheses, or none.
     fn fields(&mut self) -> Fields<'a> {
-        let mut items = Vec::new(self.alloc);
+        let mut items = Vec::new(self.job.alloc);
         let mut count: usize = 0;
         let form = match front(self.at.rest) {
             Word::Brace => Form::Named,
             Word::Paren => Form::Tuple,
-            _ => {
-                let form = Form::Unit;
-                return Fields { form, items, count };
-            }
+            _ => Form::Unit,
         };
+        if matches!(form, Form::Unit) {
+            return Fields { form, items, count };
+        }
         let behind = self.enter();
         for place in 0..self.at.rest.len() {
             if self.at.rest.is_empty() {
@@ -212,7 +208,7 @@ impl<'a> Parser<'a> {
 
     /// Takes the variants of an enum, which has one at least.
     fn variants(&mut self) -> Vec<VariantOf<'a>> {
-        let mut variants = Vec::new(self.alloc);
+        let mut variants = Vec::new(self.job.alloc);
         let behind = self.enter();
         if self.at.rest.is_empty() {
             self.at
@@ -257,8 +253,8 @@ impl<'a> Parser<'a> {
 
     /// Takes the lifetimes and type parameters, and says which are lengths.
     fn parameters(&mut self) -> (Vec<&'a str>, Vec<&'a str>) {
-        let mut parameters = Vec::new(self.alloc);
-        let mut lengths = Vec::new(self.alloc);
+        let mut parameters = Vec::new(self.job.alloc);
+        let mut lengths = Vec::new(self.job.alloc);
         if !self.at.take("<") {
             return (parameters, lengths);
         }
@@ -306,12 +302,8 @@ impl<'a> Parser<'a> {
         (Body::Struct(fields), bounds)
     }
 
-    /// Takes a declaration, after its attributes, of a file that has these types by hand.
-    pub fn declaration(
-        &mut self,
-        attributes: &'a [Token],
-        by_hand: &ByHand<'_>,
-    ) -> Declaration<'a> {
+    /// Takes a declaration, after its attributes.
+    pub fn declaration(&mut self, attributes: &'a [Token]) -> Declaration<'a> {
         self.at.rest = behind_public(self.at.rest);
         let is_enum = self.is_enum();
         let name = self.name_of(false);
@@ -327,7 +319,7 @@ impl<'a> Parser<'a> {
             self.at.refuse(derive.text.as_str(), OTHER_DERIVE);
             self.at.line = line;
         }
-        self.check_by_hand(by_hand);
+        self.check_by_hand();
         let before = self.bounds();
         let (body, after) = self.body(is_enum);
         self.at.line = line;
@@ -336,7 +328,7 @@ impl<'a> Parser<'a> {
             attributes,
             words: &[],
             name,
-            file: self.file,
+            file: self.job.file,
             line,
             parameters,
             lengths,
@@ -345,7 +337,7 @@ impl<'a> Parser<'a> {
             body,
             marks: self.marking.marks,
             sure: self.marking.sure,
-            wrong: String::new(self.alloc),
+            wrong: String::new(self.job.alloc),
         }
     }
 }

@@ -12,19 +12,10 @@ use crate::head::{Head, head_of};
 use crate::items::{Item, ItemKind, Walk};
 use crate::marks::is_mark;
 use crate::parser::by_hand::ByHand;
-use crate::parser::{Parser, Purpose};
+use crate::parser::{Job, Parser, Purpose};
 use crate::tokens::{Read, Token};
 use crate::words::{ALMOST, IN_MACRO, IN_WORDS, RENAMES};
 use std::alloc::{AllocError, Global};
-
-/// What the declarations of a file are read with.
-#[derive(Clone, Copy, Drop)]
-struct Job<'a, 'b> {
-    alloc: Global,
-    purpose: Purpose,
-    file: &'a Read,
-    by_hand: &'b ByHand<'a>,
-}
 
 /// The first mark among tokens.
 fn first_mark(tokens: &[Token]) -> Option<&Token>
@@ -122,8 +113,8 @@ fn add_declaration<'a>(
     let (_, body) = type_up_to(head.behind, &["{", ";"]);
     let length = head.behind.len().saturating_sub(behind(body).len());
     let (words, _) = head.behind.split_at(length);
-    let mut parser = Parser::new(job.alloc, job.purpose, job.file, head, words);
-    let declaration = parser.declaration(head.attributes, job.by_hand);
+    let mut parser = Parser::new(job, head, words);
+    let declaration = parser.declaration(head.attributes);
     let wrong = parser.at.faults;
     refuse_mark(words, IN_WORDS, faults);
     keep(declaration, head.attributes, words, wrong, found, faults);

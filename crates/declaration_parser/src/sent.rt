@@ -4,33 +4,24 @@ use crate::tokens::{is_listed, row_of};
 /// Types of the language.
 const PRIMITIVE: &str = "bool char f32 f64 i8 i16 i32 i64 i128 isize str u8 u16 u32 u64 u128 usize";
 
-/// Their names, with blanks between them, and the type to write.
-const SENT_AS: &[(&str, &str)] = &[
-    ("AtomicBool", "bool"),
-    (
-        "Bound",
-        "enum Bound<T> { Unbounded, Included(T), Excluded(T) }",
-    ),
-    ("CStr", "&'a [u8]"),
-    ("CString", "Vec<u8>"),
-    ("Duration SystemTime", "(u64, u32)"),
-    ("IpAddr", "enum IpAddr { V4([u8; 4]), V6([u8; 16]) }"),
-    ("Ipv4Addr", "[u8; 4]"),
-    ("Ipv6Addr", "[u8; 16]"),
-    (
-        "OsString",
-        "enum OsString { Unix(Vec<u8>), Windows(Vec<u16>) }",
-    ),
-    ("Path", "&'a str"),
-    ("PathBuf", "String"),
-    ("Range RangeInclusive", "(T, T)"),
-    ("RangeFrom RangeTo", "(T,)"),
-    (
-        "SocketAddr",
-        "enum SocketAddr { V4(([u8; 4], u16)), V6(([u8; 16], u16)) }",
-    ),
-    ("SocketAddrV4", "([u8; 4], u16)"),
-    ("SocketAddrV6", "([u8; 16], u16)"),
+/// The names of those that aren't read, and the type to write.
+const SENT_AS: &[&str] = &[
+    "AtomicBool: bool",
+    "Bound: enum Bound<T> { Unbounded, Included(T), Excluded(T) }",
+    "CStr: &'a [u8]",
+    "CString: Vec<u8>",
+    "Duration SystemTime: (u64, u32)",
+    "IpAddr: enum IpAddr { V4([u8; 4]), V6([u8; 16]) }",
+    "Ipv4Addr: [u8; 4]",
+    "Ipv6Addr: [u8; 16]",
+    "OsString: enum OsString { Unix(Vec<u8>), Windows(Vec<u16>) }",
+    "Path: &'a str",
+    "PathBuf: String",
+    "Range RangeInclusive: (T, T)",
+    "RangeFrom RangeTo: (T,)",
+    "SocketAddr: enum SocketAddr { V4(([u8; 4], u16)), V6(([u8; 16], u16)) }",
+    "SocketAddrV4: ([u8; 4], u16)",
+    "SocketAddrV6: ([u8; 16], u16)",
 ];
 
 /// As what a type is sent that isn't read, if that is known.

@@ -17,7 +17,6 @@ const WORDS: &[(&str, Word)] = &[
     ("*", Word::Star),
     (",", Word::Comma),
     (":", Word::Colon),
-    (";", Word::End),
     ("-", Word::Dash),
     ("<", Word::Less),
     (">", Word::Greater),
@@ -33,7 +32,6 @@ const WORDS: &[(&str, Word)] = &[
     ("enum", Word::Enum),
     ("extern", Word::Extern),
     ("fn", Word::Function),
-    ("for", Word::For),
     ("impl", Word::Impl),
     ("macro_rules", Word::Rules),
     ("mod", Word::Module),
@@ -48,7 +46,8 @@ const WORDS: &[(&str, Word)] = &[
     ("Serialize", Word::Serialize),
 ];
 
-/// Which of the words that are compared a token is.
+/// Which of the words that are compared a token is. `Close` closes what one of the three before it opens, `Impl` is also `trait`,
+/// and `Mark` a comment that marks a declaration.
 #[derive(Clone, Copy, PartialEq, Eq, Drop)]
 pub enum Word {
     Hash,
@@ -57,14 +56,12 @@ pub enum Word {
     Star,
     Comma,
     Colon,
-    End,
     Dash,
     Less,
     Greater,
     Paren,
     Bracket,
     Brace,
-    /// What closes one of these.
     Close,
     As,
     Constant,
@@ -72,8 +69,6 @@ pub enum Word {
     Enum,
     Extern,
     Function,
-    For,
-    /// `impl` and `trait`.
     Impl,
     Rules,
     Module,
@@ -85,13 +80,13 @@ pub enum Word {
     Import,
     Deserialize,
     Serialize,
-    /// A comment that marks a declaration.
     Mark,
     Other,
 }
 
 /// A word, a lifetime, a number, a text, a character or a mark, and the line where it begins. A comment `// message` is one
-/// token. One that says how a field is sent is the tokens of an attribute. A text is between `"`, whatever it was written between. A name is in Unicode's form NFC, as Rust compares names.
+/// token, one that says how a field is sent those of an attribute. A text is between `"`, whatever it was written between. A
+/// name is in Unicode's form NFC, as Rust compares names.
 #[derive(Drop)]
 pub struct Token {
     pub text: String,
@@ -110,8 +105,7 @@ pub struct Read {
     pub faults: String,
 }
 
-/// Takes tokens from the start of a text. If memory runs out, the calls go on, and [`finished`](Tokens::finished) says so at
-/// the end.
+/// Takes tokens from the start of a text. If memory runs out, the calls go on, and `faults` says so at the end.
 #[derive(Drop)]
 struct Tokens<'a> {
     alloc: Global,
@@ -175,15 +169,6 @@ pub fn is_lifetime(word: &str) -> bool {
     word.starts_with('\'') && !word.ends_with('\'')
 }
 
-/// Which of the words that are compared a token is, by its text.
-fn word_of(text: &str) -> Word {
-    match WORDS.iter().find(|row| row.0 == text) {
-        Some(row) => row.1,
-        None if is_mark(text) => Word::Mark,
-        None => Word::Other,
-    }
-}
-
 /// Whether a word is one of these.
 pub fn is_among(word: &str, words: &[&str]) -> bool {
     words.iter().any(|known| *known == word)
@@ -194,10 +179,11 @@ pub fn is_listed(word: &str, list: &str) -> bool {
     list.split_whitespace().any(|known| known == word)
 }
 
-/// What the first of these rows that lists a word says of it.
-pub fn row_of(rows: &[(&str, &'static str)], word: &str) -> Option<&'static str> {
-    let row = rows.iter().find(|row| is_listed(word, row.0))?;
-    Some(row.1)
+/// What the first of these rows that lists a word says of it. A row is a list, a colon, and what is said.
+pub fn row_of(rows: &[&'static str], word: &str) -> Option<&'static str> {
+    let mut rows = rows.iter().filter_map(|row| row.split_once(": "));
+    let (_, said) = rows.find(|row| is_listed(word, row.0))?;
+    Some(said)
 }
 
 /// The first letter of a word.
@@ -231,10 +217,8 @@ fn behind(text: &str, length: usize) -> &str {
 /// A text without its first character.
 fn behind_one(text: &str) -> &str {
     let mut characters = text.chars();
-    match characters.next() {
-        Some(first) => behind(text, first.len_utf8()),
-        None => "",
-    }
+    characters.next();
+    characters.as_str()
 }
 
 /// How many `#` a text begins with.
@@ -316,9 +300,8 @@ impl<'a> Tokens<'a> {
         }
     }
 
-    /// Reads a comment up to the end of its line. One that marks what is after it is a token, in a line of its own. What one says
-    /// of how the field after it is sent is an attribute: `#[with = ".."]`, or with all its words as one token, `#[with ..]`, if it
-    /// only seems meant to.
+    /// Reads a comment up to the end of its line. One that marks what is after it is a token. What one says of how the field after
+    /// it is sent is an attribute: `#[with = ".."]`, or, if it only seems meant to, `#[with ..]` with all its words as one token.
     fn read_comment(&mut self) {
         let whole = self.rest.lines().next().unwrap_or("");
         self.rest = behind(self.rest, whole.len());
@@ -417,30 +400,29 @@ impl<'a> Tokens<'a> {
     /// Appends a token. One that ends a group says in the one that begins it how many tokens there are.
     fn put(&mut self, text: &str, line: usize) {
         self.is_behind_code = true;
-        let word = word_of(text);
+        let word = match WORDS.iter().find(|row| row.0 == text) {
+            Some(row) => row.1,
+            None if is_mark(text) => Word::Mark,
+            None => Word::Other,
+        };
         let place = self.found.len();
-        match word {
-            Word::Paren | Word::Bracket | Word::Brace => {
-                self.faults.note(self.open.push(place).is_err());
-            }
-            Word::Close => {
-                if let Some(first) = self.open.pop()
-                    && let Some(token) = self.found.get_mut(first)
-                {
-                    token.span = place.saturating_sub(first).saturating_add(1);
-                }
-            }
-            _ => {}
+        if matches!(word, Word::Paren | Word::Bracket | Word::Brace) {
+            self.faults.note(self.open.push(place).is_err());
+        }
+        if matches!(word, Word::Close)
+            && let Some(first) = self.open.pop()
+            && let Some(token) = self.found.get_mut(first)
+        {
+            token.span = place.saturating_sub(first).saturating_add(1);
         }
         let Ok(text) = String::from_str(self.alloc, text) else {
             return self.faults.note(true);
         };
-        let span = 0;
         let token = Token {
             text,
             word,
             line,
-            span,
+            span: 0,
         };
         self.faults.note(self.found.push(token).is_err());
     }

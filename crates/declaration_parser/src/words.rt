@@ -3,69 +3,56 @@
 /// How many fields a struct or a variant can have.
 pub const MOST_FIELDS: usize = 36;
 
-/// What is said of another word of a mark.
+// What is said after a word of a mark, of an attribute or of a derive, each in the case of its name.
 pub const NO_MARK: &str =
     "` marks nothing: a message is marked for `Serialize`, `Deserialize`, or both, and has all else by itself";
 
-/// What is said of a mark before what is no declaration, or after code.
 pub const ALMOST: &str =
     "` marks nothing: a line of its own does, `// message` or `// message: Serialize`\n";
 
-/// What is said of a call of a macro that holds a mark.
 pub const IN_MACRO: &str =
     "!` writes anew what it holds, where a mark marks nothing: write the declaration out, without the macro\n";
 
-/// What is said of another name of a derive.
 pub const RENAMES: &str =
     "` is another name of serde's, by which a derive isn't found: derive `Serialize` and `Deserialize` by these names\n";
 
-/// What is said of a mark among the words of a declaration.
 pub const IN_WORDS: &str =
     "` stands within a declaration, where it marks nothing: take it out, or close what stands before it\n";
 
-/// What is said of a type that is written by hand where it isn't derived.
 pub const BY_HAND: &str =
     "` is implemented by hand, so the bytes may be others than those of the fields: declare what is on the wire";
 
-/// What is said of a condition on a field or a variant.
 pub const ON_SOME_DEVICES: &str =
     "` has this on some devices alone: take the attribute out where it is there, else what stands behind it";
 
-/// What is said of a condition that isn't that of all derives.
 pub const OTHER_CONDITION: &str =
     "` changes the bytes under a condition that not every derive has: write the field as it is on the wire";
 
-/// What is said of a field that is left out on one side alone.
 pub const ONE_SIDE: &str =
     "` leaves the field out on one side alone: the other side wants its bytes, so the device can't be read as it is";
 
-/// What is said of the only field of a newtype, which serde writes although it is left out.
 pub const ONLY_FIELD: &str =
     "` of the only field of a struct in parentheses leaves out nothing, since serde writes it all the same: take the word out";
 
-/// What is said of a transparent type with more fields than one.
 pub const TRANSPARENT: &str =
     "` sends one field alone, but there are more: skip the others, or take the word out where all are sent";
 
-/// What is said of a field that is left out, if what is read back must be what was written.
 pub const LEFT_OUT: &str =
     "` leaves the field out, but what is read back has to be what was written: declare a type without the field, and hold both in another that isn't sent";
 
-/// What is said of a comment that is almost one which says how a field is sent.
 pub const ALMOST_WAY: &str =
     "` marks nothing: a line of its own before a field does, `// with = \"postcard::fixint::le\"` or the same with `be`";
 
-/// What is said of one in a type that serde's derives mark.
 pub const WAY_OF_SERDE: &str =
     "` in a comment says nothing to serde, whose derive marks the type: write `#[serde(with = ..)]`, or take the comment out";
 
-/// What is said of an attribute that this crate doesn't know.
 pub const UNKNOWN: &str =
     "` isn't known here and may change the bytes: write the declaration as it is on the wire";
 
-/// What is said of a derive that is called otherwise than serde's.
 pub const OTHER_DERIVE: &str =
     "` may send something else than the fields, as a number or a text: where the type is a field, write what is on the wire";
+
+pub const USED: &str = "` is also a name that the implementations use: call it otherwise";
 
 /// Words of serde's attributes that change no byte.
 pub const NO_BYTES: &str = "
@@ -73,36 +60,15 @@ pub const NO_BYTES: &str = "
     rename_all_fields transparent
 ";
 
-/// Words of serde's attributes that do, and what is said of each.
-pub const OF_SERDE: &[(&str, &str)] = &[
-    (
-        "flatten",
-        "` can't be sent by postcard, which has no names: write the fields themselves",
-    ),
-    (
-        "tag content untagged",
-        "` can't be read by postcard: it wants a number before a variant, so the device has to leave the word out",
-    ),
-    (
-        "other",
-        "` can't be read by postcard as the device sends it: declare each variant that there is",
-    ),
-    (
-        "skip_serializing_if",
-        "` leaves out bytes that the reader wants: the device has to send the field always",
-    ),
-    (
-        "serialize_with deserialize_with with",
-        "` sends the field in ways not known here: write the type that is on the wire in its place",
-    ),
-    (
-        "from try_from into",
-        "` sends another type's bytes: mark that type, and write it where this one is a field",
-    ),
-    (
-        "skip skip_deserializing skip_serializing",
-        "` of a variant counts it on one side alone: take the variant out where it is the last",
-    ),
+/// Words of serde's attributes that do, and after them what is said of each.
+pub const OF_SERDE: &[&str] = &[
+    "flatten: ` can't be sent by postcard, which has no names: write the fields themselves",
+    "tag content untagged: ` can't be read by postcard: it wants a number before a variant, so the device has to leave the word out",
+    "other: ` can't be read by postcard as the device sends it: declare each variant that there is",
+    "skip_serializing_if: ` leaves out bytes that the reader wants: the device has to send the field always",
+    "serialize_with deserialize_with with: ` sends the field in ways not known here: write the type that is on the wire in its place",
+    "from try_from into: ` sends another type's bytes: mark that type, and write it where this one is a field",
+    "skip skip_deserializing skip_serializing: ` of a variant counts it on one side alone: take the variant out where it is the last",
 ];
 
 /// What the paths of attributes begin with that change no byte.
@@ -123,6 +89,3 @@ pub const OF_IMPLEMENTATIONS: &str = "
     AsShape F Flavor Last MatchesShape Readable Serialize Serializer ShapeOf Shaped Taken Variant
     Variants4 serializer
 ";
-
-/// What is said of one of them.
-pub const USED: &str = "` is also a name that the implementations use: call it otherwise";

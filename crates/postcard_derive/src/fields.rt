@@ -9,32 +9,28 @@ pub const ROW: usize = 6;
 /// its `member`, the name that it is `bound` to, its `place`, and the `way` that sends it.
 pub type Spelling = [&'static str; 2];
 
-/// In the type of a shape.
+// In the type of a shape; in ghost text, in the shape of a value, and in that of a variant, with others and alone.
 pub const TYPE: Spelling = ["%type%", "%way%<%type%>"];
 
-/// In a value's shape, in ghost text.
 pub const SEEN: Spelling = ["v.%member%", "record { 0 = v.%member% }"];
 
-/// In what is sent of a value, with others and alone.
+pub const HELD: Spelling = ["x%place%", "record { 0 = x%place% }"];
+
+pub const HELD_ALONE: Spelling = ["x%place%", "(record { 0 = x%place% })"];
+
+// In what is sent of a value, and of a variant, whose fields are borrowed, with others and alone.
 pub const SENT: Spelling = ["&self.%member%", "%way%(self.%member%)"];
 
 pub const SENT_ALONE: Spelling = ["self.%member%", "%way%(self.%member%)"];
 
-/// In a value, or a pattern for one.
-pub const BOUND: Spelling = ["%bound%", "%bound%"];
-
-/// In a pattern for a shape.
-pub const TAKEN: Spelling = ["%bound%", "%way%(%bound%)"];
-
-/// In what is sent of a variant, whose fields are borrowed, with others and alone.
 pub const LENT: Spelling = ["%bound%", "%way%(*%bound%)"];
 
 pub const LENT_ALONE: Spelling = ["%bound%", "&%way%(*%bound%)"];
 
-/// In a variant's shape, in ghost text, with others and alone.
-pub const HELD: Spelling = ["x%place%", "record { 0 = x%place% }"];
+// In a value, or a pattern for one, and in a pattern for a shape.
+pub const BOUND: Spelling = ["%bound%", "%bound%"];
 
-pub const HELD_ALONE: Spelling = ["x%place%", "(record { 0 = x%place% })"];
+pub const TAKEN: Spelling = ["%bound%", "%way%(%bound%)"];
 
 impl Text {
     /// Appends a field.
@@ -69,10 +65,12 @@ impl Text {
 
     /// Appends a tuple of up to six fields; one field stands for itself.
     pub fn put_row(&mut self, fields: &[Field], spelling: Spelling) {
-        let is_one = fields.len() == 1;
-        self.put(if is_one { "" } else { "(" });
+        if let [field] = fields {
+            return self.put_field(field, spelling);
+        }
+        self.put("(");
         self.put_list(fields, spelling);
-        self.put(if is_one { "" } else { ")" });
+        self.put(")");
     }
 
     /// Appends a tuple; one field stands for itself, and more than six are in rows.

@@ -125,15 +125,12 @@ pub fn holds_itself(alloc: Global, uses: &[Use], name: &str) -> Result<bool, All
     let mut held = Vec::new(alloc);
     held.push(name)?;
     for place in 0..=uses.len() {
-        let Some(by) = held.get(place) else {
-            break;
-        };
-        let by = *by;
+        let by = held.get(place).copied().unwrap_or("");
         for (holder, of) in uses {
-            if *holder == by && *of == name {
-                return Ok(true);
-            }
-            if *holder == by {
+            if !by.is_empty() && *holder == by {
+                if *of == name {
+                    return Ok(true);
+                }
                 put(&mut held, of)?;
             }
         }

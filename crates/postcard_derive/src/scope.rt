@@ -48,9 +48,8 @@ impl<'a> Origins<'a> {
 
     /// Whether the file has something else by the name of a crate.
     pub fn is_hidden(&self, krate: &str) -> bool {
-        self.origins
-            .iter()
-            .any(|(name, from)| *name == krate && *from != krate)
+        let mut origins = self.origins.iter();
+        origins.any(|(name, from)| *name == krate && *from != krate)
     }
 
     /// Whether a `*` brings in all of a module of the crate, which this file may not have. What `super` has is mostly in this file.
@@ -63,27 +62,17 @@ impl<'a> Origins<'a> {
 
     /// Whether a derive of this name, which a `use` brings in, may be another crate's than serde.
     pub fn has_other_derive(&self, name: &str) -> bool {
-        for (known, from) in &self.origins {
-            let by = self.origin(from);
-            let is_near = is_among(from, OF_THE_CRATE) || is_among(by, OF_THE_CRATE);
-            if *known == name && !is_near && !has_serdes(from) && !has_serdes(by) {
-                return true;
-            }
-            if *known == "*" && has_own(from) {
-                return true;
-            }
-        }
-        false
+        let is_ours = |krate: &str| is_among(krate, OF_THE_CRATE) || has_serdes(krate);
+        self.origins.iter().any(|(known, from)| {
+            let is_others = *known == name && !is_ours(from) && !is_ours(self.origin(from));
+            is_others || (*known == "*" && has_own(from))
+        })
     }
 
     /// Where a name is from; empty if the file doesn't have it.
     pub fn origin(&self, name: &str) -> &'a str {
-        for (known, from) in &self.origins {
-            if *known == name {
-                return from;
-            }
-        }
-        ""
+        let found = self.origins.iter().find(|row| row.0 == name);
+        found.map_or("", |row| row.1)
     }
 }
 
@@ -99,32 +88,29 @@ pub struct PathWord<'a> {
     pub leads: bool,
 }
 
-/// What follows `::` at the start of these tokens, if they begin so.
-fn behind_colons(tokens: &[Token]) -> Option<&[Token]> {
+/// What follows `::` at the start of these tokens, or they themselves.
+fn behind_colons(tokens: &[Token]) -> &[Token] {
     match tokens {
         [one, two, behind @ ..] if matches!((one.word, two.word), (Word::Colon, Word::Colon)) =>
-            Some(behind),
-        _ => None,
+            behind,
+        _ => tokens,
     }
 }
 
 /// The words that these tokens are.
 pub fn words_of(alloc: Global, tokens: &[Token]) -> Result<Vec<PathWord<'_>>, AllocError> {
     let mut words = Vec::new(alloc);
-    let mut rest = behind_colons(tokens).unwrap_or(tokens);
+    let mut rest = behind_colons(tokens);
     let mut is_led = rest.len() < tokens.len();
     let mut head = ":";
     for _ in 0..tokens.len() {
         let [token, behind @ ..] = rest else {
             break;
         };
-        let text = token.text.as_str();
-        let further = behind_colons(behind);
-        let leads = further.is_some();
-        if !is_led {
-            head = text;
-        }
-        let line = token.line;
+        let (text, line) = (token.text.as_str(), token.line);
+        rest = behind_colons(behind);
+        let leads = rest.len() < behind.len();
+        head = if is_led { head } else { text };
         words.push(PathWord {
             text,
             line,
@@ -133,7 +119,6 @@ pub fn words_of(alloc: Global, tokens: &[Token]) -> Result<Vec<PathWord<'_>>, Al
             leads,
         })?;
         is_led = leads;
-        rest = further.unwrap_or(behind);
     }
     Ok(words)
 }

@@ -12,10 +12,8 @@ pub struct Text {
 impl Text {
     /// The empty text.
     pub fn new(alloc: Global) -> Text {
-        Text {
-            alloc,
-            made: Faults::new(alloc),
-        }
+        let made = Faults::new(alloc);
+        Text { alloc, made }
     }
 
     /// Appends a piece.

@@ -10,26 +10,25 @@ const OF_SHAPES: &[&str] = &["V0", "V1", "V2", "V3", "More", "This", "Other", "L
 /// Where ghost text has them from.
 const FROM: &str = "    ghost use Rattle.postcard_tree.specs.declared.variants.";
 
-/// The position of a variant's shape: after so many fours, and after so many single ones. And how what holds it there begins:
-/// as a type, as a pattern, and in ghost text.
+/// The position of a variant's shape: after so many fours, and after so many single ones; and in what it is there, by its type
+/// and its constructor.
 #[derive(Clone, Copy, Drop)]
 struct Place {
     fours: usize,
     ones: usize,
-    holder: [&'static str; 3],
+    holder: (&'static str, &'static str),
 }
 
 /// The place of a variant among so many.
 fn place_of(index: usize, count: usize) -> Place {
     let fours = count.saturating_sub(1) / 4;
     let in_fours = fours.saturating_mul(4);
-    let holder = match index % 4 {
-        _ if index.saturating_add(1) == count => ["Last<", "Last::Last(", "Last "],
-        _ if index >= in_fours => ["Variant<", "Variant::This(", "This "],
-        0 => ["Variants4<", "Variants4::V0(", "V0 "],
-        1 => ["", "Variants4::V1(", "V1 "],
-        2 => ["", "Variants4::V2(", "V2 "],
-        _ => ["", "Variants4::V3(", "V3 "],
+    let holder = if index.saturating_add(1) == count {
+        ("Last", "Last")
+    } else if index >= in_fours {
+        ("Variant", "This")
+    } else {
+        ("Variants4", OF_SHAPES.get(index % 4).copied().unwrap_or(""))
     };
     Place {
         fours: fours.min(index / 4),
@@ -71,8 +70,7 @@ impl Text {
         self.put(" ↦ ");
         self.put_times(place.fours, "More (");
         self.put_times(place.ones, "Other (");
-        let [_, _, constructor] = place.holder;
-        self.put(constructor);
+        self.put_all(&[place.holder.1, " "]);
         if fields.is_empty() {
             self.put("tt");
         } else {
@@ -84,9 +82,8 @@ impl Text {
 
     /// Appends which value the shape of a variant stands for.
     fn put_made(&mut self, name: &str, variant: &VariantOf, place: Place) {
-        let [_, constructor, _] = place.holder;
         self.put_times(place.ones, "Variant::Other(");
-        self.put(constructor);
+        self.put_all(&[place.holder.0, "::", place.holder.1, "("]);
         self.put_tuple(&variant.fields.items, TAKEN);
         self.put_times(place.ones.saturating_add(1), ")");
         self.put_all(&[" => ", name, "::"]);
@@ -119,8 +116,10 @@ impl Text {
             let place = place_of(index, count);
             match word {
                 "types" => {
-                    let [open, _, _] = place.holder;
-                    self.put_all(&[if index > 0 { ", " } else { "" }, open]);
+                    self.put(if index > 0 { ", " } else { "" });
+                    if !is_among(place.holder.1, &["V1", "V2", "V3"]) {
+                        self.put_all(&[place.holder.0, "<"]);
+                    }
                     self.put_tuple(&variant.fields.items, TYPE);
                 }
                 "seen" => self.put_seen(variant, place),

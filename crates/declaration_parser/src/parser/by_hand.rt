@@ -42,10 +42,9 @@ impl<'a> Implemented<'a> {
         for _ in 0..u32::MAX {
             let before = found.count();
             for file in files {
-                let mut rest: &'a [Token] = &file.tokens;
-                for _ in 0..file.tokens.len() {
+                for place in 0..file.tokens.len() {
+                    let (_, rest) = file.tokens.split_at(place);
                     found.add_front(rest)?;
-                    rest = behind_first(rest);
                 }
             }
             if found.count() == before {
@@ -129,10 +128,11 @@ impl<'a> ByHand<'a> {
     }
 }
 
-impl<'a> Parser<'a> {
+impl Parser<'_, '_> {
     /// Refuses a type that is written by hand on a side that isn't derived, or is so under a condition.
-    pub(super) fn check_by_hand(&mut self, by_hand: &ByHand<'_>) {
+    pub(super) fn check_by_hand(&mut self) {
         let marking = self.marking;
+        let by_hand = self.job.by_hand;
         for (is_marked, side, word) in [
             (marking.marks.written, &by_hand.written, "Serialize"),
             (marking.marks.read, &by_hand.read, "Deserialize"),

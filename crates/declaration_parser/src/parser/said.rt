@@ -2,7 +2,7 @@
 use super::Parser;
 use crate::attributes::{
     AttributeWalk, ConditionedAttribute, attribute, behind_first, first_part, first_word, front,
-    held, last_word, up_to,
+    held, last_word, line_at, up_to,
 };
 use crate::declaration::{Body, Field, Layout};
 use crate::derives::is_derived;
@@ -48,22 +48,17 @@ fn is_harmless(words: &[Token], all: &[Token]) -> bool {
     is_listed(name, TOOLS) || (!is_path && (is_listed(name, OF_ITEMS) || is_derived(all, name)))
 }
 
-impl<'a> Parser<'a> {
+impl<'a> Parser<'a, '_> {
     /// Reads attributes, and gathers what they say of the bytes. What is wrong is reported by their lines.
     pub(super) fn said(&mut self, attributes: &'a [Token]) -> Said {
         let mut said = Said::default();
         let line = self.at.line;
         let is_item = self.at.variant.is_empty() && self.at.field.is_none();
-        let mut all = AttributeWalk::of(attributes);
-        for _ in 0..attributes.len() {
-            let Some(it) = all.next() else {
-                break;
-            };
+        for it in AttributeWalk::of(attributes) {
             let name = first_word(it.words);
-            if let [word, ..] = it.words {
-                self.at.line = word.line;
-            }
+            self.at.line = line_at(it.words);
             match name {
+                "" => {}
                 "serde" => self.read_serde(it, &mut said),
                 "serde_as" | "serde_with" if last_word(it.words) == "serde_as" => {}
                 // that of a derive has parentheses
@@ -132,24 +127,20 @@ impl<'a> Parser<'a> {
             ("skip_serializing", "") if is_field => said.not_written = true,
             ("skip_deserializing", "") if is_field => said.not_read = true,
             ("skip_serializing_if", _) if is_field && !self.marking.marks.written => {}
-            _ => self
-                .at
-                .refuse(name, row_of(OF_SERDE, name).unwrap_or(UNKNOWN)),
+            _ => {
+                let why = row_of(OF_SERDE, name).unwrap_or(UNKNOWN);
+                self.at.refuse(name, why);
+            }
         }
     }
 
     /// Refuses a transparent type that has more fields than the one that serde sends.
     pub(super) fn check_transparent(&mut self, said: Said, body: &Body<'_>) {
-        if let Body::Struct(fields) = body
-            && said.is_transparent
-            && fields
-                .items
-                .iter()
-                .filter(|field| !is_phantom(field))
-                .count()
-                > 1
-        {
-            self.at.refuse("transparent", TRANSPARENT);
+        if let Body::Struct(fields) = body {
+            let sent = fields.items.iter().filter(|field| !is_phantom(field));
+            if said.is_transparent && sent.count() > 1 {
+                self.at.refuse("transparent", TRANSPARENT);
+            }
         }
     }
 
