@@ -18,14 +18,17 @@ use declaration_parser::derives::OF_OTHER_CRATE;
 use declaration_parser::tokens::{Token, is_lifetime};
 use schema_table::Node;
 use std::alloc::Global;
-use std::collections::BTreeMap;
 use std::slice;
 
 /// How deep the words of one type may nest, as `Vec<Option<u8>>` nests three deep.
 const DEEPEST: u32 = 64;
 
-/// What is said of a name that is marked twice in one module.
-const TWICE: &str = "the file declares this name twice: leave out what isn't on the wire";
+/// Where words are: their scope, and the type whose parameters they may name; nowhere if they name none.
+#[derive(Clone, Copy, PartialEq, Eq, Drop)]
+struct Context {
+    scope: usize,
+    own: usize,
+}
 
 /// What stands for a parameter: words, and where they are.
 #[derive(Clone, Copy, Drop)]
@@ -33,9 +36,7 @@ struct Given<'a> {
     name: &'a str,
     is_length: bool,
     words: &'a [Token],
-    /// The scope that they are in, and the type whose parameters they name; nowhere if they name none.
-    here: usize,
-    own: usize,
+    at: Context,
 }
 
 /// A declared type that the table has: which, what stands for its parameters, its place, and how deep its words may nest.
@@ -56,11 +57,9 @@ pub struct Builder<'a, 'b> {
     /// The declared types that the table has, in the order in which they were met; each is made in its turn.
     made: Vec<Made<'a>>,
     /// Those that are refused by their own words, which is said once.
-    refused: BTreeMap<usize, ()>,
-    /// The type by whose parameters words are read, and the scope that these are in.
-    own: usize,
-    here: usize,
-    /// The words of a type that aren't read yet, and what is wrong in those that are.
+    refused: Vec<usize>,
+    /// The words of a type that aren't read yet, where they are, and what is wrong in those that are read.
+    at: Context,
     words: Cursor<'a>,
     /// How many numbers more the length that is read may be computed of.
     left: u32,
@@ -68,26 +67,15 @@ pub struct Builder<'a, 'b> {
     doubt: (&'a str, &'a str),
     /// Whether types were said to nest too deep.
     is_too_deep: bool,
-    /// The table: the types that it is to begin with, the nodes, and what their values are called by.
-    types: Vec<Named>,
-    nodes: Vec<Node>,
-    called: Vec<Names>,
+    schema: Schema,
     /// Of each node whether it can be read: whether the table has the places of all types in it.
     readable: Vec<bool>,
 }
 
-/// Whether a declaration has other parameters than lifetimes.
-fn has_type_parameters(it: &Declaration<'_>) -> bool {
-    it.parameters
-        .iter()
-        .any(|parameter| !is_lifetime(parameter))
-}
-
 /// Whether the same words stand for parameters.
 fn are_same(first: &[Given<'_>], second: &[Given<'_>]) -> bool {
-    first.iter().zip(second).all(|(one, other)| {
-        one.here == other.here && one.own == other.own && same_words(one.words, other.words)
-    })
+    let mut pairs = first.iter().zip(second);
+    pairs.all(|(one, other)| one.at == other.at && same_words(one.words, other.words))
 }
 
 /// The places of the types in a node.
@@ -106,14 +94,12 @@ fn parts_of(node: &Node) -> &[usize] {
 fn find_unreadable(nodes: &[Node], readable: &mut [bool]) -> bool {
     let mut found = false;
     for (place, node) in nodes.iter().enumerate().rev() {
-        let is_right = parts_of(node)
-            .iter()
-            .all(|part| readable.get(*part).copied().unwrap_or(false));
+        let mut parts = parts_of(node).iter();
+        let is_right = parts.all(|part| readable.get(*part).copied().unwrap_or(false));
         if let Some(it) = readable.get_mut(place)
-            && *it
-            && !is_right
+            && *it != is_right
         {
-            *it = false;
+            *it = is_right;
             found = true;
         }
     }
@@ -128,23 +114,27 @@ impl<'a, 'b> Builder<'a, 'b> {
             declared,
             names: &declared.names,
             made: Vec::new(alloc),
-            refused: BTreeMap::new(alloc),
-            own: NOWHERE,
-            here: declared.asked,
+            refused: Vec::new(alloc),
+            at: Context {
+                scope: declared.asked,
+                own: NOWHERE,
+            },
             words: Cursor::new(alloc, &[]),
             left: 0,
             doubt: ("", ""),
             is_too_deep: false,
-            types: Vec::new(alloc),
-            nodes: Vec::new(alloc),
-            called: Vec::new(alloc),
+            schema: Schema {
+                types: Vec::new(alloc),
+                nodes: Vec::new(alloc),
+                names: Vec::new(alloc),
+            },
             readable: Vec::new(alloc),
         }
     }
 
     /// Whether words are read that are in no file, but asked for.
     fn is_asked(&self) -> bool {
-        self.here == self.declared.asked
+        self.at.scope == self.declared.asked
     }
 
     /// Notes what is wrong at the last word, unless something is already. The place is none of the table's.
@@ -158,30 +148,36 @@ impl<'a, 'b> Builder<'a, 'b> {
         self.wrong(&["`", word, why])
     }
 
-    /// Turns to the words of a scope.
-    fn turn_to(&mut self, scope: usize) {
-        self.here = scope;
+    /// Turns to words that are there.
+    fn turn_to(&mut self, at: Context) {
+        self.at = at;
         self.words.is_without_line = self.is_asked();
-        self.words.faults.turn_to(self.names.file_of(scope));
+        self.words.faults.turn_to(self.names.file_of(at.scope));
+    }
+
+    /// The node at a place.
+    fn node(&self, place: usize) -> Option<&Node> {
+        self.schema.nodes.get(place)
     }
 
     /// Appends a node, and gives its place.
     fn add(&mut self, node: Node, names: Names) -> usize {
-        let place = self.nodes.len();
-        self.words.push(&mut self.nodes, node);
-        self.words.push(&mut self.called, names);
+        let place = self.schema.nodes.len();
+        self.words.push(&mut self.schema.nodes, node);
+        self.words.push(&mut self.schema.names, names);
         self.words.push(&mut self.readable, true);
         place
     }
 
-    /// Puts a node at a place that the table has.
-    fn put(&mut self, place: usize, node: Node, names: Names) {
-        if let Some(old) = self.nodes.get_mut(place) {
+    /// Puts a node at a place that the table has, and gives that.
+    fn put(&mut self, place: usize, node: Node, names: Names) -> usize {
+        if let Some(old) = self.schema.nodes.get_mut(place) {
             *old = node;
         }
-        if let Some(old) = self.called.get_mut(place) {
+        if let Some(old) = self.schema.names.get_mut(place) {
             *old = names;
         }
+        place
     }
 
     /// Appends a name to a list.
@@ -203,29 +199,26 @@ impl<'a, 'b> Builder<'a, 'b> {
         let declared = self.declared;
         self.words.faults.put(declared.faults.as_str());
         for (index, it) in declared.all.iter().enumerate() {
-            if has_type_parameters(it) {
+            if !it.parameters.iter().all(|name| is_lifetime(name)) {
                 self.is_refused(index, it);
                 continue;
             }
             let of = Vec::new(self.alloc);
             self.owe_type(index, of, DEEPEST);
-            let name = self.text_of(it.name);
-            let line = it.line;
-            self.words.push(&mut self.types, Named { name, line });
+            let (name, line) = (self.text_of(it.name), it.line);
+            let named = Named { name, line };
+            self.words.push(&mut self.schema.types, named);
         }
     }
 
     /// Whether a declaration is refused by its own words, of which it says once what is wrong.
     fn is_refused(&mut self, index: usize, it: &Declaration<'a>) -> bool {
-        if it.wrong.is_empty() {
-            return false;
+        let is_refused = !it.wrong.is_empty();
+        if is_refused && !self.refused.contains(&index) {
+            self.words.push(&mut self.refused, index);
+            self.words.faults.put(it.wrong.as_str());
         }
-        match self.refused.insert(index, ()) {
-            Ok(None) => self.words.faults.put(it.wrong.as_str()),
-            Ok(Some(())) => {}
-            Err(_) => self.words.faults.note(true),
-        }
-        true
+        is_refused
     }
 
     /// The place of a declared type, of what stands for its parameters. It is made later, and until then one that can't be read.
@@ -236,15 +229,13 @@ impl<'a, 'b> Builder<'a, 'b> {
             }
         }
         let place = self.add(Node::Option(NOWHERE), Names::Nothing);
-        self.words.push(
-            &mut self.made,
-            Made {
-                index,
-                of,
-                place,
-                depth,
-            },
-        );
+        let made = Made {
+            index,
+            of,
+            place,
+            depth,
+        };
+        self.words.push(&mut self.made, made);
         place
     }
 
@@ -257,23 +248,24 @@ impl<'a, 'b> Builder<'a, 'b> {
         if self.is_refused(index, it) {
             return;
         }
-        self.own = own;
         let stand = self.names.stand(index);
-        self.turn_to(stand.scope);
+        let scope = stand.scope;
+        self.turn_to(Context { scope, own });
         self.words.is_wrong = false;
         self.words.name = it.name;
         self.words.variant = "";
         self.words.field = None;
         self.words.line = it.line;
         if stand.is_second {
-            self.wrong(&[TWICE]);
-            return;
+            self.wrong(&["the file declares this name twice: leave out what isn't on the wire"]);
         }
         for derive in ["Serialize", "Deserialize"] {
-            if it.is_by_use(derive) && self.names.has_other_derive(stand.scope, derive) {
+            if it.is_by_use(derive) && self.names.has_other_derive(scope, derive) {
                 self.refuse(derive, OF_OTHER_CRATE);
-                return;
             }
+        }
+        if self.words.is_wrong {
+            return;
         }
         let (node, names) = match &it.body {
             Body::Struct(fields) => self.group(fields, depth),
@@ -284,8 +276,7 @@ impl<'a, 'b> Builder<'a, 'b> {
 
     /// The place of the type that words say which are asked for.
     pub fn make_asked(&mut self, words: &'a [Token]) -> usize {
-        self.turn_to(self.declared.asked);
-        self.whole(words, DEEPEST)
+        self.whole(words, self.at, DEEPEST)
     }
 
     /// Makes the types that are still to be made, and those that these need; then it is known what can be read.
@@ -297,8 +288,8 @@ impl<'a, 'b> Builder<'a, 'b> {
             let (index, place, depth) = (it.index, it.place, it.depth);
             self.make(own, index, place, depth);
         }
-        for _ in 0..self.nodes.len() {
-            if !find_unreadable(&self.nodes, &mut self.readable) {
+        for _ in 0..self.schema.nodes.len() {
+            if !find_unreadable(&self.schema.nodes, &mut self.readable) {
                 break;
             }
         }
@@ -312,21 +303,16 @@ impl<'a, 'b> Builder<'a, 'b> {
         let mut builder = self;
         builder.make_owed();
         let wrong = builder.words.faults.finished()?;
+        let schema = builder.schema;
+        let count = schema.nodes.len();
         // Each has a node and names, unless memory ran out.
-        if builder.called.len() != builder.nodes.len() {
+        if schema.names.len() != count || schema.types.len() > count {
             return Err(Error::OutOfMemory);
         }
-        if builder.types.len() > builder.nodes.len() {
-            return Err(Error::OutOfMemory);
-        }
-        let schema = Schema {
-            types: builder.types,
-            nodes: builder.nodes,
-            names: builder.called,
-        };
+        let readable = builder.readable;
         Ok(CheckedSources {
             schema,
-            readable: builder.readable,
+            readable,
             wrong,
         })
     }

@@ -3,16 +3,13 @@ ghost use Rattle.std.specs.Prelude.{IfSome};
 ghost use Rattle.declarations.specs.TypeWords.{IsWordOf};
 
 pub use declaration_parser::sent::{is_primitive, sent_as};
-use declaration_parser::tokens::{is_among, is_listed};
+use declaration_parser::tokens::is_listed;
 use schema_table::{IntegerType, Node};
 
 /// Crates whose types are known here by their names.
 pub const KNOWN_CRATES: &str = "alloc arrayvec core hashbrown heapless postcard serde_bytes std";
 
-/// Names that every file has, unless it declares them or a `use` brings others in.
-const EVERYWHERE: &[&str] = &["Box", "Option", "Result", "String", "Vec"];
-
-/// What a known type makes of what is in `<` and `>` after its name: `K` and `V`, `T` or nothing, and a length.
+/// What a known type makes of what is in `<` and `>` after its name.
 #[derive(Clone, Copy, PartialEq, Eq, Drop)]
 pub enum KnownForm {
     /// What is in it is sent as it is.
@@ -20,53 +17,49 @@ pub enum KnownForm {
     Option,
     /// A list, of `u8` a buffer; one of at most so many, if a length follows.
     List,
-    /// The same, if a kind and a length follow.
-    Heap,
     /// A list of at most so many.
     ListUpTo,
     /// A list, also of `u8`.
     Set,
     Outcome,
+    /// A list of pairs.
     Map,
     MapUpTo,
+    Array,
+    /// What holds any types, or none.
+    Tuple,
     TextUpTo,
     /// Bytes of a length that is sent.
     Bytes,
     /// An integer's bytes in this order.
     Little,
     Big,
-    Phantom,
 }
 
-/// A known type that holds others, or a length: its form, how many types it holds, and at which place a length is among what is
-/// in its brackets; at [`NOWHERE`] if there is none.
+/// A form, how many types it holds, and at which place a length is among what is in its brackets; at [`NOWHERE`] if there is none.
 pub type FormRow = (KnownForm, usize, usize);
 
 pub const NOWHERE: usize = usize::MAX;
 
-/// These, by their names. In a heap what precedes the length says which element is first.
-const ROWS: &[(&str, FormRow)] = &[
-    (
-        "Arc Box Cell Cow Mutex Rc RefCell",
-        (KnownForm::Inner, 1, NOWHERE),
-    ),
-    (
-        "Reverse RwLock Saturating Wrapping",
-        (KnownForm::Inner, 1, NOWHERE),
-    ),
-    ("Option", (KnownForm::Option, 1, NOWHERE)),
-    ("BTreeSet LinkedList Vec VecDeque", (KnownForm::List, 1, 1)),
-    ("BinaryHeap", (KnownForm::Heap, 1, 2)),
-    ("ArrayVec Deque FnvIndexSet", (KnownForm::ListUpTo, 1, 1)),
-    ("HashSet", (KnownForm::Set, 1, NOWHERE)),
-    ("Result", (KnownForm::Outcome, 2, NOWHERE)),
-    ("BTreeMap HashMap", (KnownForm::Map, 2, NOWHERE)),
-    ("FnvIndexMap LinearMap", (KnownForm::MapUpTo, 2, 2)),
-    ("ArrayString String", (KnownForm::TextUpTo, 0, 0)),
-    ("ByteArray", (KnownForm::Bytes, 0, 0)),
-    ("LE", (KnownForm::Little, 1, NOWHERE)),
-    ("BE", (KnownForm::Big, 1, NOWHERE)),
-    ("PhantomData", (KnownForm::Phantom, 0, NOWHERE)),
+/// The known types that hold others, or a length, by their names. In a heap what precedes the length says which element is
+/// first.
+const ROWS: &[(&str, KnownForm, usize, usize)] = &[
+    ("Arc Box Cell Cow Mutex Rc", KnownForm::Inner, 1, NOWHERE),
+    ("RefCell Reverse RwLock", KnownForm::Inner, 1, NOWHERE),
+    ("Saturating Wrapping", KnownForm::Inner, 1, NOWHERE),
+    ("Option", KnownForm::Option, 1, NOWHERE),
+    ("BTreeSet LinkedList Vec VecDeque", KnownForm::List, 1, 1),
+    ("BinaryHeap", KnownForm::List, 1, 2),
+    ("ArrayVec Deque FnvIndexSet", KnownForm::ListUpTo, 1, 1),
+    ("HashSet", KnownForm::Set, 1, NOWHERE),
+    ("Result", KnownForm::Outcome, 2, NOWHERE),
+    ("BTreeMap HashMap", KnownForm::Map, 2, NOWHERE),
+    ("FnvIndexMap LinearMap", KnownForm::MapUpTo, 2, 2),
+    ("ArrayString String", KnownForm::TextUpTo, 0, 0),
+    ("ByteArray", KnownForm::Bytes, 0, 0),
+    ("LE", KnownForm::Little, 1, NOWHERE),
+    ("BE", KnownForm::Big, 1, NOWHERE),
+    ("PhantomData", KnownForm::Tuple, 0, NOWHERE),
 ];
 
 /// The node of a type that holds no other, by its word.
@@ -79,37 +72,35 @@ pub fn plain_node(word: &str) -> Option<Node>
         "i8" => Node::I8,
         "u16" => Node::U16,
         "u32" => Node::U32,
-        "u64" => Node::U64,
+        "u64" | "usize" => Node::U64,
         "u128" => Node::U128,
         "i16" => Node::I16,
         "i32" => Node::I32,
-        "i64" => Node::I64,
+        "i64" | "isize" => Node::I64,
         "i128" => Node::I128,
-        "usize" => Node::U64,
-        "isize" => Node::I64,
+        "f32" => Node::LE(IntegerType::U32),
+        "f64" => Node::LE(IntegerType::U64),
         "char" => Node::Char,
-        "str" => Node::Text,
-        "String" => Node::Text,
-        "ByteBuf" => Node::Bytes,
-        "Bytes" => Node::Bytes,
+        "str" | "String" => Node::Text,
+        "ByteBuf" | "Bytes" => Node::Bytes,
         _ => return None,
     })
 }
 
 /// The form of the known type of this name, if it holds others or a length.
 pub fn form_of(word: &str) -> Option<FormRow> {
-    let row = ROWS.iter().find(|row| is_listed(word, row.0))?;
-    Some(row.1)
+    let (_, form, types, length) = *ROWS.iter().find(|row| is_listed(word, row.0))?;
+    Some((form, types, length))
 }
 
-/// Whether every file has this name.
+/// Whether every file has this name, unless it declares it or a `use` brings another in.
 pub fn is_everywhere(word: &str) -> bool {
-    is_primitive(word) || is_among(word, EVERYWHERE)
+    is_primitive(word) || is_listed(word, "Box Option Result String Vec")
 }
 
 /// Whether a type of this name is known.
 pub fn is_known(word: &str) -> bool {
-    form_of(word).is_some() || is_everywhere(word) || matches!(word, "ByteBuf" | "Bytes")
+    form_of(word).is_some() || plain_node(word).is_some()
 }
 
 /// The integer type of a node that writes one as a varint.

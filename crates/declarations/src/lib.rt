@@ -8,9 +8,7 @@
 mod builder;
 mod known;
 mod names;
-mod near;
 mod numbers;
-mod paths;
 mod read;
 
 pub use read::{

@@ -64,23 +64,16 @@ struct Import<'a> {
     is_public: bool,
     is_conditional: bool,
     /// Where it leads; one with `*` to what it brings in.
-    lead: Lead<'a>,
+    lead: Lead,
 }
 
 /// Where a declaration is, how many declarations are where it was found, and whether another of its name precedes it in its module.
-#[derive(Clone, Copy, Drop)]
+#[derive(Clone, Copy, Default, Drop)]
 pub struct Stand {
     pub scope: usize,
     pub count: usize,
     pub is_second: bool,
 }
-
-/// That of a declaration that isn't found.
-const NO_STAND: Stand = Stand {
-    scope: 0,
-    count: 0,
-    is_second: false,
-};
 
 /// The names of files. If memory runs out for one, [`failed`](Scopes::failed) says so.
 #[derive(Drop)]
@@ -145,11 +138,11 @@ impl<'a> Scopes<'a> {
             failed: walk.failed,
         };
         names.find_modules();
-        names.read_items(&walk.items);
-        // at first each seems to lead out of the files
+        names.read_items(&walk.items, false);
         names.find_leads();
+        // which may be of macros that a `use` brings in
+        names.read_items(&walk.items, true);
         names.find_leads();
-        names.find_ways();
         names.find_derives();
         let mut from = 0;
         for (index, it) in declared.iter().enumerate() {
@@ -198,7 +191,7 @@ impl<'a> Scopes<'a> {
     /// Notes which item a marked declaration is, and where it is. Types are items in the order in which they are declared, so those
     /// before the last one needn't be gone over again; gives the place of this one.
     fn mark(&mut self, index: usize, it: &Declaration<'a>, from: usize) -> usize {
-        let mut stand = NO_STAND;
+        let mut stand = Stand::default();
         let mut first = from;
         for place in from..self.items.len() {
             let Some(item) = self.items.get(place).copied() else {
@@ -228,7 +221,7 @@ impl<'a> Scopes<'a> {
 
     /// Where a marked declaration is.
     pub fn stand(&self, index: usize) -> Stand {
-        self.stands.get(index).copied().unwrap_or(NO_STAND)
+        self.stands.get(index).copied().unwrap_or_default()
     }
 
     /// Adds a scope for words that are in no file, which sees what the files declare.

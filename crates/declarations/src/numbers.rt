@@ -1,5 +1,5 @@
 //! Numbers as Rust writes them, their types, and what is computed of them.
-use declaration_parser::attributes::first_word;
+use declaration_parser::attributes::{behind_first, first_word};
 use declaration_parser::tokens::{Token, first_letter};
 
 /// What the types of numbers have at most, and how many bits they have. A `usize` has 32 bits on most devices.
@@ -30,26 +30,23 @@ pub fn width_of(word: &str) -> Option<(u64, u64)> {
 impl Number {
     /// The same of a type that has at most so much, if it has this number.
     pub fn within(self, most: u64) -> Option<Number> {
-        if self.value > most {
-            return None;
-        }
-        Some(Number {
-            value: self.value,
-            most,
-        })
+        let value = self.value;
+        (value <= most).then_some(Number { value, most })
     }
 }
 
-/// The operator of a level at the start of words, and the words after it: shifts have 3, sums 2, products 1.
-pub fn operator_at(words: &[Token], level: u32) -> Option<(char, &[Token])> {
+/// The operator at the start of words, how weakly it binds, and the words after it: products 1, sums 2, shifts 3.
+pub fn operator_at(words: &[Token]) -> Option<(char, u32, &[Token])> {
     let (first, rest) = words.split_first()?;
-    let operator = first_letter(first.text.as_str())?;
-    match (level, operator) {
-        (2, '+' | '-') | (1, '*' | '/' | '%') => Some((operator, rest)),
-        (3, '<' | '>') if first_word(rest) == first.text.as_str() => {
-            let (_, rest) = rest.split_first()?;
-            Some((operator, rest))
-        }
+    let word = first.text.as_str();
+    match first_letter(word)? {
+        operator @ ('*' | '/' | '%') => Some((operator, 1, rest)),
+        operator @ ('+' | '-') => Some((operator, 2, rest)),
+        operator @ ('<' | '>') if first_word(rest) == word => Some((
+            operator,
+            3,
+            behind_first(rest),
+        )),
         _ => None,
     }
 }
@@ -78,28 +75,22 @@ pub fn computed_of(operator: char, first: Number, second: Number) -> Option<Numb
     Number { value, most }.within(most)
 }
 
-/// What the word before the digits of a number says: their radix, and how many letters it has.
-fn radix_of(word: &str) -> (u64, usize) {
-    match word.get(..2) {
+/// A number by its digits, as Rust writes it, and the type that follows them, which may be left out.
+pub fn literal(word: &str) -> Option<(u64, &str)> {
+    let (radix, front) = match word.get(..2) {
         Some("0x") => (16, 2),
         Some("0b") => (2, 2),
         Some("0o") => (8, 2),
         _ => (10, 0),
-    }
-}
-
-/// A number by its digits, as Rust writes it, and the type that follows them, which may be left out.
-pub fn literal(word: &str) -> Option<(u64, &str)> {
-    let (radix, front) = radix_of(word);
+    };
     let mut length = front;
     let mut number: Option<u64> = None;
     for character in word.get(front..)?.chars() {
-        if character != '_' {
-            let digit = u64::from(character.to_digit(16).unwrap_or(16));
-            if digit >= radix {
-                break;
-            }
-            number = Some(number.unwrap_or(0).checked_mul(radix)?.checked_add(digit)?);
+        if let Some(digit) = character.to_digit(radix) {
+            let before = number.unwrap_or(0).checked_mul(u64::from(radix))?;
+            number = Some(before.checked_add(u64::from(digit))?);
+        } else if character != '_' {
+            break;
         }
         length = length.saturating_add(1);
     }

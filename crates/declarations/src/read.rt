@@ -12,9 +12,6 @@ use declaration_parser::tokens::{Read, tokens_of};
 use std::alloc::{AllocError, Global};
 use std::slice;
 
-/// What is said if no file is named.
-const NO_FILE: &str = "no file of declarations is named\n";
-
 /// A file of declarations.
 #[derive(Drop)]
 pub struct Source {
@@ -98,9 +95,9 @@ pub fn read_schema(alloc: Global, text: &str) -> Result<Schema, Error>
     ensures named { IfOk result (λ table. NamesItsNodes table) }
     ensures declared { IfOk result (λ table. HasItsTypes table) }
 {
-    let read = tokens_of(alloc, "", text)?;
-    let made = table_of(alloc, slice::from_ref(&read))?;
-    unless_wrong(made)
+    let file = String::new(alloc);
+    let text = String::from_str(alloc, text)?;
+    read_sources(alloc, slice::from_ref(&Source { file, text }))
 }
 
 /// Returns what [`read_schema`] does, of the declarations of all these files.
@@ -111,8 +108,7 @@ pub fn read_sources(alloc: Global, sources: &[Source]) -> Result<Schema, Error>
     ensures named { IfOk result (λ table. NamesItsNodes table) }
     ensures declared { IfOk result (λ table. HasItsTypes table) }
 {
-    let made = check_sources(alloc, sources)?;
-    unless_wrong(made)
+    unless_wrong(check_sources(alloc, sources)?)
 }
 
 /// The table, if nothing is wrong.
@@ -123,20 +119,6 @@ fn unless_wrong(made: CheckedSources) -> Result<Schema, Error>
         return Err(Error::Wrong(made.wrong));
     }
     Ok(made.schema)
-}
-
-/// The table of all declared types without parameters, in their order, and what is wrong.
-fn table_of(alloc: Global, files: &[Read]) -> Result<CheckedSources, Error>
-    ensures named { IfOk result (λ made. NamesItsNodes made.schema) }
-    ensures declared { IfOk result (λ made. HasItsTypes made.schema) }
-{
-    if files.is_empty() {
-        return Err(Error::Wrong(String::from_str(alloc, NO_FILE)?));
-    }
-    let declared = Declared::new(alloc, files)?;
-    let mut builder = Builder::new(alloc, &declared);
-    builder.owe_all();
-    builder.finished()
 }
 
 /// Returns the table of a type, given by its words, and its place there.
@@ -157,14 +139,11 @@ pub fn read_type(alloc: Global, sources: &[Source], words: &str) -> Result<(Sche
     let declared = Declared::new(alloc, &files)?;
     let mut builder = Builder::new(alloc, &declared);
     let place = builder.make_asked(&read.tokens);
-    let made = builder.finished()?;
-    if !made.wrong.is_empty() {
-        return Err(Error::Wrong(made.wrong));
-    }
-    if place >= made.schema.nodes.len() {
+    let schema = unless_wrong(builder.finished()?)?;
+    if place >= schema.nodes.len() {
         return Err(Error::OutOfMemory);
     }
-    Ok((made.schema, place))
+    Ok((schema, place))
 }
 
 /// Returns the table of all declared types without parameters, which of them can be read, and what is wrong with the others and
@@ -177,6 +156,12 @@ pub fn check_sources(alloc: Global, sources: &[Source]) -> Result<CheckedSources
     ensures named { IfOk result (λ made. NamesItsNodes made.schema) }
     ensures declared { IfOk result (λ made. HasItsTypes made.schema) }
 {
+    if sources.is_empty() {
+        return Err(Error::Wrong(String::from_str(alloc, "no file of declarations is named\n")?));
+    }
     let files = tokens_in(alloc, sources)?;
-    table_of(alloc, &files)
+    let declared = Declared::new(alloc, &files)?;
+    let mut builder = Builder::new(alloc, &declared);
+    builder.owe_all();
+    builder.finished()
 }

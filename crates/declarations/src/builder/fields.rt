@@ -3,14 +3,11 @@ use super::{Builder, NOWHERE};
 use crate::Names;
 use crate::known::KnownForm;
 use declaration_parser::declaration::{Field, Fields, Form, Layout, VariantOf};
-use declaration_parser::tokens::Token;
 use schema_table::Node;
 
-/// What is said of a field that `with` lays out, and whose type it isn't for.
+// What is said of a field that `with` lays out, and whose type it isn't for.
 const NO_BUFFER: &str =
     "`serde_bytes` sends how many bytes there are before them: write `ByteBuf` in its place";
-
-const NO_ARRAY: &str = "`with` is of an array here: write the type that is on the wire";
 
 const OTHER_CRATE: &str =
     "`with` names something of these files or of another crate here: write the type that is on the wire";
@@ -59,47 +56,45 @@ impl<'a> Builder<'a, '_> {
 
     /// The place of what a variant holds: of one field without a name its type, else a struct.
     fn payload(&mut self, fields: &Fields<'a>, depth: u32) -> usize {
-        match (fields.form, fields.items.as_slice()) {
-            (Form::Unit, _) => self.add(Node::Struct(Vec::new(self.alloc)), Names::Empty),
-            (Form::Tuple, [only]) if fields.count == 1 => self.field(only, depth),
-            _ => {
-                let (node, names) = self.group(fields, depth);
-                self.add(node, names)
-            }
+        if let (Form::Tuple, [only], 1) = (fields.form, fields.items.as_slice(), fields.count) {
+            return self.field(only, depth);
         }
+        let (node, names) = self.group(fields, depth);
+        let is_empty = matches!(names, Names::Unit);
+        self.add(node, if is_empty { Names::Empty } else { names })
     }
 
-    /// The place of the type of a field.
+    /// The place of the type of a field, whose bytes an attribute may lay out.
     fn field(&mut self, field: &Field<'a>, depth: u32) -> usize {
         self.words.is_wrong = false;
         self.words.field = Some((field.place, field.name));
-        let place = self.whole(field.of, depth);
+        let place = self.whole(field.of, self.at, depth);
         if self.words.is_wrong {
             return NOWHERE;
         }
-        let roots = roots_of(field.layout);
         if let [token, ..] = field.of {
             self.words.line = token.line;
         }
+        let roots = roots_of(field.layout);
         for root in roots {
-            if !self.names.is_foreign(self.here, root, roots) {
+            if !self.names.is_foreign(self.at.scope, root, roots) {
                 return self.wrong(&[OTHER_CRATE]);
             }
         }
-        self.laid_out(place, field.layout, field.of)
-    }
-
-    /// The place of a type, which has these words, and whose bytes an attribute lays out.
-    fn laid_out(&mut self, place: usize, layout: Layout, words: &[Token]) -> usize {
-        match (layout, self.nodes.get(place)) {
-            (Layout::Own, _) => place,
-            (Layout::Little, _) => self.ordered(KnownForm::Little, place, words),
-            (Layout::Big, _) => self.ordered(KnownForm::Big, place, words),
-            (Layout::Buffer, Some(Node::Bytes)) | (Layout::Array, Some(Node::Array(..))) => place,
+        let form = match (field.layout, self.node(place)) {
+            (Layout::Little, _) => KnownForm::Little,
+            (Layout::Big, _) => KnownForm::Big,
+            (Layout::Own, _)
+            | (Layout::Buffer, Some(Node::Bytes))
+            | (Layout::Array, Some(Node::Array(..))) => return place,
             (Layout::Buffer, Some(Node::Option(inner)))
-                if matches!(self.nodes.get(*inner), Some(Node::Bytes)) => place,
-            (Layout::Buffer, _) => self.wrong(&[NO_BUFFER]),
-            _ => self.wrong(&[NO_ARRAY]),
-        }
+                if matches!(self.node(*inner), Some(Node::Bytes)) => return place,
+            (Layout::Buffer, _) => return self.wrong(&[NO_BUFFER]),
+            _ => return self.wrong(&[
+                "`with` is of an array here: write the type that is on the wire",
+            ]),
+        };
+        let places = self.only(place);
+        self.holding(form, field.of, places, None)
     }
 }

@@ -1,93 +1,79 @@
-//! Lengths: numbers, parameters, constants, and what is computed of these, in three levels of what binds how strongly.
-use super::{Builder, DEEPEST, NOWHERE};
+//! Lengths: numbers, parameters, constants, and what is computed of these.
+use super::types::path_at;
+use super::{Builder, Context, DEEPEST, NOWHERE};
 use crate::known::is_primitive;
-use crate::names::{Found, Space, What};
+use crate::names::{Found, Path, Space, What};
 use crate::numbers::{Number, computed_of, literal, operator_at, width_of};
-use crate::paths::{PathAt, path_at};
-use declaration_parser::attributes::{first_word, group};
+use declaration_parser::attributes::group;
 use declaration_parser::tokens::Token;
 
-/// How many numbers one length may be computed of.
-const MOST_NUMBERS: u32 = 10_000;
-
-/// What is said of a constant that may be one of two.
+// What is said of words that are no length.
 const TWO: &str =
     "` is more than one constant: leave out what isn't meant, or write its module before it";
 
-/// What is said of words that are no length.
 const NO_NUMBER: &str = "` isn't a length in plain digits: write them";
 
 const NO_LENGTH: &str =
     "a length is a number, the name of one, or computed of those: write the number";
 
-/// The levels of operators: shifts, sums, products.
-const LEVELS: u32 = 3;
+/// How many numbers one length may be computed of.
+const MOST_NUMBERS: u32 = 10_000;
+
+/// How weakly an operator binds at most.
+const WEAKEST: u32 = 3;
 
 /// The greatest value of a length.
 const GREATEST: u64 = 0xFFFF_FFFF;
 
 impl<'a> Builder<'a, '_> {
-    /// The length that these words are.
+    /// The length that these words are; if they are none, why the constant in them that was looked for last is none, or what a
+    /// length is.
     pub(super) fn length(&mut self, words: &'a [Token]) -> u64 {
+        self.left = MOST_NUMBERS;
+        self.doubt = ("", "");
+        let number = self.value_of(words, self.at, GREATEST, DEEPEST);
         if let [first, ..] = words {
             self.words.line = first.line;
         }
-        let line = self.words.line;
-        self.left = MOST_NUMBERS;
-        self.doubt = ("", "");
-        let number = self.value_of(words, (self.here, self.own), GREATEST, DEEPEST);
-        self.words.line = line;
-        match number {
-            Some(number) => number.value,
-            None => {
-                self.refuse_length(words);
-                0
-            }
-        }
-    }
-
-    /// Says of words that they are no length: why the constant in them that was looked for last is none, or what one is.
-    fn refuse_length(&mut self, words: &[Token]) {
-        match (self.doubt, words) {
-            (("", _), [only]) => self.refuse(only.text.as_str(), NO_NUMBER),
-            (("", _), _) => self.wrong(&[NO_LENGTH]),
-            ((name, why), _) => self.refuse(name, why),
+        match (number, self.doubt, words) {
+            (Some(number), _, _) => return number.value,
+            (None, ("", _), [only]) => self.refuse(only.text.as_str(), NO_NUMBER),
+            (None, ("", _), _) => self.wrong(&[NO_LENGTH]),
+            (None, (name, why), _) => self.refuse(name, why),
         };
+        0
     }
 
-    /// The number that all these words of a scope compute, which may name the parameters of a type, if numbers have at most so
-    /// much there which don't say their type.
+    /// The number that all these words compute, if numbers have at most so much there which don't say their type.
     #[cycle(lengths)]
     fn value_of(
         &mut self,
         words: &'a [Token],
-        place: (usize, usize),
+        at: Context,
         most: u64,
         depth: u32,
     ) -> Option<Number> {
-        let before = (self.here, self.own, self.words.rest);
-        (self.here, self.own) = place;
-        self.words.rest = words;
-        let number = self.computed(LEVELS, most, depth);
+        let before = (self.at, self.words.rest);
+        (self.at, self.words.rest) = (at, words);
+        let number = self.computed(WEAKEST, most, depth);
         let is_whole = self.words.rest.is_empty();
-        (self.here, self.own, self.words.rest) = before;
+        (self.at, self.words.rest) = before;
         if is_whole { number } else { None }
     }
 
-    /// The number that the words at the start compute by operators of so many levels.
+    /// The number that the words at the start compute by operators that bind at most so weakly.
     #[cycle(lengths)]
-    fn computed(&mut self, levels: u32, most: u64, depth: u32) -> Option<Number> {
-        if levels == 0 {
-            return self.number(most, depth);
-        }
-        let mut number = self.computed(levels - 1, most, depth)?;
+    fn computed(&mut self, weakest: u32, most: u64, depth: u32) -> Option<Number> {
+        let mut number = self.number(most, depth)?;
         for _ in 0..self.words.rest.len() {
-            let Some((operator, rest)) = operator_at(self.words.rest, levels) else {
-                break;
-            };
-            self.words.rest = rest;
-            let other = self.computed(levels - 1, most, depth)?;
-            number = computed_of(operator, number, other)?;
+            match operator_at(self.words.rest) {
+                Some((operator, weakness, rest)) if weakness > 0 && weakness <= weakest => {
+                    self.words.rest = rest;
+                    let other = self.computed(weakness - 1, most, depth)?;
+                    number = computed_of(operator, number, other)?;
+                }
+                _ => break,
+            }
         }
         Some(number)
     }
@@ -102,7 +88,7 @@ impl<'a> Builder<'a, '_> {
         let mut number = match group(self.words.rest) {
             Some((inside, rest)) if self.words.peek() != "[" => {
                 self.words.rest = rest;
-                self.value_of(inside, (self.here, self.own), most, depth - 1)?
+                self.value_of(inside, self.at, most, depth - 1)?
             }
             _ => self.named_number(most, depth - 1)?,
         };
@@ -111,8 +97,7 @@ impl<'a> Builder<'a, '_> {
                 break;
             }
             let of = self.words.step();
-            let (most, _) = self.width(of)?;
-            number = number.within(most)?;
+            number = number.within(self.width(of)?.0)?;
         }
         Some(number)
     }
@@ -133,57 +118,51 @@ impl<'a> Builder<'a, '_> {
             let most = if suffix.is_empty() {
                 most
             } else {
-                let (most, _) = width_of(suffix)?;
-                most
+                width_of(suffix)?.0
             };
             return Number { value, most }.within(most);
         }
-        let at = path_at(self.words.rest);
-        self.words.rest = at.rest;
-        if at.path.is_empty() {
-            if let Some(it) = self.given(at.last, true) {
-                let number = self.value_of(it.words, (it.here, it.own), GREATEST, depth)?;
-                return Number { most, ..number }.within(most);
-            }
+        let (path, last, rest) = path_at(self.words.rest);
+        self.words.rest = rest;
+        if path.is_empty()
+            && let Some(it) = self.given(last, true)
+        {
+            return self
+                .value_of(it.words, it.at, GREATEST, depth)?
+                .within(most);
         }
-        let of = at.path.before;
-        if !at.path.is_empty() && is_primitive(of) && !self.names.has_module(of) {
-            return self.of_language(&at);
+        if is_primitive(path.before()) && !self.names.has_module(path.before()) {
+            return self.of_language(path, last);
         }
-        self.constant(&at, depth)
-    }
-
-    /// The number that a path names.
-    #[cycle(lengths)]
-    fn constant(&mut self, at: &PathAt<'a>, depth: u32) -> Option<Number> {
-        let (of, words, there) = match self.found_in(at, Space::Constants) {
-            Found::In(What::Constant(of, words), there) => (of, words, there),
-            Found::Wrong(why) => {
-                self.doubt = (at.last, why);
-                return None;
+        let why = match self.found(path, last, Space::Constants) {
+            Found::In(What::Constant(of, words), scope) => {
+                // one of a type that isn't known has at most what all types have
+                let width = match of {
+                    [of] => self.width(of.text.as_str()),
+                    _ => None,
+                };
+                let (most, _) = width.unwrap_or((0x7F, 0));
+                let own = NOWHERE;
+                return self
+                    .value_of(words, Context { scope, own }, most, depth)?
+                    .within(most);
             }
-            Found::Two => {
-                self.doubt = (at.last, TWO);
-                return None;
-            }
+            Found::Wrong(why) => why,
+            Found::Two => TWO,
             _ => return None,
         };
-        // of a type that isn't known what each has
-        let (most, _) = self.width(first_word(of)).unwrap_or((127, 0));
-        let most = if of.len() == 1 { most } else { 127 };
-        self.value_of(words, (there, NOWHERE), most, depth)?
-            .within(most)
+        self.doubt = (last, why);
+        None
     }
 
     /// What a type of the language has under a name, if that is the same on all devices.
-    fn of_language(&self, at: &PathAt<'a>) -> Option<Number> {
-        let of = at.path.before;
-        let is_plain = at.path.count == 1 || matches!(at.path.root, "core" | "std");
-        if !is_plain || self.given(of, false).is_some() {
+    fn of_language(&self, path: Path<'a>, last: &str) -> Option<Number> {
+        let is_plain = path.count == 1 || matches!(path.root(), "core" | "std");
+        if !is_plain || self.given(path.before(), false).is_some() {
             return None;
         }
-        let (greatest, bits) = self.width(of)?;
-        let (value, most) = match at.last {
+        let (greatest, bits) = self.width(path.before())?;
+        let (value, most) = match last {
             "MAX" if bits > 0 => (greatest, greatest),
             "BITS" if bits > 0 => (bits, GREATEST),
             _ => return None,

@@ -1,5 +1,4 @@
 //! Derives that a `use` brings in from other crates than serde by the names of serde's.
-use super::candidates::Step;
 use super::{Import, Scopes};
 use declaration_parser::derives::{has_own, has_serdes};
 use declaration_parser::tokens::is_among;
@@ -30,11 +29,11 @@ impl<'a> Scopes<'a> {
 
     /// Whether the path of a `use` begins with a crate that has serde's derives, also by another name, or ends with its name.
     fn is_of_serde(&self, it: &Import<'a>, root: &str) -> bool {
-        let krate = match self.import_of(self.module_of(it.scope), root) {
+        let krate = match self.import_of(self.module_of(it.scope), root, true) {
             Some(by) => by.last,
             None => root,
         };
-        has_serdes(krate) || (it.path.count > 1 && has_serdes(it.path.before))
+        has_serdes(krate) || (it.path.count > 1 && has_serdes(it.path.before()))
     }
 
     /// Whether the derive of this name that a scope uses may be another crate's. What the scope itself brings in by the name hides
@@ -49,7 +48,7 @@ impl<'a> Scopes<'a> {
             let is_sure = self.imports.iter().any(|it| is_own(it) && it.leads_out());
             for it in &self.derives {
                 let may_be = !is_sure && (it.is_glob || it.name == name);
-                if is_own(it) || (may_be && self.may_lead_to(Step::Scope(at), it.scope, name)) {
+                if is_own(it) || (may_be && self.may_lead_to(at, it.scope, name)) {
                     return true;
                 }
             }

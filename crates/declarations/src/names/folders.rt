@@ -120,27 +120,16 @@ impl<'a> Scopes<'a> {
         Some(self.module_of(it.outer))
     }
 
-    /// The module so many round another, if these files have it.
-    pub(super) fn above(&self, module: usize, ups: usize) -> Option<usize> {
-        let mut at = module;
-        for _ in 0..ups {
-            at = self.around_module(at)?;
-        }
-        Some(at)
-    }
-
-    /// Whether a file is the root of a crate by its name.
-    pub(super) fn is_root_file(&self, file: usize) -> bool {
+    /// Whether a file is the root of a library by its name.
+    pub(super) fn is_library(&self, file: usize) -> bool {
         let (_, stem) = parts_of(self.name_of_file(file));
-        is_root(stem)
+        stem == "lib"
     }
 
     /// Whether a file has no module round it: it is the root of a crate, or alone and not in its `src`.
     fn is_top_file(&self, file: usize) -> bool {
-        let (folder, _) = parts_of(self.name_of_file(file));
-        self.is_root_file(file)
-            || has_roots(folder)
-            || (self.files.len() == 1 && !is_in_src(folder))
+        let (folder, stem) = parts_of(self.name_of_file(file));
+        is_root(stem) || has_roots(folder) || (self.files.len() == 1 && !is_in_src(folder))
     }
 
     /// The root of the crate whose modules lead to a scope. Words in no file are taken as those of the only file.
@@ -156,10 +145,7 @@ impl<'a> Scopes<'a> {
             if self.is_top_file(own) {
                 return Some(own);
             }
-            match self.parent_of(own) {
-                Some(module) => own = self.scope(module).file,
-                None => return None,
-            }
+            own = self.scope(self.parent_of(own)?).file;
         }
         None
     }

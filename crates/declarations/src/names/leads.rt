@@ -4,34 +4,41 @@ ghost use Rattle.declarations.specs.NameRule.{candidates_in};
 
 use super::candidates::{Only, Space, Step, is_called, is_within, only_of};
 use super::path::Path;
-use super::rule::{BROUGHT_IN, BY_MODULE, RENAMED};
+use super::rule::{BROUGHT_IN, BY_MODULE};
 use super::{Import, Kind, Scopes, is_known_crate};
 use declaration_parser::tokens::is_among;
 
 /// Where a path leads.
 #[derive(Clone, Copy, Drop)]
-pub(super) enum Lead<'a> {
-    /// To modules of these files.
-    In(Step<'a>),
+pub(super) enum Lead {
+    /// To the module at this place.
+    In(usize),
     /// To what belongs to a type, as a variant does.
     Type,
     Known,
     Outside,
+    /// To what a `*` may bring in that leads out of the files.
+    Open,
+    /// To a module that these files don't have round the one that uses it.
+    Lost,
     Doubtful,
     /// Not to be followed, for this reason.
     Wrong(&'static str),
 }
 
-/// The modules of a name in a module.
-#[derive(Clone, Copy, Default, Drop)]
-pub(super) struct Children {
-    /// Whether there are some.
-    pub(super) are_some: bool,
-    /// How many are written there, and the last of these.
-    written: usize,
-    last: usize,
-    /// How many stand under a condition.
-    conditions: usize,
+/// Whether a name of a path stands for a module by where it is used.
+fn is_start(name: &str) -> bool {
+    matches!(name, "crate" | "self" | "super")
+}
+
+/// Where a name leads that may lead there and elsewhere.
+fn both(found: Option<Lead>, other: Lead) -> Lead {
+    match (found, other) {
+        (None, _) => other,
+        (Some(Lead::In(one)), Lead::In(two)) if one == two => other,
+        (Some(Lead::Open), Lead::Open) => other,
+        _ => Lead::Doubtful,
+    }
 }
 
 impl<'a> Scopes<'a> {
@@ -64,396 +71,258 @@ impl<'a> Scopes<'a> {
         at
     }
 
-    /// The modules of this name that a module has in it.
-    pub(super) fn children(&self, module: usize, name: &str) -> Children {
-        let mut found = Children::default();
-        if !self.is_used(name) {
-            return found;
-        }
-        for (place, it) in self.scopes.iter().enumerate() {
-            if it.outer != module || it.name != name {
-                continue;
-            }
-            match it.kind {
-                Kind::Module => {
-                    found.are_some = true;
-                    found.written = found.written.saturating_add(1);
-                    found.last = place;
-                }
-                Kind::Outline | Kind::Misnamed => found.are_some = true,
-                Kind::Conditional => found.conditions = found.conditions.saturating_add(1),
-                _ => {}
-            }
-        }
-        found
-    }
-
-    /// Whether a module of a step has one of this name in it, under each condition.
-    fn is_child_in(&self, step: Step<'a>, name: &str) -> bool {
-        for place in 0..self.scopes.len() {
-            if self.is_in(place, step) && self.child_lead(place, name).is_some() {
-                return true;
-            }
-        }
-        false
-    }
-
     /// Whether these files have a module of this name, or a crate by its folder.
     pub fn has_module(&self, name: &str) -> bool {
         (0..self.scopes.len()).any(|place| is_within(&self.scopes, Step::Module(name), place))
     }
 
-    /// Whether a path may lead through a module whose file hasn't its name, which an attribute says.
-    fn is_misnamed(&self, path: Path<'a>) -> bool {
-        self.scopes.iter().any(|it| {
-            it.kind == Kind::Misnamed
-                && (path.count > 3 || is_among(it.name, &[path.root, path.over, path.before]))
-        })
-    }
-
-    /// Whether a crate of these files has this name.
-    fn has_crate(&self, name: &str) -> bool {
-        // the scope of a file is at its place
-        (0..self.files.len()).any(|file| {
-            is_called(self.scope(file).name, name) && self.is_root_file(file)
-        })
-    }
-
-    /// The import of a module or a crate by this name, if a module has it.
-    pub(super) fn import_of(&self, module: usize, name: &str) -> Option<&Import<'a>> {
-        if !self.is_used(name) {
-            return None;
-        }
-        self.imports.iter().find(|it| it.name == name && (it.scope == module || it.is_crate))
-    }
-
     /// Whether a step has a type of this name.
-    pub(super) fn has_type(&self, step: Step<'a>, name: &str) -> bool {
+    fn has_type(&self, step: Step<'a>, name: &str) -> bool {
         self.has(name) && !matches!(self.only(step, name, Space::Types), Only::Nothing)
     }
 
-    /// Whether the first name of a path is that of a module, or of what the module declares.
-    fn is_rooted(&self, module: usize, root: &str) -> bool {
-        matches!(root, "crate" | "self" | "super")
-            || self.children(module, root).are_some
-            || self.has_type(Step::Scope(module), root)
-    }
-
-    /// Whether the first name of a `use` is a module's own, or a crate's of these files.
-    pub(super) fn begins_inside(&self, it: &Import<'a>) -> bool {
-        let root = it.path.first(it.last);
-        let is_own = !it.path.is_absolute && self.is_rooted(self.module_of(it.scope), root);
-        is_own || self.has_crate(root)
-    }
-
-    /// Whether a `use` may bring in a module of this name from outside.
-    fn is_brought(&self, name: &str) -> bool {
-        self.imports.iter().any(|it| it.passes_on(name)
-            && (it.leads_out() || (!it.is_glob && it.last != name)))
-    }
-
-    /// Whether a `*` of a module, or of one round it, may bring in what isn't in these files.
-    fn is_open(&self, module: usize) -> bool {
-        let mut at = module;
-        for _ in 0..self.scopes.len() {
-            let is_out = |it: &Import<'_>| it.is_glob && it.scope == at && it.leads_out();
-            if self.imports.iter().any(is_out) {
-                return true;
-            }
-            match self.around_module(at) {
-                Some(outer) => at = outer,
-                None => return false,
-            }
-        }
-        false
-    }
-
-    /// Notes where each `use` leads.
+    /// Notes where each `use` leads, until a `*` leads nowhere else. At first each seems to lead out of the files.
     pub(super) fn find_leads(&mut self) {
-        for place in 0..self.imports.len() {
-            if let Some(it) = self.imports.get(place).copied() {
-                let lead = self.lead(it.scope, it.path, it.last);
-                if let Some(it) = self.imports.get_mut(place) {
-                    it.lead = lead;
-                }
-            }
-        }
-    }
-
-    /// Notes where `*` lead, until there is nothing new.
-    pub(super) fn find_ways(&mut self) {
-        for _ in 0..self.scopes.len() {
+        for pass in 0..=self.scopes.len() {
             let before = self.ways.len();
-            for index in 0..self.imports.len() {
-                if let Some(it) = self.imports.get(index).copied()
-                    && it.is_glob
-                    && let Lead::In(step) = it.lead
-                {
-                    self.add_ways(it.scope, step);
-                }
+            for place in 0..self.imports.len() {
+                self.find_lead(place);
             }
-            if self.ways.len() == before {
+            if pass > 1 && self.ways.len() == before {
                 break;
             }
         }
     }
 
-    /// Notes that a scope has a way to those of a step, and to where these have one.
-    fn add_ways(&mut self, from: usize, step: Step<'a>) {
+    /// Notes where the `use` at a place leads.
+    fn find_lead(&mut self, place: usize) {
+        let Some(it) = self.imports.get(place).copied() else {
+            return;
+        };
+        let lead = self.lead(it.scope, &it.path, it.last);
+        if let Some(it) = self.imports.get_mut(place) {
+            it.lead = lead;
+        }
+        if let Lead::In(to) = lead
+            && it.is_glob
+        {
+            self.add_ways(it.scope, to);
+        }
+    }
+
+    /// Notes that a scope has a way to another, and to where that has one.
+    fn add_ways(&mut self, from: usize, to: usize) {
         for place in 0..self.scopes.len() {
-            if self.leads_to(step, place) {
+            if self.leads_to(to, place) {
                 let failed = self.ways.insert((from, place), ()).is_err();
                 self.failed = failed || self.failed;
             }
         }
     }
 
-    /// Whether a scope is one of a step's, or a `*` of one of those leads to it, also by those of others.
-    pub(super) fn leads_to(&self, step: Step<'a>, place: usize) -> bool {
-        if self.is_in(place, step) {
-            return true;
-        }
-        if let Step::Scope(own) = step {
-            return self.ways.contains_key(&(own, place));
-        }
-        for from in 0..self.scopes.len() {
-            if self.is_in(from, step) && self.ways.contains_key(&(from, place)) {
-                return true;
-            }
-        }
-        false
+    /// Whether a scope is another, or a `*` leads from one to the other, also by those of others.
+    pub(super) fn leads_to(&self, from: usize, place: usize) -> bool {
+        from == place || self.ways.contains_key(&(from, place))
     }
 
-    /// Where a path leads that a scope uses.
-    pub(super) fn lead(&self, scope: usize, path: Path<'a>, last: &'a str) -> Lead<'a> {
-        if !path.is_absolute && self.is_of_body(scope, path.root) {
+    /// Where the names before the last of a path lead that a scope uses; without them, where the last one does.
+    pub(super) fn lead(&self, scope: usize, path: &Path<'a>, last: &'a str) -> Lead {
+        let root = path.first(last);
+        if !path.is_absolute && self.is_of_body(scope, path.root()) {
             return Lead::Doubtful;
         }
-        let module = self.module_of(scope);
-        let root = path.first(last);
-        let lead = if path.is_absolute {
+        let mut lead = if path.is_absolute {
             self.crate_lead(root)
         } else {
-            self.root_lead(module, root)
+            self.first_lead(self.module_of(scope), root)
         };
-        match lead {
-            Lead::In(_) if path.count > 0 => self.place_lead(module, path),
-            lead => lead,
+        for place in 1..path.count {
+            let name = path.at(place);
+            lead = match lead {
+                Lead::In(module) => self.inner_lead(module, name),
+                Lead::Lost => self.only_lead(path.at(place.saturating_sub(1)), name),
+                _ => return lead,
+            };
         }
+        lead
     }
 
-    /// Where the first name of a path leads: a module's own before those that a `use` brings in, before a crate's.
-    fn root_lead(&self, module: usize, root: &'a str) -> Lead<'a> {
-        let is_own = self.is_rooted(module, root);
-        match self.import_of(module, root) {
-            Some(it) if it.is_conditional && !it.is_crate => Lead::Doubtful,
-            Some(it) if is_own && it.path.before != root => Lead::Doubtful,
-            Some(it) if !is_own && it.path.root != root => self.import_lead(it),
-            _ if is_own => match self.children(module, root).conditions {
-                0 => Lead::In(Step::Scope(module)),
-                1 => Lead::Wrong(BY_MODULE),
-                _ => Lead::Doubtful,
-            },
-            _ => self.free_lead(module, root),
+    /// Where the first name of a path leads: a module's own before those that a `*` brings in, beside a crate's.
+    fn first_lead(&self, module: usize, name: &'a str) -> Lead {
+        if is_start(name) {
+            return self.inner_lead(module, name);
         }
-    }
-
-    /// Where a name leads that a `use` brings in, as the first of a path: inside only if its module is there.
-    fn import_lead(&self, it: &Import<'a>) -> Lead<'a> {
-        if !self.begins_inside(it) {
-            return self.crate_lead(it.path.first(it.last));
+        if let Some(lead) = self.member_lead(module, name, true) {
+            return lead;
         }
-        match self.place_lead(self.module_of(it.scope), it.path) {
-            Lead::In(step) if it.path.before == it.last || self.is_child_in(step, it.last) =>
-                Lead::In(step),
-            Lead::In(_) if self.has_type(Step::All, it.last) => Lead::Type,
+        match (self.crate_lead(name), self.star_lead(module, name)) {
+            (lead, None) => lead,
+            (Lead::Known, Some(Lead::Open)) => Lead::Known,
+            (Lead::Outside, Some(Lead::Open | Lead::Doubtful)) => Lead::Outside,
+            (Lead::Outside, Some(lead)) => lead,
             _ => Lead::Doubtful,
         }
     }
 
-    /// Where a first name leads that a module neither declares nor brings in by name.
-    fn free_lead(&self, module: usize, root: &'a str) -> Lead<'a> {
-        let is_module = self.has_star(module) && self.has_module(root);
-        match self.crate_lead(root) {
-            Lead::Known if is_module => Lead::Doubtful,
-            Lead::Outside if is_module && self.is_by_star(module, root) => Lead::In(Step::Scope(
-                module,
-            )),
-            lead => lead,
-        }
-    }
-
-    /// Whether a `*` of a module, under no condition, leads to one that has a module of this name in it.
-    fn is_by_star(&self, module: usize, name: &str) -> bool {
-        for it in &self.imports {
-            if it.is_glob
-                && it.scope == module
-                && !it.is_conditional
-                && self.is_rooted(module, it.path.root)
-                && let Lead::In(step) = self.place_lead(module, it.path)
-                && self.is_child_in(step, name)
-            {
-                return true;
+    /// Where a name leads that follows a module.
+    fn inner_lead(&self, module: usize, name: &'a str) -> Lead {
+        let lead = match name {
+            "" => return Lead::Doubtful,
+            "self" => Some(module),
+            "super" => self.around_module(module),
+            "crate" => self.root_of(module),
+            _ => {
+                return match self.member_lead(module, name, false) {
+                    Some(lead) => lead,
+                    None => self.star_lead(module, name).unwrap_or(Lead::Outside),
+                };
             }
-        }
-        false
-    }
-
-    /// Where the name of a crate leads.
-    fn crate_lead(&self, root: &'a str) -> Lead<'a> {
-        if self.has_crate(root) {
-            Lead::In(Step::Module(root))
-        } else if is_known_crate(root) {
-            Lead::Known
-        } else {
-            Lead::Outside
-        }
-    }
-
-    /// Where a path leads whose first name is one of these files.
-    fn place_lead(&self, module: usize, path: Path<'a>) -> Lead<'a> {
-        match self.start_of(module, path) {
-            Some((base, 0)) => Lead::In(Step::Scope(base)),
-            None if matches!(path.before, "" | "self" | "crate" | "super") => Lead::Outside,
-            _ => self.named_lead(module, path),
-        }
-    }
-
-    /// The module from which the names of a path go on after `crate`, `self` and each `super`, and how many they are.
-    fn start_of(&self, module: usize, path: Path<'a>) -> Option<(usize, usize)> {
-        let (base, before) = match path.root {
-            _ if path.is_absolute => return None,
-            "super" => (self.above(module, path.ups)?, path.ups),
-            _ if path.ups > 0 => return None,
-            "crate" => (self.root_of(module)?, 1),
-            "self" => (module, 1),
-            _ => (module, 0),
         };
-        Some((base, path.count.saturating_sub(before)))
-    }
-
-    /// Where a path leads by the name of its last module: to its only child of that name, or to those
-    /// of that name, unless a `use` may bring in another.
-    fn named_lead(&self, module: usize, path: Path<'a>) -> Lead<'a> {
-        let at = path.before;
-        let is_first = path.count == 1 && !path.is_absolute;
-        if self.is_misnamed(path) {
-            return Lead::Wrong(BROUGHT_IN);
-        }
-        let declared = match self.import_of(module, at) {
-            Some(it) if is_first && !is_called(it.last, at) => return Lead::Wrong(RENAMED),
-            Some(it) if is_first => self.imported_lead(it),
-            _ => self.followed_lead(module, path),
-        };
-        if let Some(lead) = declared {
-            return lead;
-        }
-        match (self.has_module(at), is_first) {
-            (true, true) => Lead::In(Step::Module(at)),
-            (true, false) if self.is_brought(at) => Lead::Doubtful,
-            (true, false) => self.last_lead(path),
-            (false, true) if self.has_type(Step::Scope(module), at) => Lead::Type,
-            (false, false) if self.has_type(Step::All, at) => Lead::Type,
-            _ => Lead::Outside,
+        match lead {
+            Some(place) => Lead::In(place),
+            None => Lead::Lost,
         }
     }
 
-    /// Where a path leads by its last two modules: to the only one of that name in one of the other name, if the files say what is round
-    /// modules of that name, and else to all of that name.
-    fn last_lead(&self, path: Path<'a>) -> Lead<'a> {
-        let all = Lead::In(Step::Module(path.before));
-        if matches!(path.over, "" | "crate" | "self" | "super") {
-            return all;
-        }
+    /// Where a name leads that follows one of a module which these files don't have: to the only module of that name.
+    fn only_lead(&self, before: &str, name: &'a str) -> Lead {
         let mut found = None;
-        let mut is_elsewhere = false;
-        for place in 0..self.scopes.len() {
-            if self.is_in(place, Step::Module(path.before))
-                && let Some(outer) = self.around_module(place)
-            {
-                if !is_called(self.scope(outer).name, path.over) {
-                    is_elsewhere = true;
-                } else if found.is_some() {
-                    return Lead::Doubtful;
-                } else {
-                    found = Some(place);
-                }
+        for (place, it) in self.scopes.iter().enumerate() {
+            if it.kind == Kind::Misnamed && it.name == name {
+                return Lead::Wrong(BROUGHT_IN);
+            }
+            if self.is_in(place, Step::Module(name)) {
+                found = Some(both(found, Lead::In(place)));
             }
         }
         match found {
-            Some(place) => Lead::In(Step::Scope(place)),
-            None if is_elsewhere && !self.imports.iter().any(|it| it.passes_on(path.before)) =>
+            Some(_) if self.imports.iter().any(|it| it.may_pass_on(name)) => Lead::Doubtful,
+            Some(Lead::In(place)) if !is_start(before) && self.around_module(place).is_some() =>
                 Lead::Doubtful,
-            None => all,
+            Some(lead) => lead,
+            None if self.has_type(Step::All, name) => Lead::Type,
+            None => Lead::Lost,
         }
     }
 
-    /// Where a path leads whose modules are declared; nothing if it isn't known which module has the last one in it, or if a `use`
-    /// may bring that in there from these files.
-    fn followed_lead(&self, module: usize, path: Path<'a>) -> Option<Lead<'a>> {
-        let (base, count) = self.start_of(module, path)?;
-        // a first name may be a crate's
-        let top = if path.root == path.top {
-            self.child_lead(base, path.top)?
-        } else {
-            self.inner_lead(base, path.top)?
-        };
-        match top {
-            Lead::In(Step::Scope(outer)) if count == 2 => self.inner_lead(outer, path.before),
-            Lead::In(Step::Scope(outer)) if count > 2 => Some(self.deep_lead(outer, path)),
-            lead => Some(lead),
-        }
-    }
-
-    /// Where the name of a module leads in another one; nothing if a `use` may bring that in there from these files.
-    fn inner_lead(&self, outer: usize, name: &str) -> Option<Lead<'a>> {
-        match self.child_lead(outer, name) {
-            None if self.is_open(outer) => Some(Lead::Doubtful),
-            lead => lead,
-        }
-    }
-
-    /// Where a longer path leads by its last two modules, if these are in the first one.
-    fn deep_lead(&self, outer: usize, path: Path<'a>) -> Lead<'a> {
-        let lead = self.last_lead(path);
-        if let Lead::In(Step::Scope(place)) = lead {
-            let mut at = place;
-            for _ in 0..self.scopes.len() {
-                match self.around_module(at) {
-                    Some(round) if round == outer => return lead,
-                    Some(round) => at = round,
-                    None => break,
-                }
+    /// Where the name of a crate leads: to the only library whose folder has it.
+    fn crate_lead(&self, name: &str) -> Lead {
+        let mut found = None;
+        for file in 0..self.files.len() {
+            // the scope of a file is at its place
+            if is_called(self.scope(file).name, name) && self.is_library(file) {
+                found = Some(both(found, Lead::In(file)));
             }
         }
-        Lead::Doubtful
-    }
-
-    /// Where a module leads that a `use` brings in by a path of no names but `crate`, `self` and `super`.
-    fn imported_lead(&self, it: &Import<'a>) -> Option<Lead<'a>> {
-        match self.start_of(self.module_of(it.scope), it.path)? {
-            (base, 0) if !it.is_crate => self.child_lead(base, it.last),
-            _ => None,
+        match found {
+            Some(lead) => lead,
+            None if is_known_crate(name) => Lead::Known,
+            None => Lead::Outside,
         }
     }
 
-    /// Where the name of a module leads that another one declares, under no condition; nothing if it declares none.
-    fn child_lead(&self, module: usize, name: &str) -> Option<Lead<'a>> {
-        let found = self.children(module, name);
-        if !found.are_some || found.conditions > 0 {
+    /// Where a name leads that a module declares as that of a module or a type, or brings in by a `use`; nothing if it does neither.
+    /// The first name of a path could be a crate's too.
+    fn member_lead(&self, module: usize, name: &'a str, is_first: bool) -> Option<Lead> {
+        let (mut at, mut word) = (module, name);
+        for step in 0..=self.imports.len() {
+            let is_first = is_first && step == 0;
+            let own = self.own_lead(at, word, is_first);
+            match self.import_of(at, word, is_first) {
+                None if step > 0 => return own.or(Some(Lead::Doubtful)),
+                None => return own,
+                Some(it) if it.is_conditional && !it.is_crate => return Some(Lead::Doubtful),
+                Some(_) if own.is_some() => return own,
+                // its own first name is a crate's
+                Some(it) if it.path.root() == word && !it.path.is_absolute => {
+                    return match self.crate_lead(word) {
+                        Lead::In(_) => Some(Lead::Doubtful),
+                        _ => None,
+                    };
+                }
+                Some(it) => match it.lead {
+                    Lead::In(place) if it.path.count > 0 => (at, word) = (place, it.last),
+                    lead => return Some(lead),
+                },
+            }
+        }
+        Some(Lead::Doubtful)
+    }
+
+    /// The import of a module or a crate by this name, if a module has it and doesn't have the name anyway; of the first name of a path
+    /// also one for all modules.
+    pub(super) fn import_of(
+        &self,
+        module: usize,
+        name: &str,
+        is_first: bool,
+    ) -> Option<&Import<'a>> {
+        if !self.is_used(name) {
             return None;
         }
-        Some(match (found.written, self.file_in(module, name)) {
-            (1, _) => Lead::In(Step::Scope(found.last)),
-            (0, Some(file)) => Lead::In(Step::Scope(file)),
-            (0, None) => Lead::Outside,
-            _ => Lead::Doubtful,
-        })
+        self.imports.iter().find(|it| it.name == name
+            && (it.scope == module || (is_first && it.is_crate))
+            && !it.is_bare())
+    }
+
+    /// Where a name leads that a module declares as that of a module or a type; nothing if it doesn't.
+    pub(super) fn own_lead(&self, module: usize, name: &str, is_first: bool) -> Option<Lead> {
+        let mut found = None;
+        let mut is_conditional = false;
+        for (place, it) in self.scopes.iter().enumerate() {
+            if it.outer != module || it.name != name {
+                continue;
+            }
+            let lead = match it.kind {
+                Kind::Module => Lead::In(place),
+                Kind::Outline => match self.file_in(module, name) {
+                    Some(file) => Lead::In(file),
+                    None => Lead::Outside,
+                },
+                Kind::Misnamed => Lead::Wrong(BROUGHT_IN),
+                Kind::Conditional => {
+                    is_conditional = true;
+                    continue;
+                }
+                _ => continue,
+            };
+            found = Some(both(found, lead));
+        }
+        match found {
+            Some(Lead::In(_)) if is_conditional && is_first => Some(Lead::Wrong(BY_MODULE)),
+            Some(Lead::In(_)) if is_conditional && self.has_star(module) => Some(Lead::Doubtful),
+            None if self.has_type(Step::Scope(module), name) => Some(Lead::Type),
+            found => found,
+        }
+    }
+
+    /// Where a name leads that a `*` of a module brings in; nothing if none does. What others pass on to that is doubtful.
+    fn star_lead(&self, module: usize, name: &str) -> Option<Lead> {
+        let mut found = None;
+        for it in &self.imports {
+            if !it.is_glob || !self.leads_to(module, it.scope) {
+                continue;
+            }
+            let lead = match it.lead {
+                Lead::In(place) if self.may_import(place, name) => Some(Lead::Doubtful),
+                Lead::In(place) => self.own_lead(place, name, true),
+                Lead::Type | Lead::Known => None,
+                _ => Some(Lead::Open),
+            };
+            found = match lead {
+                Some(Lead::In(_)) if it.is_conditional || it.scope != module => Some(
+                    Lead::Doubtful,
+                ),
+                Some(lead) => Some(both(found, lead)),
+                None => found,
+            };
+        }
+        found
     }
 
     /// Whether a body round a scope may have a module or a type of this name, or bring one in.
     pub(super) fn is_of_body(&self, scope: usize, name: &str) -> bool {
-        if matches!(name, "crate" | "self" | "super") {
+        if is_start(name) {
             return false;
         }
         let mut at = scope;
@@ -461,7 +330,10 @@ impl<'a> Scopes<'a> {
             if !self.is_inner(at) {
                 break;
             }
-            if self.is_rooted(at, name) || self.has_star(at) || self.may_import(at, name) {
+            if self.has_star(at)
+                || self.may_import(at, name)
+                || self.own_lead(at, name, false).is_some()
+            {
                 return true;
             }
             at = self.scope(at).outer;
@@ -479,12 +351,12 @@ impl<'a> Scopes<'a> {
     /// Whether a first name leads out of the files: to the crate of that name, or to what a `use` brings in from one of these.
     pub fn is_foreign(&self, scope: usize, root: &'a str, crates: &[&str]) -> bool {
         let module = self.module_of(scope);
-        let is_right = match self.import_of(module, root) {
+        let is_right = match self.import_of(module, root, true) {
             Some(it) => it.last == root && is_among(it.path.first(root), crates),
             None => true,
         };
         is_right
             && !self.is_of_body(scope, root)
-            && matches!(self.root_lead(module, root), Lead::Known | Lead::Outside)
+            && matches!(self.first_lead(module, root), Lead::Known | Lead::Outside)
     }
 }

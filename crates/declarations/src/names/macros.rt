@@ -1,5 +1,6 @@
 //! What macros make, as far as their rules and calls say.
-use super::{Import, Scopes, What, is_known_crate};
+use super::leads::Lead;
+use super::{Import, Scopes, What};
 use crate::known::is_everywhere;
 use declaration_parser::attributes::{
     behind_first, first_word, front, last_word, name_at, plain_name, up_to,
@@ -116,7 +117,7 @@ impl<'a> Scopes<'a> {
     fn is_imported(&self, scope: usize, name: &str) -> bool {
         for it in &self.imports {
             let is_it = it.is_crate || (it.scope == scope && it.name == name);
-            if is_it && !self.begins_inside(it) && !is_known_crate(it.path.first(it.last)) {
+            if is_it && it.leads_out() && !matches!(it.lead, Lead::Known) {
                 return true;
             }
         }

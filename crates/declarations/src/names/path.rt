@@ -1,16 +1,13 @@
 //! The names before the last one of a path.
 use super::is_known_crate;
 
-/// The names before the last of a path: the first, the two before the last, how often `super` stands there, and how many
-/// there are; the names are empty if there is none.
+/// How many names a path that is followed has at most before its last one.
+const MOST: usize = 16;
+
+/// The names before the last of a path.
 #[derive(Clone, Copy, Default, Drop)]
 pub struct Path<'a> {
-    pub root: &'a str,
-    pub before: &'a str,
-    pub(super) over: &'a str,
-    /// The first after `crate`, `self` and each `super`.
-    pub(super) top: &'a str,
-    pub(super) ups: usize,
+    names: [&'a str; MOST],
     pub count: usize,
     /// Whether `::` precedes all of them.
     pub is_absolute: bool,
@@ -26,30 +23,42 @@ impl<'a> Path<'a> {
 
     /// Goes on by a name.
     pub fn go(&mut self, name: &'a str) {
-        if self.count == 0 {
-            self.root = name;
+        let count = self.count;
+        if let Some(place) = self.names.get_mut(count) {
+            *place = name;
         }
-        if name == "super" {
-            self.ups = self.ups.saturating_add(1);
-        } else if self.top.is_empty() && !matches!(name, "crate" | "self") {
-            self.top = name;
-        }
-        self.over = self.before;
-        self.before = name;
-        self.count = self.count.saturating_add(1);
+        self.count = count.saturating_add(1);
     }
 
-    /// The name that is brought in as this one: that of the module, if it is `self`.
-    pub fn last_of(self, name: &'a str) -> &'a str {
-        if name == "self" && self.count > 0 {
-            return self.before;
+    /// Leaves out the last of the names.
+    pub(super) fn without_last(self) -> Path<'a> {
+        Path {
+            count: self.count.saturating_sub(1),
+            ..self
         }
-        name
+    }
+
+    /// The name at a place; empty if there is none, or if there are too many before it.
+    pub(super) fn at(&self, place: usize) -> &'a str {
+        match self.names.get(place) {
+            Some(name) if place < self.count => name,
+            _ => "",
+        }
+    }
+
+    /// The first name; empty if there is none.
+    pub fn root(&self) -> &'a str {
+        self.at(0)
+    }
+
+    /// The last of these names; empty if there is none.
+    pub fn before(&self) -> &'a str {
+        self.at(self.count.saturating_sub(1))
     }
 
     /// The first name, if this one follows.
-    pub(super) fn first(self, last: &'a str) -> &'a str {
-        if self.count == 0 { last } else { self.root }
+    pub(super) fn first(&self, last: &'a str) -> &'a str {
+        if self.count == 0 { last } else { self.root() }
     }
 
     /// Whether there is no name, nor a `::`.
@@ -58,7 +67,7 @@ impl<'a> Path<'a> {
     }
 
     /// Whether a `use` of this path brings in a known type by its own name.
-    pub fn is_known_as(self, name: &str, last: &str) -> bool {
-        name == last && self.count > 0 && is_known_crate(self.root)
+    pub(super) fn is_known_as(self, name: &str, last: &str) -> bool {
+        name == last && self.count > 0 && is_known_crate(self.root())
     }
 }

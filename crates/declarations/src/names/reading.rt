@@ -19,18 +19,14 @@ fn alias_of(words: &[Token]) -> What<'_> {
 }
 
 impl<'a> Scopes<'a> {
-    /// Reads the items of all files. The rules of macros are known wherever they are, and calls come last.
-    pub(super) fn read_items(&mut self, items: &[items::Item<'a>]) {
+    /// Reads the items of all files: calls of macros, or the others. The rules of macros are known wherever they are.
+    pub(super) fn read_items(&mut self, items: &[items::Item<'a>], are_calls: bool) {
         for item in items {
-            if item.kind == ItemKind::Rules {
+            if item.kind == ItemKind::Rules && !are_calls {
                 self.failed = self.rules.push(*item).is_err() || self.failed;
             }
-        }
-        for are_calls in [false, true] {
-            for item in items {
-                if (item.kind == ItemKind::Call) == are_calls {
-                    self.read_item(item);
-                }
+            if (item.kind == ItemKind::Call) == are_calls {
+                self.read_item(item);
             }
         }
     }

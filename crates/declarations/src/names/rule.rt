@@ -191,7 +191,7 @@ impl<'a> Scopes<'a> {
                 Found::Known(name)
             };
         }
-        self.passed_on(Step::Scope(at), name, space)
+        self.passed_on(at, name, space)
     }
 
     /// What a scope itself declares or brings in under a name.
@@ -215,7 +215,10 @@ impl<'a> Scopes<'a> {
     fn not_own(&self, scope: usize, name: &str, space: Space) -> Found<'a>
         ensures { IsStepAnswer [] result }
     {
-        if space == Space::Types && !is_primitive(name) && self.children(scope, name).are_some {
+        if space == Space::Types
+            && !is_primitive(name)
+            && self.own_lead(scope, name, false).is_some()
+        {
             return Found::Wrong(OF_MODULE);
         }
         if !is_everywhere(name) && self.is_handed(scope, name) {
@@ -236,8 +239,8 @@ impl<'a> Scopes<'a> {
         }
         match it.lead {
             Lead::Known if space == Space::Types && it.path.count > 0 => Found::Known(it.last),
-            Lead::In(step) if it.last == name => self.by_path(step, name, space),
-            Lead::In(_) => Found::Wrong(RENAMED),
+            Lead::In(place) if it.last == name => self.by_path(place, name, space),
+            Lead::In(_) | Lead::Type if it.last != name => Found::Wrong(RENAMED),
             Lead::Wrong(why) => Found::Wrong(why),
             _ => Found::Wrong(BROUGHT_IN),
         }
@@ -258,8 +261,8 @@ impl<'a> Scopes<'a> {
         }
     }
 
-    /// What a step passes on under a name: the only candidate in all files or what is known, unless it may be another.
-    fn passed_on(&self, step: Step<'a>, name: &'a str, space: Space) -> Found<'a>
+    /// What a module passes on under a name: the only candidate in all files or what is known, unless it may be another.
+    fn passed_on(&self, module: usize, name: &'a str, space: Space) -> Found<'a>
         ensures only { IsOnlyOfAStep self.now name.now space result }
         ensures answer { IsStepAnswer (candidates_in self.now Step.All name.now space) result }
     {
@@ -267,15 +270,15 @@ impl<'a> Scopes<'a> {
             Found::Not if space == Space::Types && is_known(name) => Found::Known(name),
             found => found,
         };
-        if self.may_differ(step, &found, name, space) {
+        if self.may_differ(module, &found, name, space) {
             return Found::Wrong(BY_STAR);
         }
         found
     }
 
-    /// Whether a name that a step passes on may be another than was found in all files: no `use` leads there, or what leads out of the
+    /// Whether a name that a module passes on may be another than was found in all files: no `use` leads there, or what leads out of the
     /// files or a macro may make the name on one of the ways.
-    fn may_differ(&self, step: Step<'a>, found: &Found<'a>, name: &str, space: Space) -> bool {
+    fn may_differ(&self, module: usize, found: &Found<'a>, name: &str, space: Space) -> bool {
         let there = match found {
             Found::In(_, there) => *there,
             Found::Known(_) | Found::Not => usize::MAX,
@@ -283,18 +286,18 @@ impl<'a> Scopes<'a> {
         };
         for place in 0..self.scopes.len() {
             if place != there
-                && self.may_lead_to(step, place, name)
+                && self.may_lead_to(module, place, name)
                 && self.may_have_other(place, found, name, space)
             {
                 return true;
             }
         }
-        there != usize::MAX && !self.may_lead_to(step, there, name)
+        there != usize::MAX && !self.may_lead_to(module, there, name)
     }
 
-    /// Whether a step may pass on what a scope has under a name: it is one of the step's, or `use` leads there.
-    pub(super) fn may_lead_to(&self, step: Step<'a>, place: usize, name: &str) -> bool {
-        let is_led = self.leads_to(step, place);
+    /// Whether a scope may pass on what another has under a name: it is the other, or `use` leads there.
+    pub(super) fn may_lead_to(&self, from: usize, place: usize, name: &str) -> bool {
+        let is_led = self.leads_to(from, place);
         if is_led || !self.is_used(name) {
             return is_led;
         }
@@ -337,38 +340,27 @@ impl<'a> Scopes<'a> {
     ) -> Found<'a>
         ensures only { IsOnlyOfAStep self.now name.now space result }
     {
-        match self.lead(scope, path, name) {
+        match self.lead(scope, &path, name) {
             Lead::Known => Found::Known(name),
-            Lead::Outside | Lead::Type => Found::Outside,
-            Lead::Doubtful => Found::Two,
+            Lead::Outside | Lead::Lost | Lead::Type => Found::Outside,
+            Lead::Doubtful | Lead::Open => Found::Two,
             Lead::Wrong(why) => Found::Wrong(why),
-            Lead::In(step) => self.by_path(step, name, space),
+            Lead::In(place) => self.by_path(place, name, space),
         }
     }
 
-    /// What a step has under a name, or all files, if it only passes it on.
-    fn by_path(&self, step: Step<'a>, name: &'a str, space: Space) -> Found<'a>
+    /// What a module has under a name, or all files, if it only passes it on.
+    fn by_path(&self, module: usize, name: &'a str, space: Space) -> Found<'a>
         ensures only { IsOnlyOfAStep self.now name.now space result }
     {
-        match self.step(step, name, space) {
-            Found::In(_, there) if self.is_beside(step, there, name) => Found::Two,
-            Found::Not => match self.passed_on(step, name, space) {
+        match self.step(Step::Scope(module), name, space) {
+            Found::In(..) if self.may_import(module, name) => Found::Two,
+            Found::Not => match self.passed_on(module, name, space) {
                 Found::Not => Found::Wrong(NOT_THERE),
                 found => found,
             },
             found => found,
         }
-    }
-
-    /// Whether a scope of a step may have a name by a `use`, or another one than this by a `*` or a macro.
-    fn is_beside(&self, step: Step<'a>, there: usize, name: &str) -> bool {
-        for place in 0..self.scopes.len() {
-            let is_other = place != there && (self.has_star(place) || self.is_handed(place, name));
-            if self.is_in(place, step) && (is_other || self.may_import(place, name)) {
-                return true;
-            }
-        }
-        false
     }
 
     /// Appends the paths of what a name may stand for, each once.
@@ -392,7 +384,7 @@ impl<'a> Scopes<'a> {
     {
         // A path leads into no body.
         let (first, second) = if path.count > 0 {
-            (Step::Module(path.before), Step::Module(path.before))
+            (Step::Module(path.before()), Step::Module(path.before()))
         } else {
             (Step::All, Step::Bodies)
         };

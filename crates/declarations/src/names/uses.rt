@@ -35,14 +35,22 @@ impl<'a> Import<'a> {
         }
     }
 
+    /// Whether it may make a module of this name one of its own that isn't in these files, or is called otherwise.
+    pub(super) fn may_pass_on(&self, name: &str) -> bool {
+        if self.name != name {
+            return self.is_glob && self.is_public && self.leads_out();
+        }
+        self.last != name || self.leads_out()
+    }
+
+    /// Whether it brings in a name as it is.
+    pub(super) fn is_bare(&self) -> bool {
+        self.path.count == 0 && self.last == self.name
+    }
+
     /// Whether it may bring in modules that aren't in these files.
     pub(super) fn leads_out(&self) -> bool {
         !matches!(self.lead, Lead::In(_) | Lead::Type)
-    }
-
-    /// Whether it may make a module of this name one of another module.
-    pub(super) fn passes_on(&self, name: &str) -> bool {
-        self.name == name || (self.is_glob && self.is_public)
     }
 
     /// The last name of a path, by another one.
@@ -80,7 +88,11 @@ impl<'a> Scopes<'a> {
                 Word::Star => self.put_import(import.named("", path, "")),
                 _ if matches!(front(behind), Word::Colon) => path.go(word),
                 _ => {
-                    let last = path.last_of(word);
+                    // `self` is what the path before it leads to
+                    let (path, last) = match word {
+                        "self" if path.count > 0 => (path.without_last(), path.before()),
+                        _ => (path, word),
+                    };
                     let (name, behind) = renamed(last, behind);
                     self.put_import(import.named(name, path, last));
                     rest = behind;

@@ -2,10 +2,7 @@ use Rattle.std.proofs.Common.{◌+◌, ◌*◌}
 use Rattle.declarations.proofs.builder.Builder.+lengths.Given as goal
 
 abbrev pub decreases-computed : goal.decreases-computed
-decreases-computed l = 16 * l.depth + (3 + l.levels)
-
-abbrev pub decreases-constant : goal.decreases-constant
-decreases-constant l = 16 * l.depth + 9
+decreases-computed l = 16 * l.depth + (3 + l.weakest)
 
 abbrev pub decreases-named_number : goal.decreases-named_number
 decreases-named_number l = 16 * l.depth + 10

@@ -1,8 +1,8 @@
 use Rattle.std.proofs.Common.{◌+◌, ◌*◌}
 use Rattle.declarations.proofs.builder.Builder.+types.Given as goal
 
-abbrev pub decreases-array : goal.decreases-array
-decreases-array l = 16 * l.depth + 2
+abbrev pub decreases-bracketed : goal.decreases-bracketed
+decreases-bracketed l = 16 * l.depth + 4
 
 abbrev pub decreases-formed : goal.decreases-formed
 decreases-formed l = 16 * l.depth + 3
@@ -15,12 +15,6 @@ decreases-named l = 16 * l.depth + 5
 
 abbrev pub decreases-place : goal.decreases-place
 decreases-place l = 16 * l.depth
-
-abbrev pub decreases-there : goal.decreases-there
-decreases-there l = 16 * l.depth + 2
-
-abbrev pub decreases-tuple : goal.decreases-tuple
-decreases-tuple l = 16 * l.depth + 2
 
 abbrev pub decreases-whole : goal.decreases-whole
 decreases-whole l = 16 * l.depth + 1
