@@ -127,7 +127,7 @@ impl<'a> Scopes<'a> {
     }
 
     /// Whether a file has no module round it: it is the root of a crate, or alone and not in its `src`.
-    fn is_top_file(&self, file: usize) -> bool {
+    pub(super) fn is_top_file(&self, file: usize) -> bool {
         let (folder, stem) = parts_of(self.name_of_file(file));
         is_root(stem) || has_roots(folder) || (self.files.len() == 1 && !is_in_src(folder))
     }

@@ -157,11 +157,22 @@ impl<'a> Scopes<'a> {
         }
         match (self.crate_lead(name), self.star_lead(module, name)) {
             (lead, None) => lead,
-            (Lead::Known, Some(Lead::Open)) => Lead::Known,
+            (lead, Some(Lead::Open)) if !self.has_namesake(name) => lead,
             (Lead::Outside, Some(Lead::Open | Lead::Doubtful)) => Lead::Outside,
             (Lead::Outside, Some(lead)) => lead,
             _ => Lead::Doubtful,
         }
+    }
+
+    /// Whether a module of this name is there that isn't a crate.
+    fn has_namesake(&self, name: &'a str) -> bool {
+        for place in 0..self.scopes.len() {
+            let is_crate = place < self.files.len() && self.is_top_file(place);
+            if !is_crate && self.is_in(place, Step::Module(name)) {
+                return true;
+            }
+        }
+        false
     }
 
     /// Where a name leads that follows a module.
