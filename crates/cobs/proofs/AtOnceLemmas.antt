@@ -13,6 +13,7 @@ use Rattle.cobs.specs.declared.dec.state.DecoderState.{DecoderState}
 use Rattle.cobs.specs.declared.dec.state.DecoderState.TheVariants.{Grab, GrabChain}
 use Rattle.cobs.proofs.MaskingLemmas.{xor_twice, masked_length, masked_take, masked_get}
 use Rattle.cobs.proofs.SourcesLemmas.{masked_positive}
+use Rattle.cobs.proofs.WithinLemmas.{written_part}
 use Rattle.cobs.proofs.WindowsLemmas.{one_part, one_after, at_grab, at_chain, of_ones, front_written}
 
 -- codes 01
@@ -47,6 +48,12 @@ nonzero_in key n piece none j l =
     let byte : get_or (masked key (take n piece)) j 0 ≡ bit_xor key (get_or piece j 0) =
     masked_get key (take n piece) j l ∙ ap (bit_xor key) (get_or-take n piece j 0 inside) in
     omega (arith, byte, masked_positive key (get_or piece j 0) (none j inside))
+
+-- what was copied from the first of them stands there
+pub written_there : (key len n k : ℕ) (bytes old mid : List ℕ) → n ≤ length bytes → len + n ≤ length old → mid ≡ written_over len (masked key (take n bytes)) old → k ≡ n → take k (drop len mid) ≡ masked key (take n bytes)
+written_there key len n k bytes old mid within room put e =
+    ap (λ b. take k (drop len b)) put
+    ∙ written_part len k (masked key (take n bytes)) old (e ∙ sym (masked_length key (take n bytes) ∙ length-take-le n bytes within)) (omega (arith, room))
 
 -- a row of them
 pub row_written : (p piece old new : List ℕ) (d : Progress) (n : ℕ) → HasStreamed d p

@@ -95,14 +95,20 @@ module _ (room : ℕ) (frame : List ℕ) (d : Progress) (s : HasStreamed d frame
   left_counted : left_in d.state ≡ missing frame
   left_counted = ap left_in s.state ∙ left_standing frame
 
-  pub counted_broken : left_in d.state ≢ 0 → Err (InvalidFrame d.len) ≡ decoded_into room frame
+  counted_broken : left_in d.state ≢ 0 → Err (InvalidFrame d.len) ≡ decoded_into room frame
   counted_broken n = ap (λ k. Err (InvalidFrame k)) counted ∙ sym (rw (ne_eqb (missing frame) 0 (λ e. n (left_counted ∙ e))) refl)
 
   pub counted_over : left_in d.state ≡ 0 → room < d.len → Err TargetBufTooSmall ≡ decoded_into room frame
   counted_over z l = sym (rw (eq-eqb (missing frame) 0 (sym left_counted ∙ z), lt-ltb room (length (part frame)) (omega (arith, l, counted))) refl)
 
-  pub counted_whole : left_in d.state ≡ 0 → d.len ≤ room → Ok d.len ≡ decoded_into room frame
+  counted_whole : left_in d.state ≡ 0 → d.len ≤ room → Ok d.len ≡ decoded_into room frame
   counted_whole z l = ap (λ k. Ok k) counted ∙ sym (rw (eq-eqb (missing frame) 0 (sym left_counted ∙ z), le-ltb room (length (part frame)) (omega (arith, l, counted))) refl)
+
+  pub counted_answer : (left_in d.state ≡ 0 → d.len ≤ room) → answer_behind d.state d.len ≡ decoded_into room frame
+  counted_answer fits = elim (eqb_tells (left_in d.state) 0) [
+    | inl t ↦ rw (eq-eqb (left_in d.state) 0 t.1) (counted_whole t.1 (fits t.1))
+    | inr t ↦ rw (ne_eqb (left_in d.state) 0 t.1) (counted_broken t.1)
+  ]
 
 module _ (room : ℕ) (frame : List ℕ) (d : Progress) (s : HasStreamed d frame) (some : 0 < length frame) (few : length frame < 2 ^ 64) (fits : length frame ≤ room + 1) where
   len_is : d.len ≡ length (part frame)

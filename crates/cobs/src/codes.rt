@@ -144,18 +144,6 @@ fn put_bytes<const WAY: usize>(dest: &mut [u8], at: Place, bytes: &[u8], sentine
     put_some::<WAY, 1>(dest, place, rest, sentinel)
 }
 
-// The same of the bytes of a block: those of a full one are inspected as they are copied, unless a zero is first.
-#[inline(always)]
-fn put_block<const WAY: usize>(dest: &mut [u8], at: Place, bytes: &[u8], sentinel: u8) -> usize
-    requires block { InBlock dest.old at.code_at at.len bytes.now }
-    ensures { PutThere sentinel dest.old at bytes.now dest.new result }
-{
-    if bytes.len() == 254 && bytes[0] != 0 && copy_clear(bytes, dest, at.len, sentinel) {
-        return at.code_at;
-    }
-    put_bytes::<WAY>(dest, at, bytes, sentinel)
-}
-
 // Copies a chunk into the open block, which has space for it, and writes a code at each of its zeros. Whatever is
 // written is XORed with the sentinel, so contracts speak of the buffer without that: masked once more. The number
 // says how 64 bytes are copied: 0 if few zeros are likely. Each caller has a copy of its own by its number.
@@ -164,8 +152,14 @@ fn put_run<const WAY: usize>(dest: &mut [u8], at: Place, piece: &[u8], sentinel:
     requires { FitsBlock dest.old sentinel at.code_at at.len piece.now }
     ensures holds { GoesOnIn sentinel dest.old at.code_at at.len piece.now dest.new result }
 {
-    let code_at = put_block::<WAY>(dest, at, piece, sentinel);
-    let end = at.len + piece.len();
+    let n = piece.len();
+    // Bytes of a full block are inspected as they are copied, unless a zero is first.
+    let code_at = if n == 254 && piece[0] != 0 && copy_clear(piece, dest, at.len, sentinel) {
+        at.code_at
+    } else {
+        put_bytes::<WAY>(dest, at, piece, sentinel)
+    };
+    let end = at.len + n;
     dest[code_at] = sentinel ^ (end - code_at) as u8;
     Place { code_at, len: end }
 }

@@ -7,7 +7,7 @@ ghost use Rattle.cobs.specs.InPlace.{stretch};
 ghost use Rattle.cobs.specs.Sentinel.{masked, ComeBefore};
 
 use crate::codes::lowest;
-use crate::moves::{is_clear, is_clear_255, zeros_of_some};
+use crate::moves::{is_clear_255, is_positive, load_masked, zeros_of_some};
 
 // How many of a few bytes come before the first sentinel.
 #[inline(always)]
@@ -45,7 +45,7 @@ pub(crate) fn before_by_64(bytes: &[u8], sentinel: u8) -> usize
 {
     let mut at = 0;
     while 64 <= bytes.len() - at {
-        if is_clear(&bytes[at..at + 64], sentinel) {
+        if is_positive(load_masked::<64>(bytes, at, sentinel)) {
             at += 64;
             continue;
         }

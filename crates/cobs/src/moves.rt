@@ -195,7 +195,7 @@ fn least_of_four(a: u8x64, b: u8x64, c: u8x64, d: u8x64) -> u8x64
 
 // The bytes from a position on, each XORed with the sentinel.
 #[inline(always)]
-fn load_masked<const W: usize>(bytes: &[u8], at: usize, sentinel: u8) -> Simd<u8, W>
+pub(crate) fn load_masked<const W: usize>(bytes: &[u8], at: usize, sentinel: u8) -> Simd<u8, W>
     requires { at + W ≤ length bytes.now }
     ensures { result ≡ masked sentinel (take W (drop at bytes.now)) }
 {
@@ -213,15 +213,6 @@ pub(crate) fn is_positive(lanes: u8x64) -> bool
     low.simd_min(high).simd_eq(u8x32::splat(0)).to_bitmask() == 0
 }
 
-// Whether none of 64 bytes is the sentinel.
-#[inline(always)]
-pub(crate) fn is_clear(bytes: &[u8], sentinel: u8) -> bool
-    requires { length bytes.now ≡ 64 }
-    ensures { result ≡ true → Positive 64 (masked sentinel bytes.now) }
-{
-    is_positive(load_masked::<64>(bytes, 0, sentinel))
-}
-
 // Copies 64 bytes from a position on, and returns them as they were: what is loaded after a write is loaded again.
 #[inline(always)]
 pub(crate) fn copy_64(bytes: &[u8], at: usize, to: &mut [u8], place: usize, sentinel: u8) -> u8x64
@@ -233,22 +224,6 @@ pub(crate) fn copy_64(bytes: &[u8], at: usize, to: &mut [u8], place: usize, sent
     let lanes = load::<64>(bytes, at);
     store::<64>(lanes, to, place, sentinel);
     lanes
-}
-
-// Copies 64 bytes in the same way if none of them is the sentinel: else nothing is written. Returns whether it did.
-#[inline(always)]
-pub(crate) fn copy_if_clear(bytes: &[u8], buffer: &mut [u8], place: usize, sentinel: u8) -> bool
-    requires count { length bytes.now ≡ 64 }
-    requires room { place + 64 ≤ length buffer.old }
-    ensures copied { result ≡ true → Copied place sentinel bytes.now buffer.old buffer.new }
-    ensures clear { result ≡ true → Positive 64 (masked sentinel bytes.now) }
-    ensures same { result ≡ false → buffer.new ≡ buffer.old }
-{
-    if !is_clear(bytes, sentinel) {
-        return false;
-    }
-    copy_64(bytes, 0, buffer, place, sentinel);
-    true
 }
 
 // Copies the bytes of a full block in the same way. Returns whether none of them is zero.

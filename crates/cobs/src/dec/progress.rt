@@ -10,7 +10,7 @@ ghost use Rattle.cobs.specs.declared.dec.report.DecodeError.TheVariants.{TargetB
 
 use super::report::{DecodeError, DecodeReport, Fed, Pushed};
 use super::state::{DecoderState, by_code};
-use super::window::{FEW, ROW, WINDOW, copy_until, decode_at_once, put_zeros, same_by_64};
+use super::window::{FEW, ROW, WINDOW, copy_until, put_zeros, same_by_64};
 use crate::finding::before_sentinel;
 use crate::moves::{copy_block, copy_over, move_down, zero_over};
 
@@ -95,7 +95,8 @@ impl Progress {
         match self.state {
             DecoderState::Grab(left) => {
                 let n = bytes.len().min(WINDOW);
-                self.state = decode_at_once(&bytes[..n], &mut buffer[len..len + n], left, sentinel);
+                copy_over(&bytes[..n], buffer, len, sentinel);
+                self.state = put_zeros(&mut buffer[len..len + n], left);
                 self.len = len + n;
                 n
             }

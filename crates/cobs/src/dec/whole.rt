@@ -20,9 +20,9 @@ ghost use Rattle.cobs.specs.Streaming.{HasStreamed};
 use super::progress::Progress;
 use super::report::{DecodeError, DecodeReport, Decoded, Reported};
 use super::state::{DecoderState, by_code};
-use super::window::{copy_frame_until, decode_at_once, put_zeros};
+use super::window::{copy_frame_until, put_zeros};
 use crate::finding::before_sentinel;
-use crate::moves::{are_all, is_clear_255};
+use crate::moves::{are_all, copy_over, is_clear_255};
 
 // The result after a whole frame, with how many bytes of a message it has: it is one if no block is open.
 #[inline(always)]
@@ -57,18 +57,6 @@ pub(crate) fn apart<T: Copy>(answer: Result<T, DecodeError>) -> Result<T, Decode
         Ok(told) => Ok(told),
         Err(error) => Err(error),
     }
-}
-
-// How far the bytes of a frame, each XORed with the sentinel, are taken if none fits.
-fn count_frame(frame: &[u8], sentinel: u8) -> Progress
-    requires { NoZero (masked sentinel frame.now) }
-    ensures { HasStreamed result (masked sentinel frame.now) }
-{
-    let mut progress = Progress::new();
-    for byte in frame {
-        let _ = progress.feed(&mut [], sentinel ^ *byte);
-    }
-    progress
 }
 
 // Whether a frame is for one window: a short one. Rows of zeros are filled faster in steps.
@@ -142,23 +130,28 @@ pub(crate) fn decode_short(frame: &[u8], dest: &mut [u8], sentinel: u8) -> Decod
     ensures { DecodesInto dest.old (masked sentinel frame.now) dest.new result }
 {
     let code = sentinel ^ frame[0];
-    let bytes = &frame[1..];
-    let len = bytes.len();
-    let state = decode_at_once(bytes, &mut dest[..len], code - 1, sentinel);
+    let len = frame.len() - 1;
+    copy_over(&frame[1..], dest, 0, sentinel);
+    let state = put_zeros(&mut dest[..len], code - 1);
     answer_behind(state, len)
 }
 
-// Takes the bytes of a frame, each XORed with the sentinel, and also counts those that don't fit.
+// Takes the bytes of a frame, each XORed with the sentinel, and also counts those that don't fit: anew, since a push that
+// fails doesn't return where.
 fn take_frame(frame: &[u8], dest: &mut [u8], sentinel: u8) -> Progress
     requires { NoZero (masked sentinel frame.now) }
     ensures stands { HasStreamed result (masked sentinel frame.now) }
     ensures dest { dest.new ≡ overwritten (part (masked sentinel frame.now)) dest.old }
 {
     let mut progress = Progress::new();
-    match progress.push(dest, frame, sentinel) {
-        Ok(_) => progress,
-        Err(_) => count_frame(frame, sentinel),
+    if progress.push(dest, frame, sentinel).is_ok() {
+        return progress;
     }
+    let mut progress = Progress::new();
+    for byte in frame {
+        let _ = progress.feed(&mut [], sentinel ^ *byte);
+    }
+    progress
 }
 
 // Decodes a frame, each byte of it XORed with the sentinel, and also counts the bytes of its message that don't fit.
@@ -168,13 +161,10 @@ pub(crate) fn decode_counted(frame: &[u8], dest: &mut [u8], sentinel: u8) -> Dec
     ensures { DecodesInto dest.old (masked sentinel frame.now) dest.new result }
 {
     let Progress { state, len } = take_frame(frame, dest, sentinel);
-    if state.left() != 0 {
-        return Err(DecodeError::InvalidFrame { decoded_bytes: len });
-    }
-    if dest.len() < len {
+    if state.left() == 0 && dest.len() < len {
         return Err(DecodeError::TargetBufTooSmall);
     }
-    Ok(len)
+    answer_behind(state, len)
 }
 
 // The bytes before the first one that is the sentinel.
@@ -264,19 +254,14 @@ fn decode_pushed(source: &[u8], rest: &[u8], dest: &mut [u8]) -> Reported
     ensures { DecodesSource dest.old source.now dest.new result }
 {
     let mut progress = Progress::new();
+    let zeros = source.len() - rest.len();
     match progress.push(dest, rest, 0) {
         Ok(None) => match progress.end(dest.len()) {
             Ok(None) => Err(DecodeError::EmptyFrame),
-            Ok(Some(decoded)) => Ok(DecodeReport {
-                parsed: source.len(),
-                decoded,
-            }),
+            Ok(Some(decoded)) => with_parsed(Ok(decoded), source.len()),
             Err(error) => Err(error),
         },
-        Ok(Some(report)) => Ok(DecodeReport {
-            parsed: source.len() - rest.len() + report.parsed,
-            decoded: report.decoded,
-        }),
+        Ok(Some(report)) => with_parsed(Ok(report.decoded), zeros + report.parsed),
         Err(error) => Err(error),
     }
 }

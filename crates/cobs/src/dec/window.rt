@@ -8,7 +8,9 @@ ghost use Rattle.cobs.specs.Sentinel.{masked, ComeBefore};
 use super::state::DecoderState;
 use crate::codes::lowest;
 use crate::finding::{before_few, before_near};
-use crate::moves::{are_all, copy_clear_some, copy_few, copy_if_clear, copy_over};
+use crate::moves::{
+    are_all, copy_64, copy_clear_some, copy_few, copy_over, is_positive, load_masked,
+};
 
 // How many bytes are copied at once: what follows the code of a full block among them is of that block.
 pub(crate) const WINDOW: usize = 254;
@@ -42,7 +44,8 @@ pub(crate) fn copy_until(bytes: &[u8], buffer: &mut [u8], place: usize, sentinel
 {
     let mut at: usize = 0;
     while 64 <= bytes.len() - at {
-        if copy_if_clear(&bytes[at..at + 64], buffer, place + at, sentinel) {
+        if is_positive(load_masked::<64>(bytes, at, sentinel)) {
+            copy_64(bytes, at, buffer, place + at, sentinel);
             at += 64;
             continue;
         }
@@ -122,19 +125,4 @@ pub(crate) fn put_zeros(out: &mut [u8], left: u8) -> DecoderState
         return DecoderState::GrabChain((at - end) as u8);
     }
     DecoderState::Grab((at - end) as u8)
-}
-
-// Copies bytes of a frame by vectors, where so many are left of a block, and puts a zero for each code. Returns the position of
-// their last block.
-#[inline(always)]
-pub(crate) fn decode_at_once(bytes: &[u8], out: &mut [u8], left: u8, sentinel: u8) -> DecoderState
-    requires long { length bytes.now ≡ length out.old }
-    requires short { length bytes.now ≤ 254 }
-    requires nonzero { (k : ℕ) → k < length bytes.now
-        → 0 < slice_index (masked sentinel bytes.now) k }
-    ensures out { out.new ≡ part_from left true (masked sentinel bytes.now) }
-    ensures state { result ≡ stands_by (after left true (masked sentinel bytes.now)) }
-{
-    copy_over(bytes, out, 0, sentinel);
-    put_zeros(out, left)
 }

@@ -1,20 +1,18 @@
-use Rattle.std.proofs.Common.{◌+◌, ◌-◌, ◌≤◌, length, take, drop, length-take, length-drop, arith}
-use Rattle.cobs.proofs.SearchingLemmas.{none_on, end_on}
-use Rattle.cobs.proofs.SourcesLemmas.{clear_byte}
+use Rattle.std.proofs.Common.{◌+◌, ◌-◌, ◌≤◌, length, drop, length-take, arith}
+use Rattle.cobs.proofs.LanesLemmas.{lanes_long}
+use Rattle.cobs.proofs.SearchingLemmas.{none_on, none_then, end_on}
 use Rattle.cobs.proofs.finding.before_by_64.Goals as goal
 
-pub loop-at-preserved-then-is_clear : goal.loop-at-preserved-then-is_clear
-loop-at-preserved-then-is_clear c =
-    let at = c.loop-at.at in
-    let bytes = c.args.bytes.now in
-    let piece = take (at + 64 - at) (drop at bytes) in
-    let room : 64 ≤ length bytes - at = c.loop-at-test.true in
-    let inside : at ≤ length bytes = c.loop-at.invariant.within in
-    let long : 64 ≤ length piece = omega (arith, length-take (at + 64 - at) (drop at bytes), length-drop at bytes, room) in
+pub is_positive-requires : goal.is_positive-requires
+is_positive-requires c =
+    lanes_long c.args.sentinel c.loop-at.at c.args.bytes.now _ (omega (arith, c.loop-at-test.true, c.loop-at.invariant.within)) c.load_masked.ensures
+
+pub loop-at-preserved-then-is_positive : goal.loop-at-preserved-then-is_positive
+loop-at-preserved-then-is_positive c =
+    let room : 64 ≤ length c.args.bytes.now - c.loop-at.at = c.loop-at-test.true in
     record {
-      within = omega (arith, room, inside);
-      none = λ k l. none_on c.args.sentinel at 64 (at + 64 - at) bytes c.loop-at.invariant.none (omega arith)
-          (λ j q. clear_byte c.args.sentinel piece j (omega (arith, q, long)) (c.is_clear.ensures c.if-is_clear.true j q)) k l;
+      within = omega (arith, room, c.loop-at.invariant.within);
+      none = none_then c.args.sentinel c.loop-at.at c.args.bytes.now _ c.loop-at.invariant.none room c.load_masked.ensures (c.is_positive.ensures c.if-is_positive.true);
     }
 
 pub loop-at-preserved : goal.loop-at-preserved

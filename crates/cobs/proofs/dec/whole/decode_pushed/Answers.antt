@@ -37,7 +37,7 @@ pub returns-in-Ok-Some-end : goal.returns-in-Ok-Some-end
 returns-in-Ok-Some-end c = record {
   answer =
       let e = (goal.at.returns-in-Ok-Some-end c).After-end in
-      then_whole c.args.source.now c.args.rest.now c.args.dest.now c.requires.rest (nothing e) c.in-Ok-Some-end.decoded (sym (ended e) ∙ c.in-Ok-Some-end.is ∙ ap (λ o. Ok o) c.in-Ok-Some-end.field-0-is) c.requires.within;
+      c.with_parsed.ensures ∙ then_whole c.args.source.now c.args.rest.now c.args.dest.now c.requires.rest (nothing e) c.in-Ok-Some-end.decoded (sym (ended e) ∙ c.in-Ok-Some-end.is ∙ ap (λ o. Ok o) c.in-Ok-Some-end.field-0-is) c.requires.within;
   dest = over (goal.at.returns-in-Ok-Some-end c).After-push;
 }
 
@@ -54,7 +54,7 @@ returns-in-Ok-Some c = record {
   answer =
       let whole : c.push.result ≡ Ok (Some c.in-Ok-Some.report) = c.in-Ok-Some.is ∙ ap (λ o. Ok o) c.in-Ok-Some.field-0-is in
       let within = rw whole at (unmasked c.push.ensures).within in
-      pushed_whole c.args.source.now c.args.rest.now c.args.dest.now c.requires.rest c.in-Ok-Some.report (sym (answered (goal.at.returns-in-Ok-Some c).After-push) ∙ whole) within.0 c.requires.within;
+      c.with_parsed-in-Ok-Some.ensures ∙ pushed_whole c.args.source.now c.args.rest.now c.args.dest.now c.requires.rest c.in-Ok-Some.report (sym (answered (goal.at.returns-in-Ok-Some c).After-push) ∙ whole) within.0 c.requires.within;
   dest = over (goal.at.returns-in-Ok-Some c).After-push;
 }
 

@@ -1,18 +1,20 @@
-use Rattle.std.proofs.Common.{◌≡◌, ◌-◌, ◌<◌, ◌≤◌, ◌∷◌, ◌++◌, ℕ, List, [], true, refl, length, take, drop, get_or, length-drop, sym, ◌∙◌, ap, arith}
-use Rattle.std.proofs.lemmas.List.{take_all, length-take-le}
+use Rattle.std.proofs.Common.{◌≡◌, ◌+◌, ◌-◌, ◌<◌, ◌≤◌, ◌∷◌, ◌++◌, ℕ, List, [], true, length, take, drop, get_or, length-drop, sym, ◌∙◌, ap, arith}
+use Rattle.std.proofs.lemmas.List.{drop_at}
 use Rattle.std.specs.Prelude.{bit_xor}
 use Rattle.std.proofs.lemmas.Nat.{xor_of_8}
 use Rattle.cobs.specs.Feeding.{stands_by}
 use Rattle.cobs.specs.Frames.{NoZero, part, part_from, after}
-use Rattle.cobs.specs.InPlace.{overwritten}
+use Rattle.cobs.specs.InPlace.{overwritten, written_over}
 use Rattle.cobs.specs.Sentinel.{masked}
 use Rattle.cobs.specs.Taking.{answer_behind}
 use Rattle.cobs.specs.Whole.{decoded_into}
+use Rattle.cobs.specs.declared.dec.state.DecoderState.{DecoderState}
 use Rattle.cobs.proofs.MaskingLemmas.{masked_length}
 use Rattle.cobs.proofs.ShortLemmas.{window_answer, window_over, code_first, all_behind}
 use Rattle.cobs.proofs.SourcesLemmas.{clear_at}
+use Rattle.cobs.proofs.WithinLemmas.{written_part}
 use Rattle.cobs.proofs.dec.whole.decode_short.Goals as goal
-use Rattle.cobs.proofs.dec.whole.decode_short.Goals.{After-decode_at_once-state}
+use Rattle.cobs.proofs.dec.whole.decode_short.Goals.{After-copy_over}
 
 code_positive : (sentinel : ℕ) (frame : List ℕ) → 0 < length frame → NoZero (masked sentinel frame) → 0 < bit_xor sentinel (get_or frame 0 0)
 code_positive s [] l h = absurd (omega arith)
@@ -22,65 +24,89 @@ bytes_positive : (sentinel : ℕ) (frame : List ℕ) → 0 < length frame → No
 bytes_positive s [] l h k q = absurd (omega arith)
 bytes_positive s (b ∷ frame) l h k q = clear_at (masked s frame) k h.1 (omega (arith, q, masked_length s frame))
 
-pub decode_at_once-state-requires-clause-nonzero : goal.decode_at_once-state-requires-clause-nonzero
-decode_at_once-state-requires-clause-nonzero c =
-    λ k q. rw (all_behind c.args.frame.now) (bytes_positive c.args.sentinel c.args.frame.now c.requires.some c.requires.clear k (omega (arith, q, ap length (all_behind c.args.frame.now))))
-
 pub overflow_sub-code : goal.overflow_sub-code
 overflow_sub-code c = code_positive c.args.sentinel c.args.frame.now c.requires.some c.requires.clear
 
 -- the code, what is behind it, and what was made of that
-module _ (c : After-decode_at_once-state) where
+module _ (c : After-copy_over) where
   abbrev key : ℕ
   key = c.args.sentinel
 
-  abbrev rest : List ℕ
-  rest = drop 1 c.args.frame.now
+  abbrev frame : List ℕ
+  frame = c.args.frame.now
+
+  abbrev old : List ℕ
+  old = c.args.dest.now
+
+  abbrev mid : List ℕ
+  mid = c.copy_over.new.buffer
 
   abbrev code : ℕ
-  code = bit_xor key (get_or c.args.frame.now 0 0)
+  code = bit_xor key (get_or frame 0 0)
 
   abbrev count : ℕ
-  count = length (take (length c.args.frame.now - 1) rest)
+  count = length frame - 1
 
-  all : take (length c.args.frame.now - 1) rest ≡ rest
-  all = take_all (length c.args.frame.now - 1) rest (omega (arith, length-drop 1 c.args.frame.now))
+  abbrev bytes : List ℕ
+  bytes = masked key (drop 1 frame)
 
-  first : masked key c.args.frame.now ≡ code ∷ masked key rest
-  first = code_first key c.args.frame.now c.requires.some
+  first : masked key frame ≡ code ∷ bytes
+  first = code_first key frame c.requires.some
 
-  few : length (masked key rest) ≤ 254
-  few = omega (arith, masked_length key rest, length-drop 1 c.args.frame.now, c.requires.few)
+  long : length bytes ≡ count
+  long = omega (arith, masked_length key (drop 1 frame), length-drop 1 frame)
 
-  some : 0 < code
-  some = code_positive key c.args.frame.now c.requires.some c.requires.clear
+  room : count ≤ length old
+  room = omega (arith, c.requires.room)
 
-  fits : code < 256
-  fits = xor_of_8 key (get_or c.args.frame.now 0 0) c.ranges.sentinel.fits (c.type_inv.frame 0).fits
+  put : mid ≡ written_over 0 bytes old
+  put = c.copy_over.ensures ∙ ap (λ b. written_over 0 (masked key b) old) (all_behind frame)
 
-  same : length (masked key rest) ≡ count
-  same = masked_length key rest ∙ ap length (sym all)
+  there : take count mid ≡ bytes
+  there = ap (take count) put ∙ written_part 0 count bytes old (sym long) (omega arith)
 
-  room : count ≤ length c.args.dest.now
-  room = omega (arith, same, masked_length key rest, length-drop 1 c.args.frame.now, c.requires.room)
+  behind : drop count mid ≡ drop count old
+  behind =
+      let end : 0 + length bytes ≡ count = omega (arith, long) in
+      ap (drop count) put
+      ∙ drop_at bytes (drop (0 + length bytes) old) count long
+      ∙ ap (λ j. drop j old) end
 
-  out : c.decode_at_once-state.new.out ≡ part_from (code - 1) true (masked key rest)
-  out = c.decode_at_once-state.ensures.out ∙ ap (λ b. part_from (code - 1) true (masked key b)) all
+  module _ (out : List ℕ) (state : DecoderState) (size : length out ≡ length (take count mid)) (o : out ≡ part_from (code - 1) true (take count mid)) (s : state ≡ stands_by (after (code - 1) true (take count mid))) where
+    few : length bytes ≤ 254
+    few = omega (arith, long, c.requires.few)
 
-  state : c.decode_at_once-state.result ≡ stands_by (after (code - 1) true (masked key rest))
-  state = c.decode_at_once-state.ensures.state ∙ ap (λ b. stands_by (after (code - 1) true (masked key b))) all
+    some : 0 < code
+    some = code_positive key frame c.requires.some c.requires.clear
 
-  long : length c.decode_at_once-state.new.out ≡ count
-  long = omega (arith, c.decode_at_once-state.auto.out, length-take-le count c.args.dest.now room)
+    fits : code < 256
+    fits = xor_of_8 key (get_or frame 0 0) c.ranges.sentinel.fits (c.type_inv.frame 0).fits
 
-  answer : answer_behind c.decode_at_once-state.result count ≡ decoded_into (length c.args.dest.now) (masked key c.args.frame.now)
-  answer = window_answer (masked key c.args.frame.now) (masked key rest) code first few some fits c.decode_at_once-state.new.out c.args.dest.now count c.decode_at_once-state.result long room out state
+    size_is : length out ≡ count
+    size_is = size ∙ ap length there ∙ long
 
-  over : (new : List ℕ) → new ≡ c.decode_at_once-state.new.out ++ drop count c.args.dest.now → new ≡ overwritten (part (masked key c.args.frame.now)) c.args.dest.now
-  over = window_over (masked key c.args.frame.now) (masked key rest) code first few some fits c.decode_at_once-state.new.out c.args.dest.now count c.decode_at_once-state.result long room out state
+    out_is : out ≡ part_from (code - 1) true bytes
+    out_is = o ∙ ap (part_from (code - 1) true) there
+
+    state_is : state ≡ stands_by (after (code - 1) true bytes)
+    state_is = s ∙ ap (λ b. stands_by (after (code - 1) true b)) there
+
+    answer : answer_behind state count ≡ decoded_into (length old) (masked key frame)
+    answer = window_answer (masked key frame) bytes code first few some fits out old count state size_is room out_is state_is
+
+    over : out ++ drop count mid ≡ overwritten (part (masked key frame)) old
+    over = window_over (masked key frame) bytes code first few some fits out old count state size_is room out_is state_is _ (ap (λ d. out ++ d) behind)
+
+pub put_zeros-state-requires-clause-nonzero : goal.put_zeros-state-requires-clause-nonzero
+put_zeros-state-requires-clause-nonzero c =
+    let e = (goal.at.put_zeros-state-requires-clause-nonzero c).After-copy_over in
+    λ k q. rw (there e) (bytes_positive (key e) (frame e) c.requires.some c.requires.clear k (omega (arith, q, ap length (there e), long e, length-drop 1 (frame e))))
 
 pub returns : goal.returns
-returns c = record {
-  answer = c.answer_behind.ensures ∙ answer (goal.at.returns c).After-decode_at_once-state;
-  dest = over (goal.at.returns c).After-decode_at_once-state _ refl;
-}
+returns c =
+    let e = (goal.at.returns c).After-copy_over in
+    let z = c.put_zeros-state in
+    record {
+      answer = c.answer_behind.ensures ∙ answer e z.new.out z.result z.auto.out z.ensures.out z.ensures.state;
+      dest = over e z.new.out z.result z.auto.out z.ensures.out z.ensures.state;
+    }

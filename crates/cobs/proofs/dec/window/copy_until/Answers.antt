@@ -4,8 +4,8 @@ use Rattle.std.proofs.lemmas.List.{take-take, take-append-drop, take_all}
 use Rattle.cobs.specs.InPlace.{written_over}
 use Rattle.cobs.specs.Sentinel.{masked}
 use Rattle.cobs.proofs.MaskingLemmas.{masked_take, masked_length}
-use Rattle.cobs.proofs.SearchingLemmas.{none_on, end_on}
-use Rattle.cobs.proofs.SourcesLemmas.{clear_byte}
+use Rattle.cobs.proofs.LanesLemmas.{lanes_long}
+use Rattle.cobs.proofs.SearchingLemmas.{none_on, none_then, end_on}
 use Rattle.cobs.proofs.WrittenLemmas.{written_next}
 use Rattle.cobs.proofs.dec.window.copy_until.Goals as goal
 
@@ -23,29 +23,26 @@ loop-at-init c = record {
   written = sym (ap (λ j. take c.args.place c.args.buffer.now ++ drop j c.args.buffer.now) (omega arith) ∙ take-append-drop c.args.place c.args.buffer.now);
 }
 
-pub loop-at-preserved-then-copy_if_clear : goal.loop-at-preserved-then-copy_if_clear
-loop-at-preserved-then-copy_if_clear c =
+pub is_positive-requires : goal.is_positive-requires
+is_positive-requires c =
+    lanes_long c.args.sentinel c.loop-at.at c.args.bytes.now _ (omega (arith, c.loop-at-test.true, c.loop-at.invariant.within)) c.load_masked.ensures
+
+pub loop-at-preserved-then-is_positive : goal.loop-at-preserved-then-is_positive
+loop-at-preserved-then-is_positive c =
     let s = c.args.sentinel in
     let at = c.loop-at.at in
     let bytes = c.args.bytes.now in
-    let m : ℕ = at + 64 - at in
-    let part = take m (drop at bytes) in
-    let long : length part ≡ 64 = omega (arith, length-take m (drop at bytes), length-drop at bytes, c.loop-at-test.true, c.loop-at.invariant.within) in
-    let clear = c.copy_if_clear.ensures.clear c.if-copy_if_clear.true in
-    let all : take 64 (masked s part) ≡ masked s part = take_all 64 (masked s part) (omega (arith, masked_length s part, long)) in
+    let room : 64 ≤ length bytes - at = c.loop-at-test.true in
+    let front = take 64 (drop at bytes) in
+    let long : length front ≡ 64 = omega (arith, length-take 64 (drop at bytes), length-drop at bytes, room) in
+    let all : take 64 (masked s front) ≡ masked s front = take_all 64 (masked s front) (omega (arith, masked_length s front, long)) in
     record {
-      within = omega (arith, c.loop-at-test.true, c.loop-at.invariant.within);
-      none = λ k l. none_on s at 64 m bytes c.loop-at.invariant.none (omega arith) (λ j q. clear_byte s part j (omega (arith, q, long)) (clear j q)) k l;
+      within = omega (arith, room, c.loop-at.invariant.within);
+      none = none_then s at bytes _ c.loop-at.invariant.none room c.load_masked.ensures (c.is_positive.ensures c.if-is_positive.true);
       written =
-          more s c.args.place at m 64 bytes c.args.buffer.now c.loop-at.buffer c.copy_if_clear.new.buffer c.loop-at.invariant.written (omega arith) (omega (arith, c.loop-at-test.true, c.loop-at.invariant.within)) c.requires
-          (c.copy_if_clear.ensures.copied c.if-copy_if_clear.true ∙ ap (λ b. written_over (c.args.place + at) b c.loop-at.buffer) (sym all));
+          more s c.args.place at 64 64 bytes c.args.buffer.now c.loop-at.buffer c.copy_64.new.to c.loop-at.invariant.written (omega arith) (omega (arith, room, c.loop-at.invariant.within)) c.requires
+          (c.copy_64.ensures.copied ∙ ap (λ b. written_over (c.args.place + at) b c.loop-at.buffer) (sym all));
     }
-
--- what was written of a part that may hold the sentinel
-part_written : (s place at m n : ℕ) (bytes old mid again new : List ℕ) → mid ≡ written_over place (masked s (take at bytes)) old → again ≡ mid → n ≤ m → at + n ≤ length bytes → place + length bytes ≤ length old
-    → new ≡ written_over (place + at) (take n (masked s (take m (drop at bytes)))) again → new ≡ written_over place (masked s (take (at + n) bytes)) old
-part_written s place at m n bytes old mid again new e same few w room h =
-    more s place at m n bytes old mid new e few w room (h ∙ ap (written_over (place + at) (take n (masked s (take m (drop at bytes))))) same)
 
 pub loop-at-preserved : goal.loop-at-preserved
 loop-at-preserved c =
@@ -60,7 +57,7 @@ loop-at-preserved c =
       within = omega (arith, c.loop-at-test.true, c.loop-at.invariant.within);
       none = λ k l. none_on s at n m bytes c.loop-at.invariant.none (omega (arith, all)) c.copy_few_until-n.ensures.stops.none k (omega (arith, l, all));
       written =
-          part_written s c.args.place at m n bytes c.args.buffer.now c.loop-at.buffer c.copy_if_clear.new.buffer c.copy_few_until-n.new.buffer c.loop-at.invariant.written (c.copy_if_clear.ensures.same c.if-copy_if_clear.false) (omega (arith, all)) (omega (arith, all, c.loop-at-test.true, c.loop-at.invariant.within)) c.requires c.copy_few_until-n.ensures.buffer
+          more s c.args.place at m n bytes c.args.buffer.now c.loop-at.buffer c.copy_few_until-n.new.buffer c.loop-at.invariant.written (omega (arith, all)) (omega (arith, all, c.loop-at-test.true, c.loop-at.invariant.within)) c.requires c.copy_few_until-n.ensures.buffer
           ∙ ap (λ j. written_over c.args.place (masked s (take (at + j) bytes)) c.args.buffer.now) all;
     }
 
@@ -69,7 +66,7 @@ returns-then-n-lt64-clause-buffer c =
     let s = c.args.sentinel in
     let at = c.loop-at.at in
     let n = c.copy_few_until-n.result in
-    part_written s c.args.place at (at + 64 - at) n c.args.bytes.now c.args.buffer.now c.loop-at.buffer c.copy_if_clear.new.buffer c.copy_few_until-n.new.buffer c.loop-at.invariant.written (c.copy_if_clear.ensures.same c.if-copy_if_clear.false) (omega (arith, c.if-n-lt64.true)) (omega (arith, c.if-n-lt64.true, c.loop-at-test.true, c.loop-at.invariant.within)) c.requires c.copy_few_until-n.ensures.buffer
+    more s c.args.place at (at + 64 - at) n c.args.bytes.now c.args.buffer.now c.loop-at.buffer c.copy_few_until-n.new.buffer c.loop-at.invariant.written (omega (arith, c.if-n-lt64.true)) (omega (arith, c.if-n-lt64.true, c.loop-at-test.true, c.loop-at.invariant.within)) c.requires c.copy_few_until-n.ensures.buffer
     ∙ ap (λ b. written_over c.args.place b c.args.buffer.now) (sym (masked_take s (at + n) c.args.bytes.now))
 
 pub returns-clause-buffer : goal.returns-clause-buffer
@@ -87,29 +84,8 @@ overflow_sub-bytes c = grind (arith, common_steps)
 pub overflow_add-at : goal.overflow_add-at
 overflow_add-at c = grind (arith, common_steps)
 
-pub slice_bounds-copy_if_clear-count : goal.slice_bounds-copy_if_clear-count
-slice_bounds-copy_if_clear-count c = grind (arith, common_steps)
-
-pub slice_bounds-copy_if_clear-start : goal.slice_bounds-copy_if_clear-start
-slice_bounds-copy_if_clear-start c = grind (arith, common_steps)
-
-pub slice_bounds-copy_if_clear-end : goal.slice_bounds-copy_if_clear-end
-slice_bounds-copy_if_clear-end c = grind (arith, common_steps)
-
 pub overflow_add-place : goal.overflow_add-place
 overflow_add-place c = grind (arith, common_steps)
-
-pub copy_if_clear-requires-clause-count : goal.copy_if_clear-requires-clause-count
-copy_if_clear-requires-clause-count c = grind (arith, common_steps)
-
-pub copy_if_clear-requires-clause-room : goal.copy_if_clear-requires-clause-room
-copy_if_clear-requires-clause-room c = grind (arith, common_steps)
-
-pub overflow_add-at-then-copy_if_clear : goal.overflow_add-at-then-copy_if_clear
-overflow_add-at-then-copy_if_clear c = grind (arith, common_steps)
-
-pub loop-at-smaller-then-copy_if_clear : goal.loop-at-smaller-then-copy_if_clear
-loop-at-smaller-then-copy_if_clear c = grind (arith, common_steps)
 
 pub overflow_add-at-in-loop-at : goal.overflow_add-at-in-loop-at
 overflow_add-at-in-loop-at c = grind (arith, common_steps)

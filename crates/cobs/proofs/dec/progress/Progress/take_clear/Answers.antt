@@ -1,29 +1,46 @@
 use Rattle.std.proofs.lemmas.Grind.{common_steps}
-use Rattle.std.proofs.Common.{◌≡◌, ◌≤◌, length, ap, sym, ◌∙◌, subst, arith}
+use Rattle.std.proofs.Common.{◌≡◌, ◌+◌, ◌-◌, ◌≤◌, true, length, take, ap, sym, ◌∙◌, subst, arith}
+use Rattle.std.proofs.lemmas.List.{length-take-le}
+use Rattle.cobs.specs.Feeding.{stands_by}
+use Rattle.cobs.specs.Frames.{part_from, after}
+use Rattle.cobs.specs.Sentinel.{masked}
 use Rattle.cobs.specs.Taking.{Owes}
 use Rattle.cobs.specs.declared.dec.state.DecoderState.TheVariants.{GrabChain}
-use Rattle.cobs.proofs.AtOnceLemmas.{none_in, nonzero_in, window_written, chain_written}
-use Rattle.cobs.proofs.WindowsLemmas.{part_written}
+use Rattle.cobs.proofs.AtOnceLemmas.{none_in, nonzero_in, written_there, window_written, chain_written}
+use Rattle.cobs.proofs.MaskingLemmas.{masked_length}
+use Rattle.cobs.proofs.WithinLemmas.{written_anew}
 use Rattle.cobs.proofs.TakesLemmas.{none_front, owes_idle, owes_chain}
 use Rattle.cobs.proofs.dec.progress.Progress.take_clear.Goals as goal
 
-pub decode_at_once-self-requires-clause-nonzero : goal.decode_at_once-self-requires-clause-nonzero
-decode_at_once-self-requires-clause-nonzero c =
-    nonzero_in c.args.sentinel c.min-n.result c.args.bytes.now
-    (none_in c.args.sentinel c.min-n.result c.args.bytes.now (omega arith) c.requires.clear)
+pub put_zeros-self-requires-clause-nonzero : goal.put_zeros-self-requires-clause-nonzero
+put_zeros-self-requires-clause-nonzero c = λ j l.
+    let n = c.min-n.result in
+    let key = c.args.sentinel in
+    let bytes = c.args.bytes.now in
+    let len = c.args.self.now.len in
+    let within : n ≤ length bytes = omega arith in
+    let is = written_there key len n (len + n - len) bytes c.args.buffer.now _ within (omega (arith, c.requires.room, within)) c.copy_over.ensures (omega arith) in
+    rw is (nonzero_in key n bytes (none_in key n bytes within c.requires.clear) j (omega (arith, l, ap length is, masked_length key (take n bytes))))
 
 pub returns-in-Grab-clause-front : goal.returns-in-Grab-clause-front
 returns-in-Grab-clause-front c p s =
     let n = c.min-n.result in
-    let piece = c.args.bytes.now in
-    let within : n ≤ length piece = omega arith in
-    window_written c.args.sentinel p piece c.args.buffer.now _ c.args.self.now n c.in-Grab.left s
-    within (none_in c.args.sentinel n piece within c.requires.clear)
-    (omega (arith, c.requires.room, within)) (omega arith)
-    c.decode_at_once-self.new.out c.decode_at_once-self.result c.in-Grab.is
-    c.decode_at_once-self.ensures.out (omega arith)
-    (part_written c.args.buffer.now c.decode_at_once-self.new.out c.args.self.now.len _
-    (omega arith)) c.decode_at_once-self.ensures.state
+    let key = c.args.sentinel in
+    let bytes = c.args.bytes.now in
+    let old = c.args.buffer.now in
+    let len = c.args.self.now.len in
+    let left = c.in-Grab.left in
+    let mid = c.copy_over.new.buffer in
+    let within : n ≤ length bytes = omega arith in
+    let fits : len + n ≤ length old = omega (arith, c.requires.room, within) in
+    let is = written_there key len n (len + n - len) bytes old mid within fits c.copy_over.ensures (omega arith) in
+    let first : length (masked key (take n bytes)) ≡ n = masked_length key (take n bytes) ∙ length-take-le n bytes within in
+    let z = c.put_zeros-self in
+    let count : length z.new.out ≡ n = z.auto.out ∙ ap length is ∙ first in
+    window_written key p bytes old _ c.args.self.now n left s within (none_in key n bytes within c.requires.clear) fits (omega arith) z.new.out z.result c.in-Grab.is
+    (z.ensures.out ∙ ap (part_from left true) is) count
+    (written_anew len (len + n - len) _ z.new.out old mid c.copy_over.ensures (count ∙ sym first) (omega (arith, count)) (omega (arith, first, fits)))
+    (z.ensures.state ∙ ap (λ b. stands_by (after left true b)) is)
 
 pub returns-in-GrabChain-clause-front : goal.returns-in-GrabChain-clause-front
 returns-in-GrabChain-clause-front c p s =
@@ -58,26 +75,8 @@ returns-in_default-2-clause-coded c l z = subst Owes (sym c.in_default.is) owes_
 pub min-n-requires : goal.min-n-requires
 min-n-requires c = grind (arith, common_steps)
 
-pub slice_bounds-decode_at_once-end : goal.slice_bounds-decode_at_once-end
-slice_bounds-decode_at_once-end c = grind (arith, common_steps)
-
 pub overflow_add-len : goal.overflow_add-len
 overflow_add-len c = grind (arith, common_steps)
-
-pub slice_bounds-decode_at_once-count : goal.slice_bounds-decode_at_once-count
-slice_bounds-decode_at_once-count c = grind (arith, common_steps)
-
-pub slice_bounds-decode_at_once-start : goal.slice_bounds-decode_at_once-start
-slice_bounds-decode_at_once-start c = grind (arith, common_steps)
-
-pub slice_bounds-decode_at_once-end-in-Grab : goal.slice_bounds-decode_at_once-end-in-Grab
-slice_bounds-decode_at_once-end-in-Grab c = grind (arith, common_steps)
-
-pub decode_at_once-self-requires-clause-long : goal.decode_at_once-self-requires-clause-long
-decode_at_once-self-requires-clause-long c = grind (arith, common_steps)
-
-pub decode_at_once-self-requires-clause-short : goal.decode_at_once-self-requires-clause-short
-decode_at_once-self-requires-clause-short c = grind (arith, common_steps)
 
 pub overflow_add-self : goal.overflow_add-self
 overflow_add-self c = grind (arith, common_steps)
