@@ -73,20 +73,6 @@ fn put_codes_of_zeros(dest: &mut [u8], at: Place, n: usize, sentinel: u8) -> usi
     at.len + n - 1
 }
 
-// The same as `put_codes_marked`: if all are zero they are filled at once.
-#[inline(always)]
-fn put_codes_of_marks(dest: &mut [u8], at: Place, n: usize, marks: u64, sentinel: u8) -> usize
-    requires block { FewInBlock dest.old at.code_at at.len n }
-    requires marks { Marks marks 0 (masked sentinel (take n (drop at.len dest.old))) }
-    ensures { CodedThere sentinel dest.old at n dest.new result }
-{
-    if marks != 0 && n <= marks.trailing_ones() as usize {
-        put_codes_of_zeros(dest, at, n, sentinel)
-    } else {
-        put_codes_marked(dest, at, n, marks, sentinel)
-    }
-}
-
 // Writes a code at each zero of n bytes that are in the buffer, for the sentinel zero, and returns the position of the
 // last code. Of fewer than 64 each zero gets its code: filling them takes a call.
 #[inline(always)]
@@ -103,8 +89,8 @@ pub(crate) fn put_codes_standing(dest: &mut [u8], code_at: usize, from: usize, n
 }
 
 // Copies at most 64 bytes into the open block and writes a code at each of their zeros. Returns the position of the
-// last code. The copy for 0 first looks whether 64 bytes have none; otherwise zeros are likely, and are marked at
-// once. Each caller has a copy of its own by its number.
+// last code; if all are zero they are filled at once. The copy for 0 first looks whether 64 bytes have none; otherwise
+// zeros are likely, and are marked at once. Each caller has a copy of its own by its number.
 #[inline(always)]
 fn put_some<const WAY: usize, const CALL: usize>(
     dest: &mut [u8],
@@ -116,15 +102,19 @@ fn put_some<const WAY: usize, const CALL: usize>(
     requires few { length bytes.now ≤ 64 }
     ensures { PutThere sentinel dest.old at bytes.now dest.new result }
 {
-    if WAY == 0 && bytes.len() == 64 {
+    let n = bytes.len();
+    let marks = if WAY == 0 && n == 64 {
         if is_positive(copy_64(bytes, 0, dest, at.len, sentinel)) {
             return at.code_at;
         }
-        let marks = zeros_of_ends::<32>(bytes, 0);
-        return put_codes_of_marks(dest, at, bytes.len(), marks, sentinel);
+        zeros_of_ends::<32>(bytes, 0)
+    } else {
+        copy_marked(bytes, dest, at.len, sentinel)
+    };
+    if marks != 0 && n <= marks.trailing_ones() as usize {
+        return put_codes_of_zeros(dest, at, n, sentinel);
     }
-    let marks = copy_marked(bytes, dest, at.len, sentinel);
-    put_codes_of_marks(dest, at, bytes.len(), marks, sentinel)
+    put_codes_marked(dest, at, n, marks, sentinel)
 }
 
 // The same of any bytes.
