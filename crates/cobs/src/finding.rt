@@ -11,7 +11,7 @@ use crate::moves::{is_clear_255, is_positive, load_masked, zeros_of_some};
 
 // How many of a few bytes come before the first sentinel.
 #[inline(always)]
-pub(crate) fn before_near(bytes: &[u8], sentinel: u8) -> usize
+fn before_near(bytes: &[u8], sentinel: u8) -> usize
     ensures { ComeBefore sentinel bytes.now result }
 {
     for (end, byte) in bytes.iter().enumerate() {

@@ -27,10 +27,7 @@ fn decode_short_in_place(buf: &mut [u8], end: usize, sentinel: u8) -> Reported
     ensures { DecodesInPlace buf.old (stretch (masked sentinel buf.old)) buf.new result }
 {
     if end == 0 {
-        return Ok(DecodeReport {
-            parsed: 0,
-            decoded: 0,
-        });
+        return with_parsed(Ok(0), 0);
     }
     let code = sentinel ^ buf[0];
     let len = end - 1;

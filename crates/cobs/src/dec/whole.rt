@@ -345,21 +345,6 @@ fn decode_stretch_else(source: &[u8], dest: &mut [u8], sentinel: u8) -> Decoded
     apart(decode_stretch(source, dest, sentinel))
 }
 
-// As `decode_with_sentinel`, by the copy of that number: that for zero alone XORs nothing.
-#[inline(always)]
-fn decode_before<const CALL: usize, const COPY: usize>(
-    source: &[u8],
-    dest: &mut [u8],
-    sentinel: u8,
-) -> Decoded
-    ensures { DecodesInto dest.old (stretch (masked sentinel source.now)) dest.new result }
-{
-    match decode_part::<CALL, COPY>(source, dest, sentinel) {
-        Some((answer, _)) => answer,
-        None => decode_stretch_else(source, dest, sentinel),
-    }
-}
-
 /// Decodes the bytes before the first sentinel, or all if there is none, each XORed with it, and returns the
 /// message's length.
 ///
@@ -382,10 +367,16 @@ pub fn decode_with_sentinel(
         → length dest.old < length m) }
     ensures dest { dest.new ≡ overwritten (part (stretch (masked sentinel source.now))) dest.old }
 {
-    if sentinel == 0 {
-        return decode_before::<1, 0>(source, dest, sentinel);
+    // A copy for zero alone XORs nothing.
+    let part = if sentinel == 0 {
+        decode_part::<1, 0>(source, dest, sentinel)
+    } else {
+        decode_part::<2, 1>(source, dest, sentinel)
+    };
+    match part {
+        Some((answer, _)) => answer,
+        None => decode_stretch_else(source, dest, sentinel),
     }
-    decode_before::<2, 1>(source, dest, sentinel)
 }
 
 /// Decodes a complete frame, without its sentinel, each byte XORed with it, and returns the message's length.

@@ -7,7 +7,7 @@ ghost use Rattle.cobs.specs.Sentinel.{masked, ComeBefore};
 
 use super::state::DecoderState;
 use crate::codes::lowest;
-use crate::finding::{before_few, before_near};
+use crate::finding::before_few;
 use crate::moves::{
     are_all, copy_64, copy_clear_some, copy_few, copy_over, is_positive, load_masked,
 };
@@ -77,9 +77,7 @@ pub(crate) fn copy_frame_until<const CALL: usize, const SHORT: bool>(
         return copy_until(bytes, buffer, place, sentinel);
     }
     if bytes.len() < 4 {
-        let n = before_near(bytes, sentinel);
-        copy_few(&bytes[..n], buffer, place, sentinel);
-        return n;
+        return copy_few_until(bytes, buffer, place, sentinel);
     }
     let marks = copy_clear_some(bytes, buffer, place, sentinel);
     if marks == 0 {

@@ -46,29 +46,12 @@ fn encode_long(buffer: &mut [u8], n: usize, sentinel: u8) -> usize
     encode_standing(buffer, n, sentinel)
 }
 
-// The same, compiled into both: in the first a message is known to be short.
+// The same, compiled into both: in the first a message is known to be short, and takes no step of the loop.
 #[inline(always)]
 fn encode_standing(buffer: &mut [u8], n: usize, sentinel: u8) -> usize
     requires few { n ≤ 254 }
     requires room { n < length buffer.old }
     ensures { EncodesStanding sentinel buffer.old n buffer.new result }
-{
-    let code_at = put_all_codes(buffer, n);
-    let end = n + 1;
-    buffer[code_at] = (end - code_at) as u8;
-    if sentinel != 0 {
-        mask(&mut buffer[..end], sentinel);
-    }
-    end
-}
-
-// Writes a code at each zero of the message, and returns the position of the last code. A short message takes no step
-// of the loop.
-#[inline(always)]
-fn put_all_codes(buffer: &mut [u8], n: usize) -> usize
-    requires few { n ≤ 254 }
-    requires room { n < length buffer.old }
-    ensures { Coding buffer.new result (n + 1) (take n (drop 1 buffer.old)) [] }
 {
     let mut code_at: usize = 0;
     let mut done: usize = 0;
@@ -76,8 +59,13 @@ fn put_all_codes(buffer: &mut [u8], n: usize) -> usize
         code_at = put_codes_standing(buffer, code_at, done + 1, 64);
         done += 64;
     }
-    if done == n {
-        return code_at;
+    if done < n {
+        code_at = put_codes_standing(buffer, code_at, done + 1, n - done);
     }
-    put_codes_standing(buffer, code_at, done + 1, n - done)
+    let end = n + 1;
+    buffer[code_at] = (end - code_at) as u8;
+    if sentinel != 0 {
+        mask(&mut buffer[..end], sentinel);
+    }
+    end
 }

@@ -123,14 +123,9 @@ fn length_of_blocks(source: &[u8]) -> usize
 fn fits(source: &[u8], room: usize) -> bool
     ensures { IsTrue result ↔ (length (shortest_frame source.now) ≤ room) }
 {
-    if room <= source.len() {
-        return false;
-    }
-    // One more byte suffices for these.
-    if source.len() <= 254 {
-        return true;
-    }
-    max_encoding_length(source.len()) <= room || encoded_length(source) <= room
+    let n = source.len();
+    // One more byte suffices for up to 254.
+    n < room && (n <= 254 || max_encoding_length(n) <= room || encoded_length(source) <= room)
 }
 
 /// Encodes a message into `dest`, and returns the length of its shortest frame.

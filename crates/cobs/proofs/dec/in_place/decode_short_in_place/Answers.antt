@@ -101,7 +101,7 @@ pub returns-then-end-eq0 : goal.returns-then-end-eq0
 returns-then-end-eq0 c = record {
   answer =
       let ends : 0 < length c.args.buf.now → get_or c.args.buf.now 0 0 ≡ c.args.sentinel = rw c.if-end-eq0.true at c.requires.stops.end in
-      ap in_place (sym (none_at c.args.sentinel c.args.buf.now ends));
+      c.with_parsed.ensures ∙ ap in_place (sym (none_at c.args.sentinel c.args.buf.now ends));
   buffer =
       let ends : 0 < length c.args.buf.now → get_or c.args.buf.now 0 0 ≡ c.args.sentinel = rw c.if-end-eq0.true at c.requires.stops.end in
       sym (ap (λ f. overwritten (part f) c.args.buf.now) (none_at c.args.sentinel c.args.buf.now ends) ∙ ap (λ m. m ++ c.args.buf.now) (take_all (length c.args.buf.now) [] (omega arith)));
@@ -112,7 +112,7 @@ pub returns : goal.returns
 returns c = record {
   answer =
       let r = c.requires in
-      c.with_parsed.ensures ∙ ap (with_parsed c.args.end) c.answer_behind.ensures
+      c.with_parsed-2.ensures ∙ ap (with_parsed c.args.end) c.answer_behind.ensures
       ∙ answer c.args.sentinel c.args.end c.args.buf.now c.move_down.new.buffer (positive c.args.end c.if-end-eq0.false) r.stops.within r.stops.none r.stops.end c.move_down.ensures r.few (r.bytes 0) c.ranges.sentinel.fits c.put_zeros-state.new.out c.put_zeros-state.result c.put_zeros-state.auto.out c.put_zeros-state.ensures.out c.put_zeros-state.ensures.state;
   buffer =
       let r = c.requires in
@@ -144,5 +144,5 @@ put_zeros-state-requires-clause-short c = grind (arith, common_steps)
 pub answer_behind-requires : goal.answer_behind-requires
 answer_behind-requires c = grind (arith, common_steps)
 
-pub with_parsed-requires : goal.with_parsed-requires
-with_parsed-requires c = grind (arith, common_steps)
+pub with_parsed-requires-2 : goal.with_parsed-requires-2
+with_parsed-requires-2 c = grind (arith, common_steps)

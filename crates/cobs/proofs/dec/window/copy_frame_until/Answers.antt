@@ -8,12 +8,6 @@ use Rattle.cobs.proofs.MaskingLemmas.{masked_length, masked_take}
 use Rattle.cobs.proofs.SourcesLemmas.{marked_byte, unmarked_byte}
 use Rattle.cobs.proofs.dec.window.copy_frame_until.Goals as goal
 
-pub returns-then-bytes-lt4-clause-buffer : goal.returns-then-bytes-lt4-clause-buffer
-returns-then-bytes-lt4-clause-buffer g c = c.copy_few.ensures ∙ ap (λ b. written_over c.args.place b c.args.buffer.now) (sym (masked_take c.args.sentinel c.before_near-n.result c.args.bytes.now))
-
-pub returns-then-bytes-lt4-clause-stops : goal.returns-then-bytes-lt4-clause-stops
-returns-then-bytes-lt4-clause-stops g c = c.before_near-n.ensures
-
 pub returns-then-marks-eq0-clause-stops : goal.returns-then-marks-eq0-clause-stops
 returns-then-marks-eq0-clause-stops g c = record {
   within = omega arith;
@@ -39,6 +33,6 @@ returns-clause-stops g c =
 
 pub returns-clause-buffer : goal.returns-clause-buffer
 returns-clause-buffer g c =
-    c.copy_few-2.ensures
+    c.copy_few.ensures
     ∙ ap (written_over c.args.place (masked c.args.sentinel _)) (c.copy_clear_some-marks.ensures.same c.if-marks-eq0.false)
     ∙ ap (λ b. written_over c.args.place b c.args.buffer.now) (sym (masked_take c.args.sentinel c.lowest-n.result.0 c.args.bytes.now))

@@ -1,6 +1,6 @@
 use Rattle.std.proofs.Common.{◌+◌, ◌-◌, ◌≤◌, take, drop}
 use Rattle.cobs.specs.Codes.{Coding}
-use Rattle.cobs.proofs.enc.in_place.put_all_codes.Given as goal
+use Rattle.cobs.proofs.enc.in_place.encode_standing.Given as goal
 
 abbrev pub invariant-loop-done : goal.invariant-loop-done
 invariant-loop-done l = record {
