@@ -201,20 +201,6 @@ pub fn decode_in_place_with_sentinel(buf: &mut [u8], sentinel: u8) -> Result<usi
     decode_in_place(buf)
 }
 
-// As `decode_in_place_report_with_sentinel`, of bytes without a sentinel: of a short frame none is searched.
-#[inline(always)]
-fn decode_clear_report(frame: &mut [u8], sentinel: u8) -> Reported
-    requires { NoZero (masked sentinel frame.old) }
-    ensures { DecodesInPlace frame.old (stretch (masked sentinel frame.old)) frame.new result }
-{
-    all_bytes(frame);
-    let end = frame.len();
-    if 255 < end {
-        return decode_long_apart::<1>(frame, sentinel);
-    }
-    decode_short_in_place(frame, end, sentinel)
-}
-
 /// Decodes a complete frame in place, without its sentinel, each byte XORed with it, and returns the message's length.
 ///
 /// The message is then at the start of the buffer. The result and the buffer are those of
@@ -243,8 +229,15 @@ pub fn decode_clear_in_place(frame: &mut [u8], sentinel: u8) -> Result<usize, De
     ensures buffer { frame.new ≡ overwritten (part (masked sentinel frame.old)) frame.old }
     ensures within { IfOk result (λ n. n ≤ length frame.old) }
 {
-    match decode_clear_report(frame, sentinel) {
-        Ok(told) => Ok(told.frame_size()),
+    all_bytes(frame);
+    let end = frame.len();
+    let decoded = if 255 < end {
+        decode_long_apart::<1>(frame, sentinel)
+    } else {
+        decode_short_in_place(frame, end, sentinel)
+    };
+    match decoded {
+        Ok(report) => Ok(report.frame_size()),
         Err(error) => Err(error),
     }
 }

@@ -119,23 +119,6 @@ pub(crate) fn decode_near<const CALL: usize, const SHORT: bool>(
     (answer_behind(state, n), n + 1)
 }
 
-// Decodes a frame of one window, each byte of it XORed with the sentinel, whose bytes all fit: nothing is searched, since no
-// byte of it is the sentinel. After the code of a full block there is none that isn't its.
-#[inline(always)]
-pub(crate) fn decode_short(frame: &[u8], dest: &mut [u8], sentinel: u8) -> Decoded
-    requires some { 0 < length frame.now }
-    requires few { length frame.now ≤ 255 }
-    requires room { length frame.now ≤ length dest.old + 1 }
-    requires clear { NoZero (masked sentinel frame.now) }
-    ensures { DecodesInto dest.old (masked sentinel frame.now) dest.new result }
-{
-    let code = sentinel ^ frame[0];
-    let len = frame.len() - 1;
-    copy_over(&frame[1..], dest, 0, sentinel);
-    let state = put_zeros(&mut dest[..len], code - 1);
-    answer_behind(state, len)
-}
-
 // Takes the bytes of a frame, each XORed with the sentinel, and also counts those that don't fit: anew, since a push that
 // fails doesn't return where.
 fn take_frame(frame: &[u8], dest: &mut [u8], sentinel: u8) -> Progress
@@ -408,7 +391,10 @@ pub fn decode_clear(frame: &[u8], dest: &mut [u8], sentinel: u8) -> Result<usize
     ensures within { IfOk result (λ n. n ≤ length dest.old) }
 {
     if has_room(frame, dest.len()) && is_short(frame, sentinel) {
-        return decode_short(frame, dest, sentinel);
+        let len = frame.len() - 1;
+        copy_over(&frame[1..], dest, 0, sentinel);
+        let state = put_zeros(&mut dest[..len], (sentinel ^ frame[0]) - 1);
+        return answer_behind(state, len);
     }
     apart(decode_with_sentinel(frame, dest, sentinel))
 }
