@@ -5,9 +5,6 @@
 //! are found by masks, and 64 zeros are filled at once. Bytes are written XORed with the sentinel.
 //!
 //! If the bytes don't fit, the position has length 0, which no frame has: an `Option` would go through memory.
-//!
-//! Rejected: searching all input, which is quadratic without zeros; a search and a copy for each run, which is slow for
-//! dense zeros; inspecting before copying, a third slower without zeros; a separate step for 64 bytes.
 ghost use Rattle.std.specs.Prelude.{◌≡◌, ◌≢◌, ℕ, ◌+◌, ◌<◌, ◌≤◌, [], length, take, drop, slice_index, true};
 ghost use Rattle.std.specs.Int.{bit_at};
 ghost use Rattle.cobs.specs.Codes.{InBlock, FewInBlock, Coded, Marks, CodedThere, PutThere};

@@ -74,14 +74,6 @@ fn copy_ends<const W: usize>(bytes: &[u8], buffer: &mut [u8], place: usize, sent
 ///
 /// # Requires
 /// All of them fit.
-///
-/// # Example
-/// ```rust
-/// let mut buffer = [7; 4];
-/// let count = copy_until_sentinel(&[3, 2, 10, 4], &mut buffer, 0, 10);
-/// check(&rt, count == 2);
-/// check(&rt, are_equal(&buffer, &[9, 8, 7, 7]));
-/// ```
 #[inline(always)]
 pub fn copy_until_sentinel(bytes: &[u8], buffer: &mut [u8], place: usize, sentinel: u8) -> usize
     requires room { place + length bytes.now ≤ length buffer.old }
@@ -148,13 +140,6 @@ pub(crate) fn zero_over(buffer: &mut [u8], place: usize, n: usize)
 ///
 /// # Requires
 /// They fit.
-///
-/// # Example
-/// ```rust
-/// let mut buffer = [7; 4];
-/// copy_over(&[10, 11], &mut buffer, 1, 10);
-/// check(&rt, are_equal(&buffer, &[7, 0, 1, 7]));
-/// ```
 #[inline(always)]
 pub fn copy_over(bytes: &[u8], buffer: &mut [u8], place: usize, sentinel: u8)
     requires room { place + length bytes.now ≤ length buffer.old }

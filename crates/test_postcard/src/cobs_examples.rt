@@ -57,12 +57,14 @@ fn decoded_at_once(rt: HostRuntime) {
     let refused = DecodeVecError::Decode(DecodeError::EmptyFrame);
     check(&rt, fails(decode_vec(rt.alloc(), &[0, 0]), refused));
     let mut message = [0u8; 4];
-    let decoded: Result<DecodingResult, DecodeError> = decode(&[3, 10, 11, 2, 12, 0], &mut message);
+    let decoded: Result<DecodeReport, DecodeError> = decode(&[3, 10, 11, 2, 12, 0], &mut message);
     let is_whole = match decoded {
         Ok(report) => report.parsed_size() == 6 && report.frame_size() == 4,
         Err(_) => false,
     };
     check(&rt, is_whole && are_equal(&message, &[10, 11, 0, 12]));
+    let again: Result<DecodingResult, DecodeError> = decode(&[2, 7], &mut message);
+    check(&rt, decodes(again, 2, 1) && message[0] == 7);
 }
 
 #[test]

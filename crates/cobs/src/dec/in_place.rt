@@ -11,7 +11,7 @@ ghost use Rattle.cobs.specs.declared.dec.report.DecodeVecError.TheVariants.{OutO
 use super::progress::Progress;
 use super::report::{DecodeError, DecodeReport, DecodeVecError, Reported};
 use super::state::by_code;
-use super::whole::{answer_behind, apart, before, behind_zeros, with_parsed};
+use super::whole::{answer_behind, before, behind_zeros, with_parsed};
 use super::window::put_zeros;
 use crate::finding::{before_by_64, before_few};
 use crate::moves::{is_clear_255, mask, move_down};
@@ -85,7 +85,7 @@ fn decode_long_apart<const COPY: usize>(buf: &mut [u8], sentinel: u8) -> Reporte
     requires bytes { (k : ℕ) → slice_index buf.old k < 256 }
     ensures { DecodesInPlace buf.old (stretch (masked sentinel buf.old)) buf.new result }
 {
-    apart(decode_long_in_place::<COPY>(buf, sentinel))
+    Ok(decode_long_in_place::<COPY>(buf, sentinel)?)
 }
 
 // Shows that a byte is below 256: of a buffer that is borrowed on nothing else says it.
@@ -211,13 +211,6 @@ pub fn decode_in_place_with_sentinel(buf: &mut [u8], sentinel: u8) -> Result<usi
 ///
 /// # Requires
 /// No byte of the frame is the sentinel.
-///
-/// # Example
-/// ```rust
-/// let mut frame = [3, 7, 8, 2, 9];
-/// check(&rt, gives(decode_clear_in_place(&mut frame, 0), 4));
-/// check(&rt, are_equal(&frame[..4], &[7, 8, 0, 9]));
-/// ```
 // It is compiled into each path of a receiver.
 #[inline(always)]
 pub fn decode_clear_in_place(frame: &mut [u8], sentinel: u8) -> Result<usize, DecodeError>

@@ -45,16 +45,11 @@ pub enum DecodeError {
 ///
 /// # Example
 /// ```rust
-/// pub(crate) fn decodes(
-///     decoded: std::result::Result<DecodeReport, DecodeError>,
-///     parsed: usize,
-///     size: usize,
-/// ) -> bool {
-///     match decoded {
-///         Ok(report) => report.parsed_size() == parsed && report.frame_size() == size,
-///         Err(_) => false,
-///     }
-/// }
+/// let decoded: Result<DecodeReport, DecodeError> = decode(&[3, 10, 11, 2, 12, 0], &mut message);
+/// let is_whole = match decoded {
+///     Ok(report) => report.parsed_size() == 6 && report.frame_size() == 4,
+///     Err(_) => false,
+/// };
 /// ```
 #[derive(Clone, Copy, PartialEq, Debug)]
 pub struct DecodeReport {
@@ -82,11 +77,7 @@ impl DecodeReport {
 ///
 /// # Example
 /// ```rust
-/// let decoded: Result<DecodingResult, DecodeError> = decode(&[3, 10, 11, 2, 12, 0], &mut message);
-/// let is_whole = match decoded {
-///     Ok(report) => report.parsed_size() == 6 && report.frame_size() == 4,
-///     Err(_) => false,
-/// };
+/// let again: Result<DecodingResult, DecodeError> = decode(&[2, 7], &mut message);
 /// ```
 pub type DecodingResult = DecodeReport;
 

@@ -3,11 +3,7 @@
 //! `decode` and `decode_with_sentinel` share `decode_part`. Up to 255 bytes that fit are searched while they are
 //! copied; longer input is checked and taken 255 at a time (`take_source`). If a source doesn't fit, its end is searched
 //! first, and what doesn't fit then is pushed or counted. Only bytes that are known to be in the frame are written.
-//! Loops are compiled twice, for zero and for any sentinel, which is a third slower.
-//!
-//! Rejected: searching 256 bytes first (678 instructions for 1 KiB without zeros, now 542); families for each sentinel,
-//! which agreed except in the report; copying searched vectors, faster only from 64 KiB on; one body inlined in two
-//! functions, which the compiler gives up.
+//! Loops are compiled twice, for zero and for any sentinel, which is a third slower. What was tried: `bench/README.md`.
 ghost use Rattle.std.specs.Prelude.{◌≡◌, ◌≢◌, ℕ, ◌+◌, ◌-◌, ◌^◌, ◌<◌, ◌≤◌, List, [], length, take, slice_index, IsTrue, IfOk, OnErr, IfSome, IsNone, true};
 ghost use Rattle.cobs.specs.Frames.{Frame, NoZero, part};
 ghost use Rattle.cobs.specs.Reports.{frame_size};
@@ -43,18 +39,6 @@ pub(crate) fn with_parsed(answer: Decoded, parsed: usize) -> Reported
 {
     match answer {
         Ok(decoded) => Ok(DecodeReport { parsed, decoded }),
-        Err(error) => Err(error),
-    }
-}
-
-// The result of a call that isn't inlined, as it is: it is returned from where the call puts it, so that the caller's faster
-// paths keep their results in registers.
-#[inline(always)]
-pub(crate) fn apart<T: Copy>(answer: Result<T, DecodeError>) -> Result<T, DecodeError>
-    ensures { result ≡ answer }
-{
-    match answer {
-        Ok(told) => Ok(told),
         Err(error) => Err(error),
     }
 }
@@ -268,12 +252,12 @@ fn decode_slowly(source: &[u8], dest: &mut [u8]) -> Reported
     }
 }
 
-// The same, by itself as `decode_many` is.
+// The same, by itself as `decode_many` is: by `?` the caller's faster paths keep their results in registers.
 #[inline(always)]
 fn decode_else(source: &[u8], dest: &mut [u8]) -> Reported
     ensures { DecodesSource dest.old source.now dest.new result }
 {
-    apart(decode_slowly(source, dest))
+    Ok(decode_slowly(source, dest)?)
 }
 
 /// Decodes the first frame of a source into `dest`, and returns both sizes.
@@ -325,7 +309,7 @@ fn decode_stretch(source: &[u8], dest: &mut [u8], sentinel: u8) -> Decoded
 fn decode_stretch_else(source: &[u8], dest: &mut [u8], sentinel: u8) -> Decoded
     ensures { DecodesInto dest.old (stretch (masked sentinel source.now)) dest.new result }
 {
-    apart(decode_stretch(source, dest, sentinel))
+    Ok(decode_stretch(source, dest, sentinel)?)
 }
 
 /// Decodes the bytes before the first sentinel, or all if there is none, each XORed with it, and returns the
@@ -396,5 +380,5 @@ pub fn decode_clear(frame: &[u8], dest: &mut [u8], sentinel: u8) -> Result<usize
         let state = put_zeros(&mut dest[..len], (sentinel ^ frame[0]) - 1);
         return answer_behind(state, len);
     }
-    apart(decode_with_sentinel(frame, dest, sentinel))
+    decode_with_sentinel(frame, dest, sentinel)
 }

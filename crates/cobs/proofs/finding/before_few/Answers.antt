@@ -20,6 +20,3 @@ returns c =
       none = λ k l. unmarked_byte c.args.sentinel _ c.args.bytes.now marks k (omega (arith, l, first.0)) (c.lowest.ensures.below k l);
       end = λ _. first.1;
     }
-
-pub returns-then-bytes-lt4 : goal.returns-then-bytes-lt4
-returns-then-bytes-lt4 c = c.before_near.ensures

@@ -133,27 +133,27 @@ pub returns-then-is_short-clause-within : goal.returns-then-is_short-clause-with
 returns-then-is_short-clause-within c = into_within (masked c.args.sentinel c.args.frame.now) c.args.dest.now c.answer_behind.result (short c).answer
 
 pub returns-clause-answer : goal.returns-clause-answer
-returns-clause-answer c = c.apart.ensures ∙ c.decode_with_sentinel.ensures.answer ∙ ap (decoded_into (length c.args.dest.now)) (stretch_of (masked c.args.sentinel c.args.frame.now) c.requires)
+returns-clause-answer c = c.decode_with_sentinel.ensures.answer ∙ ap (decoded_into (length c.args.dest.now)) (stretch_of (masked c.args.sentinel c.args.frame.now) c.requires)
 
 pub returns-clause-frame : goal.returns-clause-frame
 returns-clause-frame c =
     let p = masked c.args.sentinel c.args.frame.now in
-    into_frame p c.args.dest.now c.apart.result c.decode_with_sentinel.new.dest
+    into_frame p c.args.dest.now c.decode_with_sentinel.result c.decode_with_sentinel.new.dest
     (clear_masked c.args.sentinel c.args.frame.now c.requires c.ranges.sentinel.fits (λ k. (c.type_inv.frame k).fits))
-    (c.apart.ensures ∙ c.decode_with_sentinel.ensures.answer ∙ ap (decoded_into (length c.args.dest.now)) (stretch_of p c.requires))
+    (c.decode_with_sentinel.ensures.answer ∙ ap (decoded_into (length c.args.dest.now)) (stretch_of p c.requires))
     (c.decode_with_sentinel.ensures.dest ∙ ap (λ f. overwritten (part f) c.args.dest.now) (stretch_of p c.requires))
 
 pub returns-clause-no_frame : goal.returns-clause-no_frame
 returns-clause-no_frame c =
     let p = masked c.args.sentinel c.args.frame.now in
-    into_no_frame p c.args.dest.now c.apart.result
-    (c.apart.ensures ∙ c.decode_with_sentinel.ensures.answer ∙ ap (decoded_into (length c.args.dest.now)) (stretch_of p c.requires))
+    into_no_frame p c.args.dest.now c.decode_with_sentinel.result
+    (c.decode_with_sentinel.ensures.answer ∙ ap (decoded_into (length c.args.dest.now)) (stretch_of p c.requires))
 
 pub returns-clause-within : goal.returns-clause-within
 returns-clause-within c =
     let p = masked c.args.sentinel c.args.frame.now in
-    into_within p c.args.dest.now c.apart.result
-    (c.apart.ensures ∙ c.decode_with_sentinel.ensures.answer ∙ ap (decoded_into (length c.args.dest.now)) (stretch_of p c.requires))
+    into_within p c.args.dest.now c.decode_with_sentinel.result
+    (c.decode_with_sentinel.ensures.answer ∙ ap (decoded_into (length c.args.dest.now)) (stretch_of p c.requires))
 
 pub returns-clause-dest : goal.returns-clause-dest
 returns-clause-dest c = c.decode_with_sentinel.ensures.dest ∙ ap (λ f. overwritten (part f) c.args.dest.now) (stretch_of (masked c.args.sentinel c.args.frame.now) c.requires)

@@ -1,5 +1,0 @@
-use Rattle.std.proofs.Common.{◌∙◌}
-use Rattle.cobs.proofs.dec.whole.decode_stretch_else.Goals as goal
-
-pub returns : goal.returns
-returns c = record { answer = c.apart.ensures ∙ c.decode_stretch.ensures.answer; dest = c.decode_stretch.ensures.dest }
