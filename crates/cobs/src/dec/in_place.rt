@@ -77,17 +77,6 @@ fn decode_long_in_place<const COPY: usize>(buf: &mut [u8], sentinel: u8) -> Repo
     with_parsed(answer_behind(state, len), read)
 }
 
-// The same, by itself: its result goes through memory that is set to zero first, here and not on its caller's faster paths.
-#[inline(always)]
-fn decode_long_apart<const COPY: usize>(buf: &mut [u8], sentinel: u8) -> Reported
-    requires some { 0 < length buf.old }
-    requires begins { slice_index buf.old 0 ≢ sentinel }
-    requires bytes { (k : ℕ) → slice_index buf.old k < 256 }
-    ensures { DecodesInPlace buf.old (stretch (masked sentinel buf.old)) buf.new result }
-{
-    Ok(decode_long_in_place::<COPY>(buf, sentinel)?)
-}
-
 // Shows that a byte is below 256: of a buffer that is borrowed on nothing else says it.
 #[inline(always)]
 fn all_bytes(bytes: &[u8])
@@ -106,7 +95,7 @@ pub(crate) fn decode_by<const COPY: usize>(buf: &mut [u8], sentinel: u8) -> Repo
     }
     let end = near_end(buf, sentinel);
     if end == 256 {
-        return decode_long_apart::<COPY>(buf, sentinel);
+        return decode_long_in_place::<COPY>(buf, sentinel);
     }
     decode_short_in_place(buf, end, sentinel)
 }
@@ -225,7 +214,7 @@ pub fn decode_clear_in_place(frame: &mut [u8], sentinel: u8) -> Result<usize, De
     all_bytes(frame);
     let end = frame.len();
     let decoded = if 255 < end {
-        decode_long_apart::<1>(frame, sentinel)
+        decode_long_in_place::<1>(frame, sentinel)
     } else {
         decode_short_in_place(frame, end, sentinel)
     };

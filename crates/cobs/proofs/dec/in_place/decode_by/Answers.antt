@@ -7,11 +7,11 @@ decode_short_in_place-requires-clause-stops g c = c.before_few-few.ensures
 pub decode_short_in_place-requires-clause-bytes : goal.decode_short_in_place-requires-clause-bytes
 decode_short_in_place-requires-clause-bytes g c = c.all_bytes.ensures
 
-pub decode_long_apart-requires-clause-begins : goal.decode_long_apart-requires-clause-begins
-decode_long_apart-requires-clause-begins g c = c.near_end-end.ensures.begins c.if-end-eq256.true
+pub decode_long_in_place-requires-clause-begins : goal.decode_long_in_place-requires-clause-begins
+decode_long_in_place-requires-clause-begins g c = c.near_end-end.ensures.begins c.if-end-eq256.true
 
-pub decode_long_apart-requires-clause-bytes : goal.decode_long_apart-requires-clause-bytes
-decode_long_apart-requires-clause-bytes g c = c.all_bytes.ensures
+pub decode_long_in_place-requires-clause-bytes : goal.decode_long_in_place-requires-clause-bytes
+decode_long_in_place-requires-clause-bytes g c = c.all_bytes.ensures
 
 pub decode_short_in_place-requires-2-clause-stops : goal.decode_short_in_place-requires-2-clause-stops
 decode_short_in_place-requires-2-clause-stops g c =

@@ -42,8 +42,8 @@ not_sized p x a = elim (eqb_tells (missing p) 0) [
 none : (s : ℕ) (bytes : List ℕ) → NoZero (masked s bytes) → (k : ℕ) → k < length bytes → get_or bytes k 0 ≢ s
 none s bytes z k l = clear_byte s bytes k l (clear_at (masked s bytes) k z (omega (arith, l, masked_length s bytes)))
 
-pub decode_long_apart-decoded-requires-clause-begins : goal.decode_long_apart-decoded-requires-clause-begins
-decode_long_apart-decoded-requires-clause-begins c = none c.args.sentinel c.args.frame.now c.requires 0 (omega (arith, c.if-end-gt255.true))
+pub decode_long_in_place-decoded-requires-clause-begins : goal.decode_long_in_place-decoded-requires-clause-begins
+decode_long_in_place-decoded-requires-clause-begins c = none c.args.sentinel c.args.frame.now c.requires 0 (omega (arith, c.if-end-gt255.true))
 
 pub decode_short_in_place-decoded-requires-clause-stops : goal.decode_short_in_place-decoded-requires-clause-stops
 decode_short_in_place-decoded-requires-clause-stops c = record {
@@ -55,7 +55,7 @@ decode_short_in_place-decoded-requires-clause-stops c = record {
 -- what either of both did
 decoded_here : (c : Joined-end-gt255) → DecodesInPlace c.args.frame.now (stretch (masked c.args.sentinel c.args.frame.now)) c.if-end-gt255.frame c.if-end-gt255.decoded
 decoded_here c = elim c.if-end-gt255.branch [
-  | then-end-gt255 w ↦ rw (w.frame-is, w.decoded-is) w.decode_long_apart-decoded.ensures
+  | then-end-gt255 w ↦ rw (w.frame-is, w.decoded-is) w.decode_long_in_place-decoded.ensures
   | else-end-gt255 w ↦ rw (w.frame-is, w.decoded-is) w.decode_short_in_place-decoded.ensures
 ]
 
