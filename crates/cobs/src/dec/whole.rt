@@ -304,14 +304,6 @@ fn decode_stretch(source: &[u8], dest: &mut [u8], sentinel: u8) -> Decoded
     }
 }
 
-// The same, by itself as `decode_many` is.
-#[inline(always)]
-fn decode_stretch_else(source: &[u8], dest: &mut [u8], sentinel: u8) -> Decoded
-    ensures { DecodesInto dest.old (stretch (masked sentinel source.now)) dest.new result }
-{
-    Ok(decode_stretch(source, dest, sentinel)?)
-}
-
 /// Decodes the bytes before the first sentinel, or all if there is none, each XORed with it, and returns the
 /// message's length.
 ///
@@ -342,7 +334,7 @@ pub fn decode_with_sentinel(
     };
     match part {
         Some((answer, _)) => answer,
-        None => decode_stretch_else(source, dest, sentinel),
+        None => decode_stretch(source, dest, sentinel),
     }
 }
 
