@@ -219,7 +219,7 @@ pub fn decode_clear_in_place(frame: &mut [u8], sentinel: u8) -> Result<usize, De
         decode_short_in_place(frame, end, sentinel)
     };
     match decoded {
-        Ok(report) => Ok(report.frame_size()),
+        Ok(told) => Ok(told.frame_size()),
         Err(error) => Err(error),
     }
 }

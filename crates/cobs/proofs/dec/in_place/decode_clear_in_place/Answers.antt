@@ -68,7 +68,7 @@ written c = (decoded_here c).buffer ∙ ap (λ p. overwritten (part p) c.args.fr
 
 pub returns-in-Ok-clause-answer : goal.returns-in-Ok-clause-answer
 returns-in-Ok-clause-answer c =
-    ap Ok c.frame_size.ensures ∙ (sized (masked c.args.sentinel c.args.frame.now) c.in-Ok.report (sym c.in-Ok.is ∙ answered (goal.at.returns-in-Ok-clause-answer c).Joined-end-gt255)).1
+    ap Ok c.frame_size.ensures ∙ (sized (masked c.args.sentinel c.args.frame.now) c.in-Ok.told (sym c.in-Ok.is ∙ answered (goal.at.returns-in-Ok-clause-answer c).Joined-end-gt255)).1
 
 pub returns-in-Ok-clause-frame : goal.returns-in-Ok-clause-frame
 returns-in-Ok-clause-frame c =
@@ -76,8 +76,8 @@ returns-in-Ok-clause-frame c =
     let new = c.if-end-gt255.frame in
     let e = decoded_here (goal.at.returns-in-Ok-clause-frame c).Joined-end-gt255 in
     subst (λ n. p ≢ [] → Frame p (take n new)) (sym c.frame_size.ensures)
-    (subst (λ x. x ≢ [] → Frame x (take (frame_size c.in-Ok.report) new)) (stretch_of p c.requires)
-    (in_place_frame c.args.sentinel c.args.frame.now new c.ranges.sentinel.fits e.bytes e.buffer (Ok c.in-Ok.report) (sym c.in-Ok.is ∙ e.answer)))
+    (subst (λ x. x ≢ [] → Frame x (take (frame_size c.in-Ok.told) new)) (stretch_of p c.requires)
+    (in_place_frame c.args.sentinel c.args.frame.now new c.ranges.sentinel.fits e.bytes e.buffer (Ok c.in-Ok.told) (sym c.in-Ok.is ∙ e.answer)))
 
 pub returns-in-Ok-clause-buffer : goal.returns-in-Ok-clause-buffer
 returns-in-Ok-clause-buffer c = written (goal.at.returns-in-Ok-clause-buffer c).Joined-end-gt255
@@ -85,7 +85,7 @@ returns-in-Ok-clause-buffer c = written (goal.at.returns-in-Ok-clause-buffer c).
 pub returns-in-Ok-clause-within : goal.returns-in-Ok-clause-within
 returns-in-Ok-clause-within c =
     let p = masked c.args.sentinel c.args.frame.now in
-    omega (arith, c.frame_size.ensures, (sized p c.in-Ok.report (sym c.in-Ok.is ∙ answered (goal.at.returns-in-Ok-clause-within c).Joined-end-gt255)).0, part_shorter p, masked_length c.args.sentinel c.args.frame.now)
+    omega (arith, c.frame_size.ensures, (sized p c.in-Ok.told (sym c.in-Ok.is ∙ answered (goal.at.returns-in-Ok-clause-within c).Joined-end-gt255)).0, part_shorter p, masked_length c.args.sentinel c.args.frame.now)
 
 pub returns-in-Err-clause-answer : goal.returns-in-Err-clause-answer
 returns-in-Err-clause-answer c =
