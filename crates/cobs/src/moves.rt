@@ -140,6 +140,13 @@ pub(crate) fn zero_over(buffer: &mut [u8], place: usize, n: usize)
 ///
 /// # Requires
 /// They fit.
+///
+/// # Example
+/// ```rust
+/// let mut buffer = [7; 4];
+/// copy_over(&[10, 11], &mut buffer, 1, 10);
+/// check(&rt, are_equal(&buffer, &[7, 0, 1, 7]));
+/// ```
 #[inline(always)]
 pub fn copy_over(bytes: &[u8], buffer: &mut [u8], place: usize, sentinel: u8)
     requires room { place + length bytes.now ≤ length buffer.old }
