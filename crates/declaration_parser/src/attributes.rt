@@ -5,32 +5,22 @@ use crate::tokens::{Token, Word, is_among, is_name};
 
 /// The text of the first of these tokens; nothing if there is none.
 pub fn first_word(tokens: &[Token]) -> &str {
-    match tokens {
-        [token, ..] => token.text.as_str(),
-        _ => "",
-    }
+    tokens.first().map_or("", |token| token.text.as_str())
 }
 
 /// The text of the last.
 pub fn last_word(tokens: &[Token]) -> &str {
-    match tokens {
-        [.., token] => token.text.as_str(),
-        _ => "",
-    }
+    tokens.last().map_or("", |token| token.text.as_str())
 }
 
 /// Which word the first is.
 pub fn front(tokens: &[Token]) -> Word {
-    if let [it, ..] = tokens {
-        it.word
-    } else {
-        Word::Other
-    }
+    tokens.first().map_or(Word::Other, |token| token.word)
 }
 
 /// The line of the first; 0 if there is none.
 pub fn line_at(tokens: &[Token]) -> usize {
-    if let [it, ..] = tokens { it.line } else { 0 }
+    tokens.first().map_or(0, |token| token.line)
 }
 
 /// A name without what makes it one.
@@ -46,19 +36,12 @@ pub fn name_at(tokens: &[Token]) -> Option<&str> {
 
 /// What follows the first alone.
 pub fn behind_first(tokens: &[Token]) -> &[Token] {
-    if let [_, rest @ ..] = tokens {
-        rest
-    } else {
-        &[]
-    }
+    tokens.get(1..).unwrap_or(&[])
 }
 
 /// What follows the first, or the group that it opens.
 pub fn behind(tokens: &[Token]) -> &[Token] {
-    match group(tokens) {
-        Some((_, rest)) => rest,
-        None => behind_first(tokens),
-    }
+    group(tokens).map_or(behind_first(tokens), |it| it.1)
 }
 
 /// The content of the group that the first token opens, and what follows it; nothing if it opens none that is closed.
@@ -90,14 +73,19 @@ fn parted<'a>(tokens: &'a [Token], ends: &[&str], is_type: bool) -> (&'a [Token]
         if rest.is_empty() || (depth == 0 && is_among(first_word(rest), ends)) {
             break;
         }
-        match front(rest) {
-            Word::Less if is_type => depth = depth.saturating_add(1),
-            Word::Greater if is_type => depth = depth.saturating_sub(1),
-            Word::Dash if is_type => rest = behind_first(rest),
+        match first_word(rest) {
+            "<" if is_type => depth = depth.saturating_add(1),
+            ">" if is_type => depth = depth.saturating_sub(1),
+            "-" if is_type => rest = behind_first(rest),
             _ => {}
         }
         rest = behind(rest);
     }
+    split_before(tokens, rest)
+}
+
+/// What precedes the last of these tokens, and these.
+pub fn split_before<'a>(tokens: &'a [Token], rest: &[Token]) -> (&'a [Token], &'a [Token]) {
     tokens.split_at(tokens.len().saturating_sub(rest.len()))
 }
 
@@ -109,21 +97,19 @@ pub fn first_part(tokens: &[Token]) -> (&[Token], &[Token]) {
 
 /// What is between the brackets of the attribute at the start, which is of what follows it.
 pub fn attribute(tokens: &[Token]) -> Option<(&[Token], &[Token])> {
-    match tokens {
-        [hash, rest @ ..] if matches!((hash.word, front(rest)), (Word::Hash, Word::Bracket)) =>
-            group(rest),
-        _ => None,
-    }
+    let brackets = behind_first(tokens);
+    let is_one = first_word(tokens) == "#" && matches!(front(brackets), Word::Bracket);
+    if is_one { group(brackets) } else { None }
 }
 
 /// What a call of a macro, or an attribute of all that a file has, holds at the start, and what follows it. The words before
 /// what it holds have no brackets.
 pub fn passed_over(tokens: &[Token]) -> Option<(&[Token], &[Token])> {
-    match tokens {
-        [_, mark, rest @ ..] if matches!(mark.word, Word::Bang) => match name_at(rest) {
-            Some(_) => group(behind_first(rest)),
-            None => group(rest),
-        },
+    let mark = behind_first(tokens);
+    let rest = behind_first(mark);
+    match (first_word(mark), name_at(rest)) {
+        ("!", Some(_)) => group(behind_first(rest)),
+        ("!", None) => group(rest),
         _ => None,
     }
 }
@@ -188,9 +174,6 @@ impl<'a> Iterator for AttributeWalk<'a> {
 
 /// Whether these are the same words.
 pub fn same_words(first: &[Token], second: &[Token]) -> bool {
-    first.len() == second.len()
-        && first
-            .iter()
-            .zip(second)
-            .all(|(one, other)| one.text.as_str() == other.text.as_str())
+    let mut pairs = first.iter().zip(second);
+    first.len() == second.len() && pairs.all(|(one, it)| one.text.as_str() == it.text.as_str())
 }

@@ -37,9 +37,9 @@ pub fn is_derived(words: &[Token], name: &str) -> bool {
         if is_derive && token.text.as_str() == name {
             return true;
         }
-        is_derive = match token.word {
-            Word::Derive => true,
-            Word::Close => false,
+        is_derive = match token.text.as_str() {
+            "derive" => true,
+            ")" | "]" | "}" => false,
             _ => is_derive,
         };
     }
@@ -50,13 +50,12 @@ pub fn is_derived(words: &[Token], name: &str) -> bool {
 pub fn renamed_derive(tokens: &[Token]) -> Option<&Token> {
     // Whether the `use` that is gone over is of another crate that has such derives.
     let mut is_other = false;
-    for place in 0..tokens.len() {
-        let (_, rest) = tokens.split_at(place);
-        match rest {
-            [of, first, ..] if matches!(of.word, Word::Import) => {
+    for words in tokens.windows(3) {
+        match words {
+            [of, first, _] if matches!(of.word, Word::Import) => {
                 is_other = has_own(first.text.as_str());
             }
-            [own, by, name, ..]
+            [own, by, name]
                 if matches!(by.word, Word::As)
                     && !matches!(name.word, Word::Serialize | Word::Deserialize)
                     && (has_own(own.text.as_str())

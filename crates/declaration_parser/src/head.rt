@@ -1,7 +1,7 @@
 //! What precedes a declaration: attributes, and comments that mark.
 ghost use Rattle.std.specs.Prelude.{◌≡◌, ◌++◌};
 
-use crate::attributes::{AttributeWalk, first_part, first_word, front, held, same_words};
+use crate::attributes::{AttributeWalk, first_part, first_word, held, same_words};
 use crate::declaration::Marks;
 use crate::derives::derive_of;
 use crate::tokens::{Token, Word, is_among};
@@ -96,7 +96,7 @@ impl<'a> Marking<'a> {
             // more conditions may make a `cfg`
             let is_condition = is_among(first_word(it.words), &["cfg", "cfg_attr"]);
             marking.is_conditional = marking.is_conditional || is_condition;
-            if matches!(front(it.words), Word::Derive) {
+            if first_word(it.words) == "derive" {
                 marking.add_derived(held(it.words), it.condition);
             }
         }

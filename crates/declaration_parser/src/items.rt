@@ -1,7 +1,7 @@
 //! The items of files, found in one pass, and the scopes that they are in.
 use crate::attributes::{
     AttributeWalk, attribute, behind, behind_first, first_word, front, group, name_at, passed_over,
-    type_up_to, up_to,
+    split_before, type_up_to, up_to,
 };
 use crate::tokens::{Token, Word, is_among, is_name};
 use std::alloc::Global;
@@ -108,7 +108,7 @@ impl Item<'_> {
 /// is behind it.
 fn is_called(words: &[Token]) -> bool {
     let word = first_word(words);
-    matches!(front(words), Word::Hash) || (is_name(word) && !is_among(word, BEFORE_VALUE))
+    word == "#" || (is_name(word) && !is_among(word, BEFORE_VALUE))
 }
 
 /// What follows the attributes and marks at the start.
@@ -177,7 +177,7 @@ impl<'a> Walk<'a> {
     fn read_front(&mut self, tokens: &'a [Token]) -> &'a [Token] {
         self.leave(tokens.len());
         let words = behind_attributes(tokens);
-        let (attributes, _) = tokens.split_at(tokens.len().saturating_sub(words.len()));
+        let (attributes, _) = split_before(tokens, words);
         let mut item = Item {
             kind: ItemKind::Other,
             scope: self.scope,
@@ -211,47 +211,42 @@ impl<'a> Walk<'a> {
             && (!is_quiet || rest.len() >= self.quiet)
             && is_called(words)
         {
-            item.kind = match front(words) {
-                Word::Rules => ItemKind::Rules,
-                Word::Hash => ItemKind::Hidden,
+            item.kind = match first_word(words) {
+                "macro_rules" => ItemKind::Rules,
+                "#" => ItemKind::Hidden,
                 _ if is_quiet => ItemKind::Hidden,
                 _ => ItemKind::Call,
             };
-            let (call, _) = words.split_at(words.len().saturating_sub(rest.len()));
-            item.words = call;
+            (item.words, _) = split_before(words, rest);
             item.inside = inside;
             return rest;
         }
         if is_quiet {
             return behind_first(words);
         }
-        item.is_public = matches!(front(words), Word::Public);
+        item.is_public = first_word(words) == "pub";
         self.read_item(item, behind_public(words))
     }
 
     /// Reads what an item begins with, and gives what follows: at its name.
-    fn read_item(&mut self, item: &mut Item<'a>, words: &'a [Token]) -> &'a [Token] {
+    fn read_item(&mut self, it: &mut Item<'a>, words: &'a [Token]) -> &'a [Token] {
         let rest = behind_first(words);
         let after = behind_first(rest);
         let named = name_at(rest).is_some();
-        match front(words) {
-            Word::Module if named => return self.read_module(item, rest),
-            Word::Function if named => self.read_body(Kind::Body, rest),
-            Word::Impl => self.read_body(Kind::Impl, rest),
-            Word::Brace => self.read_body(Kind::Body, words),
-            Word::Struct | Word::Enum | Word::Union if named => self.take(
-                item,
-                ItemKind::Type,
-                rest,
-            ),
-            Word::Alias if named => self.take(item, ItemKind::Alias, rest),
-            Word::Constant if named => self.take(item, ItemKind::Constant, rest),
-            Word::Static if first_word(rest) == "mut" => self.take(item, ItemKind::Static, after),
-            Word::Static if named => self.take(item, ItemKind::Static, rest),
-            Word::Import if first_word(rest) != "<" => self.take(item, ItemKind::Import, rest),
-            Word::Extern if first_word(rest) == "crate" => self.take(item, ItemKind::Crate, after),
+        match first_word(words) {
+            "mod" if named => return self.read_module(it, rest),
+            "fn" if named => self.read_body(Kind::Body, rest),
+            "impl" | "trait" => self.read_body(Kind::Impl, rest),
+            "{" => self.read_body(Kind::Body, words),
+            "struct" | "enum" | "union" if named => self.take(it, ItemKind::Type, rest),
+            "type" if named => self.take(it, ItemKind::Alias, rest),
+            "const" if named => self.take(it, ItemKind::Constant, rest),
+            "static" if first_word(rest) == "mut" => self.take(it, ItemKind::Static, after),
+            "static" if named => self.take(it, ItemKind::Static, rest),
+            "use" if first_word(rest) != "<" => self.take(it, ItemKind::Import, rest),
+            "extern" if first_word(rest) == "crate" => self.take(it, ItemKind::Crate, after),
             // Attributes may follow a `pub` that begins none of these.
-            _ if item.is_public => return words,
+            _ if it.is_public => return words,
             _ => {}
         }
         rest
@@ -310,7 +305,7 @@ impl<'a> Walk<'a> {
 
 /// What follows `pub`, with what it is limited to. A type in parentheses may follow it too, as in `pub (crate::Id)`.
 pub fn behind_public(tokens: &[Token]) -> &[Token] {
-    if !matches!(front(tokens), Word::Public) {
+    if first_word(tokens) != "pub" {
         return tokens;
     }
     let rest = behind_first(tokens);

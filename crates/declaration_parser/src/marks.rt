@@ -19,12 +19,10 @@ pub fn way_of(comment: &str) -> Option<&str> {
     }
 }
 
-/// Whether a comment is almost one that says how a field is sent.
-pub fn is_almost_way(comment: &str) -> bool {
+/// The words of a comment that is almost one that says how a field is sent.
+pub fn almost_way(comment: &str) -> Option<&str> {
     let words = comment.trim_start_matches('/').trim_start();
-    let is_begun = match words.strip_prefix("with") {
-        Some(rest) => rest.trim_start().starts_with('='),
-        None => false,
-    };
-    is_begun || words.contains("fixint::le") || words.contains("fixint::be")
+    let behind_with = words.strip_prefix("with").unwrap_or("").trim_start();
+    let names_way = words.contains("fixint::le") || words.contains("fixint::be");
+    (names_way || behind_with.starts_with('=')).then_some(words)
 }

@@ -2,7 +2,9 @@
 pub mod by_hand;
 mod said;
 
-use crate::attributes::{attribute, front, group, line_at, plain_name, type_up_to, up_to};
+use crate::attributes::{
+    attribute, front, group, line_at, plain_name, split_before, type_up_to, up_to,
+};
 use crate::cursor::Cursor;
 use crate::declaration::{Body, Declaration, Field, Fields, Form, VariantOf};
 use crate::head::{Head, Marking};
@@ -76,8 +78,7 @@ impl<'a, 'b> Parser<'a, 'b> {
             self.at.line = line_at(words);
             self.at.rest = behind;
         }
-        let length = begun.len().saturating_sub(self.at.rest.len());
-        begun.get(..length).unwrap_or(&[])
+        split_before(begun, self.at.rest).0
     }
 
     /// Takes a name that may be written `r#name`, and isn't one that the implementations use, if it can't be.

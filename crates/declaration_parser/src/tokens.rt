@@ -1,6 +1,6 @@
 //! The words and marks of a file.
 use crate::faults::Faults;
-use crate::marks::{is_almost_way, is_mark, way_of};
+use crate::marks::{almost_way, is_mark, way_of};
 use crate::words::{ALMOST, ALMOST_WAY};
 use std::alloc::{AllocError, Global};
 use unicode_ident::is_xid_continue;
@@ -11,15 +11,11 @@ const INSIDE: &str = "` stands in a comment or a text, where it marks nothing: t
 
 /// The words that are compared, and which they are.
 const WORDS: &[(&str, Word)] = &[
-    ("#", Word::Hash),
-    ("!", Word::Bang),
     ("$", Word::Dollar),
     ("*", Word::Star),
     (",", Word::Comma),
     (":", Word::Colon),
-    ("-", Word::Dash),
     ("<", Word::Less),
-    (">", Word::Greater),
     ("(", Word::Paren),
     ("[", Word::Bracket),
     ("{", Word::Brace),
@@ -28,17 +24,9 @@ const WORDS: &[(&str, Word)] = &[
     ("}", Word::Close),
     ("as", Word::As),
     ("const", Word::Constant),
-    ("derive", Word::Derive),
     ("enum", Word::Enum),
-    ("extern", Word::Extern),
-    ("fn", Word::Function),
-    ("impl", Word::Impl),
-    ("macro_rules", Word::Rules),
     ("mod", Word::Module),
-    ("pub", Word::Public),
-    ("static", Word::Static),
     ("struct", Word::Struct),
-    ("trait", Word::Impl),
     ("type", Word::Alias),
     ("union", Word::Union),
     ("use", Word::Import),
@@ -46,34 +34,23 @@ const WORDS: &[(&str, Word)] = &[
     ("Serialize", Word::Serialize),
 ];
 
-/// Which of the words that are compared a token is. `Close` closes what one of the three before it opens, `Impl` is also `trait`,
-/// and `Mark` a comment that marks a declaration.
+/// Which of the words that are compared a token is. `Close` closes what one of the three before it opens, and `Mark` is a comment
+/// that marks a declaration.
 #[derive(Clone, Copy, PartialEq, Eq, Drop)]
 pub enum Word {
-    Hash,
-    Bang,
     Dollar,
     Star,
     Comma,
     Colon,
-    Dash,
     Less,
-    Greater,
     Paren,
     Bracket,
     Brace,
     Close,
     As,
     Constant,
-    Derive,
     Enum,
-    Extern,
-    Function,
-    Impl,
-    Rules,
     Module,
-    Public,
-    Static,
     Struct,
     Alias,
     Union,
@@ -204,14 +181,15 @@ pub fn common(word: &str, other: &str) -> usize {
     front.saturating_add(pairs.take_while(is_same).count())
 }
 
-/// How many bytes of a text precede what is left of it.
-fn length_before(text: &str, rest: &str) -> usize {
-    text.len().saturating_sub(rest.len())
-}
-
 /// A text without its first bytes.
 fn behind(text: &str, length: usize) -> &str {
     text.get(length..).unwrap_or("")
+}
+
+/// What precedes this rest of a text.
+fn front_of<'a>(text: &'a str, rest: &str) -> &'a str {
+    text.get(..text.len().saturating_sub(rest.len()))
+        .unwrap_or("")
 }
 
 /// A text without its first character.
@@ -223,11 +201,11 @@ fn behind_one(text: &str) -> &str {
 
 /// How many `#` a text begins with.
 fn hashes(text: &str) -> usize {
-    length_before(text, text.trim_start_matches('#'))
+    front_of(text, text.trim_start_matches('#')).len()
 }
 
-/// How long the comment is that begins a text with `/*`, if a `*/` ends it.
-fn comment_length(text: &str) -> Option<usize> {
+/// What follows the comment that begins a text with `/*`, if a `*/` ends it.
+fn behind_comment(text: &str) -> Option<&str> {
     let mut rest = text;
     let mut depth: usize = 0;
     for _ in 0..text.len() {
@@ -241,39 +219,36 @@ fn comment_length(text: &str) -> Option<usize> {
         }
         rest = behind(rest, 2);
         if depth == 0 {
-            return Some(length_before(text, rest));
+            return Some(rest);
         }
     }
     None
 }
 
-/// How long the text between `"` is, which one with so many `#` after it ends. Without a number a `\` hides what follows it.
-fn text_length(text: &str, wanted: Option<usize>) -> Option<usize> {
+/// What follows the text between `"`, which one with so many `#` after it ends. Without a number a `\` hides what follows it.
+fn behind_text(text: &str, wanted: Option<usize>) -> Option<&str> {
     let mut rest = behind(text, 1);
     for _ in 0..text.len() {
         match first_letter(rest)? {
             '\\' if wanted.is_none() => rest = behind_one(behind(rest, 1)),
-            '"' if hashes(behind(rest, 1)) >= wanted.unwrap_or(0) => {
-                return Some(length_before(text, rest).saturating_add(1));
-            }
+            '"' if hashes(behind(rest, 1)) >= wanted.unwrap_or(0) => return Some(behind(rest, 1)),
             _ => rest = behind_one(rest),
         }
     }
     None
 }
 
-/// How long the character or the lifetime is that begins a text with `'`.
-fn quoted_length(text: &str) -> usize {
+/// What follows the character or the lifetime that begins a text with `'`.
+fn behind_quoted(text: &str) -> &str {
     let inside = behind(text, 1);
     let second = behind_one(inside);
-    let rest = if inside.starts_with('\\') {
+    if inside.starts_with('\\') {
         behind_one(behind_one(second).trim_start_matches(|c: char| c != '\'' && c != '\n'))
     } else if second.starts_with('\'') {
         behind_one(second)
     } else {
         inside.trim_start_matches(is_of_word)
-    };
-    length_before(text, rest)
+    }
 }
 
 impl<'a> Tokens<'a> {
@@ -284,19 +259,19 @@ impl<'a> Tokens<'a> {
             return;
         };
         if first.is_whitespace() {
-            self.take(first.len_utf8());
+            self.take_to(behind_one(text));
         } else if text.starts_with("//") {
             self.read_comment();
         } else if text.starts_with("/*") {
-            self.take_closed(comment_length(text));
+            self.take_closed(behind_comment(text));
         } else if first == '"' {
-            self.read_text(0, None);
+            self.read_text(text, None);
         } else if first == '\'' {
-            self.read_token(quoted_length(text));
+            self.read_token(behind_quoted(text));
         } else if is_of_word(first) {
             self.read_word();
         } else {
-            self.read_token(first.len_utf8());
+            self.read_token(behind_one(text));
         }
     }
 
@@ -316,8 +291,7 @@ impl<'a> Tokens<'a> {
             }
         } else if is_mark(comment) {
             self.put(comment, self.line);
-        } else if is_almost_way(comment) {
-            let words = comment.trim_start_matches('/').trim_start();
+        } else if let Some(words) = almost_way(comment) {
             let equals = if way.is_some() { "=" } else { "" };
             for word in ["#", "[", "with", equals, way.unwrap_or(words), "]"] {
                 if !word.is_empty() {
@@ -330,38 +304,33 @@ impl<'a> Tokens<'a> {
     /// Reads a word, or a text or a character with letters before it.
     fn read_word(&mut self) {
         let after = self.rest.trim_start_matches(is_of_word);
-        let length = length_before(self.rest, after);
         let hashes = hashes(after);
-        match (self.rest.get(..length).unwrap_or(""), first_letter(after)) {
-            ("r" | "br" | "cr", _) if behind(after, hashes).starts_with('"') => {
-                self.read_text(length.saturating_add(hashes), Some(hashes));
-            }
-            ("b" | "c", Some('"')) => self.read_text(length, None),
+        let raw = behind(after, hashes);
+        match (front_of(self.rest, after), first_letter(after)) {
+            ("r" | "br" | "cr", _) if raw.starts_with('"') => self.read_text(raw, Some(hashes)),
+            ("b" | "c", Some('"')) => self.read_text(after, None),
             ("b", Some('\'')) => {
-                self.take(length);
-                self.read_token(quoted_length(self.rest));
+                self.take_to(after);
+                self.read_token(behind_quoted(after));
             }
-            ("r", _) if hashes == 1 => {
-                let rest = behind(after, 1).trim_start_matches(is_of_word);
-                self.read_token(length_before(self.rest, rest));
-            }
-            _ => self.read_token(length),
+            ("r", _) if hashes == 1 => self.read_token(raw.trim_start_matches(is_of_word)),
+            _ => self.read_token(after),
         }
     }
 
-    /// Reads a text, before whose `"` so many bytes stand, and which one with so many `#` ends.
-    fn read_text(&mut self, before: usize, wanted: Option<usize>) {
+    /// Reads the text that begins with this `"`, and which one with so many `#` ends.
+    fn read_text(&mut self, begun: &'a str, wanted: Option<usize>) {
         let line = self.line;
-        self.take(before);
-        let text = self.take_closed(text_length(self.rest, wanted));
-        self.take(wanted.unwrap_or(0));
+        self.take_to(begun);
+        let text = self.take_closed(behind_text(begun, wanted));
+        self.take_to(behind(self.rest, wanted.unwrap_or(0)));
         self.put(text, line);
     }
 
-    /// Reads so many bytes as a token. To Rust its letters are one name however their dots and accents are written.
-    fn read_token(&mut self, length: usize) {
+    /// Reads a token up to this rest. To Rust its letters are one name however their dots and accents are written.
+    fn read_token(&mut self, rest: &'a str) {
         let line = self.line;
-        let text = self.take(length);
+        let text = self.take_to(rest);
         if text.is_ascii() {
             return self.put(text, line);
         }
@@ -371,20 +340,20 @@ impl<'a> Tokens<'a> {
         }
     }
 
-    /// Takes so many bytes of a comment or a text; all if nothing ends it, which is refused.
-    fn take_closed(&mut self, length: Option<usize>) -> &'a str {
-        if length.is_none() {
+    /// Takes a comment or a text up to this rest; all if nothing ends it, which is refused.
+    fn take_closed(&mut self, rest: Option<&'a str>) -> &'a str {
+        if rest.is_none() {
             self.faults.put_line_number(self.line);
             self.faults
                 .put("a comment or a text begins here that isn't ended\n");
         }
-        self.take(length.unwrap_or(self.rest.len()))
+        self.take_to(rest.unwrap_or(""))
     }
 
-    /// Takes so many bytes, counts their lines, and refuses a mark in them.
-    fn take(&mut self, length: usize) -> &'a str {
-        let text = self.rest.get(..length).unwrap_or("");
-        self.rest = behind(self.rest, length);
+    /// Takes what precedes this rest, counts its lines, and refuses a mark in it.
+    fn take_to(&mut self, rest: &'a str) -> &'a str {
+        let text = front_of(self.rest, rest);
+        self.rest = rest;
         for (place, line) in text.split('\n').enumerate() {
             if place > 0 {
                 self.line = self.line.saturating_add(1);

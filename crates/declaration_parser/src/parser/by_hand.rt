@@ -6,10 +6,10 @@ use crate::words::BY_HAND;
 use std::alloc::{AllocError, Global};
 use std::collections::BTreeMap;
 
-/// One of serde's traits, its names, and those of the types of files that implement it by hand.
+/// The name of one of serde's traits, all its names, and those of the types of files that implement it by hand.
 #[derive(Drop)]
 struct Implemented<'a> {
-    of: Word,
+    name: &'a str,
     names: Vec<&'a str>,
     types: BTreeMap<&'a str, ()>,
     /// Whether macros implement it: then each name that a macro is handed may be such a type.
@@ -26,19 +26,13 @@ pub struct ByHand<'a> {
 impl<'a> Implemented<'a> {
     /// The types of these files that implement a trait of this name. An item may name what another one declares, so all are gone
     /// over while more is found.
-    fn of(
-        alloc: Global,
-        of: Word,
-        name: &'a str,
-        files: &'a [Read],
-    ) -> Result<Implemented<'a>, AllocError> {
+    fn of(alloc: Global, name: &'a str, files: &'a [Read]) -> Result<Self, AllocError> {
         let mut found = Implemented {
-            of,
-            names: Vec::new(alloc),
+            name,
+            names: vec![in alloc; name]?,
             types: BTreeMap::new(alloc),
             is_by_macros: false,
         };
-        found.names.push(name)?;
         for _ in 0..u32::MAX {
             let before = found.count();
             for file in files {
@@ -68,12 +62,12 @@ impl<'a> Implemented<'a> {
                 if self.has(name) {
                     self.types.insert(plain_name(own.text.as_str()), ())?;
                 }
-                if own.word == self.of && !is_among(name.text.as_str(), &self.names) {
+                if own.text.as_str() == self.name && !is_among(name.text.as_str(), &self.names) {
                     self.names.push(name.text.as_str())?;
                 }
                 Ok(())
             }
-            [name, mark, rest @ ..] if matches!(mark.word, Word::Bang) => {
+            [name, mark, rest @ ..] if mark.text.as_str() == "!" => {
                 // one of another crate may implement it by its name
                 self.is_by_macros = self.is_by_macros || name.text.as_str().contains("serialize");
                 match group(rest) {
@@ -85,7 +79,7 @@ impl<'a> Implemented<'a> {
                 let (words, _) = up_to(rest, &[";"]);
                 self.add(words)
             }
-            [of, ..] if matches!(of.word, Word::Impl) => self.add_impl(tokens),
+            [of, ..] if is_among(of.text.as_str(), &["impl", "trait"]) => self.add_impl(tokens),
             _ => Ok(()),
         }
     }
@@ -122,8 +116,8 @@ impl<'a> ByHand<'a> {
     /// That of these files.
     pub fn of(alloc: Global, files: &'a [Read]) -> Result<ByHand<'a>, AllocError> {
         Ok(ByHand {
-            written: Implemented::of(alloc, Word::Serialize, "Serialize", files)?,
-            read: Implemented::of(alloc, Word::Deserialize, "Deserialize", files)?,
+            written: Implemented::of(alloc, "Serialize", files)?,
+            read: Implemented::of(alloc, "Deserialize", files)?,
         })
     }
 }
@@ -133,13 +127,13 @@ impl Parser<'_, '_> {
     pub(super) fn check_by_hand(&mut self) {
         let marking = self.marking;
         let by_hand = self.job.by_hand;
-        for (is_marked, side, word) in [
-            (marking.marks.written, &by_hand.written, "Serialize"),
-            (marking.marks.read, &by_hand.read, "Deserialize"),
+        for (is_marked, side) in [
+            (marking.marks.written, &by_hand.written),
+            (marking.marks.read, &by_hand.read),
         ] {
             let may_be = marking.is_derived && (!is_marked || marking.is_conditional);
             if may_be && side.types.contains_key(self.at.name) {
-                self.at.refuse(word, BY_HAND);
+                self.at.refuse(side.name, BY_HAND);
             }
         }
     }

@@ -92,10 +92,7 @@ impl<'a> Parser<'a, '_> {
         for _ in 0..rest.len() {
             let (part, behind) = first_part(rest);
             // An attribute in an attribute is what a comment was.
-            let part = match attribute(part) {
-                Some((_, words)) => words,
-                None => part,
-            };
+            let part = attribute(part).map_or(part, |it| it.1);
             let name = first_word(part);
             said.is_transparent = said.is_transparent || name == "transparent";
             if !name.is_empty() && !is_listed(name, NO_BYTES) {
