@@ -3,7 +3,7 @@ use crate::text::Text;
 use declaration_parser::declaration::{Field, Fields, Form, Layout};
 
 /// How many parts a tuple has at most; more are in rows.
-pub const ROW: usize = 6;
+const ROW: usize = 6;
 
 /// How a field is written, and how one that is sent as its bytes. A word between two `%` stands for what it has: its `type`,
 /// its `member`, the name that it is `bound` to, its `place`, and the `way` that sends it.
@@ -34,7 +34,7 @@ pub const TAKEN: Spelling = ["%bound%", "%way%(%bound%)"];
 
 impl Text {
     /// Appends a field.
-    pub fn put_field(&mut self, field: &Field, spelling: Spelling) {
+    fn put_field(&mut self, field: &Field, spelling: Spelling) {
         let [own, fixed] = spelling;
         let (way, pieces) = match field.layout {
             Layout::Little => ("fixint::LE", fixed),
@@ -55,16 +55,14 @@ impl Text {
 
     /// Appends fields with commas between them.
     fn put_list(&mut self, fields: &[Field], spelling: Spelling) {
-        let mut before = "";
-        for field in fields {
-            self.put(before);
+        for (place, field) in fields.iter().enumerate() {
+            self.put_before(place, "");
             self.put_field(field, spelling);
-            before = ", ";
         }
     }
 
     /// Appends a tuple of up to six fields; one field stands for itself.
-    pub fn put_row(&mut self, fields: &[Field], spelling: Spelling) {
+    fn put_row(&mut self, fields: &[Field], spelling: Spelling) {
         if let [field] = fields {
             return self.put_field(field, spelling);
         }
@@ -73,16 +71,40 @@ impl Text {
         self.put(")");
     }
 
-    /// Appends a tuple; one field stands for itself, and more than six are in rows.
-    pub fn put_tuple(&mut self, fields: &[Field], spelling: Spelling) {
+    /// Appends a tuple; one field stands for itself, and more than six are in rows, which may be named.
+    fn put_rows(&mut self, fields: &[Field], spelling: Spelling, by_name: bool) {
         if fields.len() <= ROW {
             return self.put_row(fields, spelling);
         }
         for (place, row) in fields.chunks(ROW).enumerate() {
-            self.put(if place > 0 { ", " } else { "(" });
-            self.put_row(row, spelling);
+            self.put_before(place, "(");
+            if by_name && row.len() > 1 {
+                self.put_numbered("row_", place);
+            } else {
+                self.put_row(row, spelling);
+            }
         }
         self.put(")");
+    }
+
+    /// Appends a tuple; one field stands for itself, and more than six are in rows.
+    pub fn put_tuple(&mut self, fields: &[Field], spelling: Spelling) {
+        self.put_rows(fields, spelling, false);
+    }
+
+    /// Takes a shape of several fields apart.
+    pub fn put_apart(&mut self, fields: &[Field]) {
+        self.put("        let ");
+        self.put_rows(fields, TAKEN, true);
+        self.put(" = it;\n");
+        for (place, row) in fields.chunks(ROW).enumerate() {
+            if fields.len() > ROW && row.len() > 1 {
+                self.put("        let ");
+                self.put_row(row, TAKEN);
+                self.put_numbered(" = row_", place);
+                self.put(";\n");
+            }
+        }
     }
 
     /// Appends a tuple whose fields are written in the first way, or in the second if there is one alone.

@@ -9,12 +9,6 @@ pub const HOLDS_ITSELF: &str =
 pub const NO_TYPE: &str =
     "` can't stand in the type of a field: write the type that is on the wire";
 
-/// Words that are in no type of a message.
-const NO_WORDS: &[&str] = &[
-    "f32: ` is no message: take `LE<u32>` of its bits",
-    "f64: ` is no message: take `LE<u64>` of its bits",
-];
-
 /// Types of `heapless`, which has some by names of the language.
 const OF_HEAPLESS: &[&str] = &[
     "String: ArrayString<N>` of `arrayvec",
@@ -38,7 +32,9 @@ pub fn no_word(word: &str) -> Option<&'static str> {
     match word {
         "Self" => Some(HOLDS_ITSELF),
         "!" | "?" => Some(NO_TYPE),
-        _ => row_of(NO_WORDS, word),
+        "f32" => Some("` is no message: take `LE<u32>` of its bits"),
+        "f64" => Some("` is no message: take `LE<u64>` of its bits"),
+        _ => None,
     }
 }
 

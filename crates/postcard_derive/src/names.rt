@@ -74,9 +74,7 @@ pub fn uses_of<'a>(
     let mut uses = Vec::new(alloc);
     for it in all {
         uses.push(("", it.name))?;
-        let mut parts = Vec::new(alloc);
-        parts.push(("", it.generics))?;
-        parts.push(("", it.bounds))?;
+        let mut parts = vec![in alloc; ("", it.generics), ("", it.bounds)]?;
         for (_, field) in &rows_of(alloc, it)? {
             parts.push((it.name, field.of))?;
         }

@@ -1,8 +1,8 @@
 //! From declarations to implementations, which `rt fmt` lays out.
-use crate::fields::{ROW, SEEN, SENT, SENT_ALONE, TAKEN, TYPE};
+use crate::fields::{SEEN, SENT, SENT_ALONE, TAKEN, TYPE};
 use crate::names::{Use, names_of, names_of_postcard};
 use crate::text::Text;
-use declaration_parser::declaration::{Body, Declaration, Field, Fields};
+use declaration_parser::declaration::{Body, Declaration, Fields};
 use declaration_parser::tokens::is_among;
 use std::alloc::{AllocError, Global};
 
@@ -39,12 +39,10 @@ impl%plain% Shaped for %name%%names%%where% {
 }
 ";
 
-/// The shape of an enum, up to what it brings in, and the rest.
+/// The shape of an enum.
 const VARIANTS: &str = "type %name%Shape%alias% = %types%;
 impl%plain% Shaped for %name%%names%%where% {
-";
-
-const OF_VARIANTS: &str = "    type Shape = %name%Shape%names%;
+%brought%    type Shape = %name%Shape%names%;
     ghost shape = { λ v. elim v [
 %seen%    ] };
     fn from_shape(it: %name%Shape%names%) -> %name%%names% {
@@ -78,31 +76,6 @@ const SENDING: &str = "impl%Serialize% Serialize for %name%%names%%where% {
 ";
 
 impl Text {
-    /// Takes a shape of several fields apart.
-    fn put_apart(&mut self, fields: &[Field]) {
-        self.put("        let ");
-        if fields.len() <= ROW {
-            self.put_row(fields, TAKEN);
-            return self.put(" = it;\n");
-        }
-        for (place, row) in fields.chunks(ROW).enumerate() {
-            self.put(if place > 0 { ", " } else { "(" });
-            match row {
-                [field] => self.put_field(field, TAKEN),
-                _ => self.put_numbered("row_", place),
-            }
-        }
-        self.put(") = it;\n");
-        for (place, row) in fields.chunks(ROW).enumerate() {
-            if row.len() > 1 {
-                self.put("        let ");
-                self.put_row(row, TAKEN);
-                self.put_numbered(" = row_", place);
-                self.put(";\n");
-            }
-        }
-    }
-
     /// Appends what a word stands for in a struct of these fields.
     fn put_of_struct(&mut self, name: &str, fields: &Fields, word: &str) {
         let items = &fields.items;
@@ -124,19 +97,19 @@ impl Text {
     /// Appends what a word stands for: the name of a declaration; the names of its parameters, these as an alias has them, or
     /// with their bounds, and types with this one too; the bounds after `where`; or what its fields or variants have for it.
     /// Another stands for itself.
-    fn put_part(&mut self, it: &Declaration, word: &str) {
-        match word {
-            "name" => self.put(it.name),
-            "names" => self.put_each("<", &it.parameters, ">"),
-            "alias" => self.put_parameters(it, None),
-            "plain" => self.put_parameters(it, Some("")),
-            "Readable" | "Serialize" => self.put_parameters(it, Some(word)),
-            "where" if it.bounds.is_empty() => {}
-            "where" => {
-                self.put(" where ");
+    fn put_part(&mut self, it: &Declaration, path: &str, word: &str) {
+        match (word, &it.body) {
+            ("name", _) => self.put(it.name),
+            ("names", _) => self.put_each("<", &it.parameters, ">"),
+            ("alias", _) => self.put_parameters(it, None),
+            ("plain", _) => self.put_parameters(it, Some("")),
+            ("Readable" | "Serialize", _) => self.put_parameters(it, Some(word)),
+            ("where", _) => {
+                self.put(if it.bounds.is_empty() { "" } else { " where " });
                 self.put_words(it.bounds);
             }
-            "types" | "seen" | "taken" | "apart" | "value" | "made" | "sent" => match &it.body {
+            ("brought", Body::Enum(variants)) => self.put_brought_in(it.name, variants, path),
+            ("types" | "seen" | "taken" | "apart" | "value" | "made" | "sent", body) => match body {
                 Body::Struct(fields) => self.put_of_struct(it.name, fields, word),
                 Body::Enum(variants) => self.put_of_enum(it.name, variants, word),
             },
@@ -144,32 +117,20 @@ impl Text {
         }
     }
 
-    /// Appends these pieces, in which a word between two `%` stands for what [`put_part`](Text::put_part) has for it.
-    fn fill(&mut self, it: &Declaration, pieces: &str) {
-        for piece in pieces.split('%') {
-            self.put_part(it, piece);
-        }
-    }
-
     /// Appends the implementations of a declaration.
     fn put_declaration(&mut self, it: &Declaration, path: &str, with_schemas: bool) {
-        match &it.body {
-            Body::Struct(fields) => {
-                let several = fields.items.len() > 1;
-                self.fill(it, if several { SEVERAL } else { ALONE });
+        let shape = match &it.body {
+            Body::Enum(_) => VARIANTS,
+            Body::Struct(fields) if fields.items.len() > 1 => SEVERAL,
+            Body::Struct(_) => ALONE,
+        };
+        let sent = if it.marks.written { SENDING } else { "" };
+        let in_tables = it.marks.read && with_schemas;
+        let schema = if in_tables { SCHEMA } else { "" };
+        for pieces in [shape, OF_ITS_SHAPE, sent, schema] {
+            for piece in pieces.split('%') {
+                self.put_part(it, path, piece);
             }
-            Body::Enum(variants) => {
-                self.fill(it, VARIANTS);
-                self.put_brought_in(it.name, variants, path);
-                self.fill(it, OF_VARIANTS);
-            }
-        }
-        self.fill(it, OF_ITS_SHAPE);
-        if it.marks.written {
-            self.fill(it, SENDING);
-        }
-        if it.marks.read && with_schemas {
-            self.fill(it, SCHEMA);
         }
     }
 }

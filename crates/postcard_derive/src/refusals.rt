@@ -9,6 +9,9 @@ use declaration_parser::sent::is_primitive;
 use declaration_parser::tokens::{is_among, is_lifetime};
 use std::alloc::{AllocError, Global};
 
+/// What is said of a word, with what is to be written in its place.
+const IN_ITS_PLACE: &str = "` can't stand in the type of a field: write `";
+
 /// The text of the word at a place; nothing if there is none.
 fn text_at<'a>(words: &[PathWord<'a>], place: usize) -> &'a str {
     words.get(place).map_or("", |word| word.text)
@@ -23,12 +26,10 @@ fn are_at(words: &[PathWord], place: usize, wanted: &[&str]) -> bool {
 /// Why the reference at a place can't be there.
 fn reference_refusal(it: &Declaration, words: &[PathWord], place: usize) -> &'static str {
     let of = place.saturating_add(2);
+    let is_lent = are_at(words, of, &["str"]) || are_at(words, of, &["[", "u8", "]"]);
     if !is_lifetime(text_at(words, place.saturating_add(1))) {
         "` is a reference without a lifetime: write one of the type, as `&'a str`"
-    } else if it.marks.read
-        && text_at(words, of) != "str"
-        && !are_at(words, of, &["[", "u8", "]"])
-    {
+    } else if it.marks.read && !is_lent {
         "` can't be read: `&'a str` and `&'a [u8]` alone are lent; write `Vec` for a list, or the type itself"
     } else {
         ""
@@ -40,13 +41,7 @@ fn refuse(at: &mut Cursor, word: &str, why: &str) {
     if why.starts_with('`') {
         at.refuse(word, why);
     } else {
-        at.wrong(&[
-            "`",
-            word,
-            "` can't stand in the type of a field: write `",
-            why,
-            "`",
-        ]);
+        at.wrong(&["`", word, IN_ITS_PLACE, why, "`"]);
     }
     at.is_wrong = false;
 }
@@ -78,8 +73,7 @@ impl Origins<'_> {
 
     /// Why a name can't be a type's, or in a path to one.
     fn name_refusal(&self, it: &Declaration, word: &PathWord) -> &'static str {
-        let name = word.text;
-        let from = self.origin(word.head);
+        let (name, from) = (word.text, self.origin(word.head));
         let is_alone = !word.is_led && !word.leads;
         if is_alone && (is_among(name, &it.parameters) || is_primitive(name)) {
             ""
@@ -89,30 +83,13 @@ impl Origins<'_> {
             "` stands behind `::`, with which no path begins in Rattle: leave that out"
         } else if !is_alone && is_capital(word.head) {
             "` leads to a type of its own: write that type itself"
-        } else if word.leads {
-            ""
         } else if is_alone && !is_among(from, OF_THE_CRATE) {
             no_message(from, name)
-        } else if !is_alone
+        } else if word.is_led
+            && !word.leads
             && (from == "std" || is_among(word.head, &["alloc", "core", "heapless", "std"]))
         {
             no_message(word.head, name)
-        } else {
-            ""
-        }
-    }
-
-    /// Why the word at a place of a type can't be there.
-    fn word_refusal(&self, it: &Declaration, words: &[PathWord], place: usize) -> &'static str {
-        let Some(word) = words.get(place) else {
-            return "";
-        };
-        if let Some(why) = no_word(word.text) {
-            why
-        } else if word.text == "&" {
-            reference_refusal(it, words, place)
-        } else if is_small(word.text) || is_capital(word.text) {
-            self.name_refusal(it, word)
         } else {
             ""
         }
@@ -122,9 +99,14 @@ impl Origins<'_> {
     fn judge(&self, at: &mut Cursor, it: &Declaration, field: &Field, words: &[PathWord]) {
         let mut why = self.layout_refusal(field.layout, words);
         for (place, word) in words.iter().enumerate() {
-            if why.is_empty() {
-                why = self.word_refusal(it, words, place);
-            }
+            let text = word.text;
+            why = match (no_word(text), text) {
+                _ if !why.is_empty() => why,
+                (Some(why), _) => why,
+                (_, "&") => reference_refusal(it, words, place),
+                _ if is_small(text) || is_capital(text) => self.name_refusal(it, word),
+                _ => "",
+            };
             if !why.is_empty() {
                 at.line = word.line;
                 return refuse(at, word.text, why);

@@ -23,15 +23,10 @@ impl<'a> Origins<'a> {
         let mut head = "";
         for token in tokens {
             let word = token.text.as_str();
-            let is_declared = is_listed(before, "struct enum union type mod trait const");
-            let is_brought_in = !head.is_empty() && is_among(word, &[";", ",", "}"]);
-            let origin = if is_declared {
-                (word, "self")
-            } else {
-                (before, head)
-            };
-            if is_declared || is_brought_in {
-                origins.push(origin)?;
+            if is_listed(before, "struct enum union type mod trait const") {
+                origins.push((word, "self"))?;
+            } else if !head.is_empty() && is_among(word, &[";", ",", "}"]) {
+                origins.push((before, head))?;
             }
             match (before, word) {
                 ("use", ":") => continue,

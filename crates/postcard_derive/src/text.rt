@@ -26,12 +26,16 @@ impl Text {
         self.made.put_all(pieces);
     }
 
+    /// Appends what stands before the thing at a place of a list: this before the first, else a comma.
+    pub fn put_before(&mut self, place: usize, first: &str) {
+        self.put(if place > 0 { ", " } else { first });
+    }
+
     /// Appends these with commas between them, and what opens and closes them; nothing if there are none.
     pub fn put_each(&mut self, open: &str, pieces: &[&str], close: &str) {
-        let mut before = open;
-        for piece in pieces {
-            self.put_all(&[before, piece]);
-            before = ", ";
+        for (place, piece) in pieces.iter().enumerate() {
+            self.put_before(place, open);
+            self.put(piece);
         }
         if !pieces.is_empty() {
             self.put(close);

@@ -41,13 +41,12 @@ impl Text {
     /// Appends what ghost text brings in.
     pub fn put_brought_in(&mut self, name: &str, variants: &[VariantOf], path: &str) {
         self.put_all(&["    ghost use Rattle.", path, ".", name, ".TheVariants.{"]);
-        let mut before = "";
-        for variant in variants {
-            self.put_all(&[before, variant.name]);
+        for (place, variant) in variants.iter().enumerate() {
+            self.put_before(place, "");
+            self.put(variant.name);
             if is_among(variant.name, OF_SHAPES) {
                 self.put_all(&[" as The", variant.name]);
             }
-            before = ", ";
         }
         self.put("};\n");
         if variants.len() > 4 {
@@ -116,7 +115,7 @@ impl Text {
             let place = place_of(index, count);
             match word {
                 "types" => {
-                    self.put(if index > 0 { ", " } else { "" });
+                    self.put_before(index, "");
                     if !is_among(place.holder.1, &["V1", "V2", "V3"]) {
                         self.put_all(&[place.holder.0, "<"]);
                     }
