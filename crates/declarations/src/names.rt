@@ -89,7 +89,10 @@ pub struct Scopes<'a> {
     /// All names that are declared, or brought in from what isn't known; and all that a `use` or a module has.
     named: BTreeMap<&'a str, ()>,
     used: BTreeMap<&'a str, ()>,
-    /// From which scope a `*` leads to which others, also by those of others.
+    /// The names of modules and of what a `use` brings in, each in its scope.
+    members: BTreeMap<(usize, &'a str), ()>,
+    /// From which scope a `*` leads to which others; and the same by those of others too.
+    stars: BTreeMap<(usize, usize), ()>,
     ways: BTreeMap<(usize, usize), ()>,
     /// What brings in a derive by the name of one of serde's from another crate, or may do so by a `*`.
     derives: Vec<Import<'a>>,
@@ -102,7 +105,7 @@ pub struct Scopes<'a> {
 }
 
 /// Keeps a name.
-fn put<'a>(names: &mut BTreeMap<&'a str, ()>, name: &'a str) -> bool {
+fn put<K: Ord + Drop>(names: &mut BTreeMap<K, ()>, name: K) -> bool {
     names.insert(name, ()).is_err()
 }
 
@@ -130,6 +133,8 @@ impl<'a> Scopes<'a> {
             marked: BTreeMap::new(alloc),
             named: BTreeMap::new(alloc),
             used: BTreeMap::new(alloc),
+            members: BTreeMap::new(alloc),
+            stars: BTreeMap::new(alloc),
             ways: BTreeMap::new(alloc),
             derives: Vec::new(alloc),
             rules: Vec::new(alloc),
@@ -158,29 +163,24 @@ impl<'a> Scopes<'a> {
     fn find_modules(&mut self) {
         for it in &self.scopes {
             self.failed = put(&mut self.used, it.name) || self.failed;
+            self.failed = put(&mut self.members, (it.outer, it.name)) || self.failed;
         }
     }
 
     /// The scope at a place; a file without a name if there is none.
     fn scope(&self, place: usize) -> Scope<'a> {
-        match self.scopes.get(place) {
-            Some(it) => *it,
-            None => Scope {
-                kind: Kind::File,
-                name: "",
-                file: 0,
-                outer: place,
-                end: 0,
-            },
-        }
+        self.scopes.get(place).copied().unwrap_or(Scope {
+            kind: Kind::File,
+            name: "",
+            file: 0,
+            outer: place,
+            end: 0,
+        })
     }
 
     /// The name of a file by its place.
     fn name_of_file(&self, file: usize) -> &'a str {
-        match self.files.get(file) {
-            Some(read) => read.file.as_str(),
-            None => "",
-        }
+        self.files.get(file).map_or("", |read| read.file.as_str())
     }
 
     /// The name of the file of a scope.
@@ -243,6 +243,11 @@ impl<'a> Scopes<'a> {
     /// Whether a `use` or a module in another one has a name.
     fn is_used(&self, name: &str) -> bool {
         self.used.contains_key(name)
+    }
+
+    /// Whether a scope has a module or a `use` of a name.
+    fn is_member(&self, scope: usize, name: &'a str) -> bool {
+        self.members.contains_key(&(scope, name))
     }
 
     /// Whether a file declares a name, or brings it in from what isn't known.

@@ -62,10 +62,10 @@ impl<'a> Scopes<'a> {
                 return left == own && has_own || without_last(left, stem) == Some(own);
             }
             if it.kind == Kind::Module {
-                match without_last(left, it.name) {
-                    Some(before) => left = before,
-                    None => return false,
-                }
+                let Some(before) = without_last(left, it.name) else {
+                    return false;
+                };
+                left = before;
             }
             at = it.outer;
         }
@@ -84,31 +84,20 @@ impl<'a> Scopes<'a> {
 
     /// The only file of these that a module has for a module of this name.
     pub(super) fn file_in(&self, module: usize, name: &str) -> Option<usize> {
-        let mut found = None;
-        for file in 0..self.files.len() {
-            if self.scope(file).name == name && self.is_file_in(module, file) {
-                if found.is_some() {
-                    return None;
-                }
-                found = Some(file);
-            }
-        }
-        found
+        let mut files = (0..self.files.len()).filter(|file| self.scope(*file).name == name
+            && self.is_file_in(module, *file));
+        let found = files.next()?;
+        files.next().is_none().then_some(found)
     }
 
     /// The module that has a file, if one of these files has it and no other does.
     fn parent_of(&self, file: usize) -> Option<usize> {
         let own = self.scope(file).name;
-        let mut found = None;
-        for it in &self.scopes {
-            if it.kind == Kind::Outline && it.name == own && self.is_file_in(it.outer, file) {
-                if found.is_some() {
-                    return None;
-                }
-                found = Some(it.outer);
-            }
-        }
-        found
+        let mut modules = self.scopes.iter().filter(|it| it.kind == Kind::Outline
+            && it.name == own
+            && self.is_file_in(it.outer, file));
+        let found = modules.next()?;
+        modules.next().is_none().then_some(found.outer)
     }
 
     /// The module round another one, if these files have it.

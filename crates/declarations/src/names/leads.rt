@@ -5,7 +5,7 @@ ghost use Rattle.declarations.specs.NameRule.{candidates_in};
 use super::candidates::{Only, Space, Step, is_called, is_within, only_of};
 use super::path::Path;
 use super::rule::{BROUGHT_IN, BY_MODULE};
-use super::{Import, Kind, Scopes, is_known_crate};
+use super::{Import, Kind, Scopes, is_known_crate, put};
 use declaration_parser::tokens::is_among;
 
 /// Where a path leads.
@@ -81,14 +81,16 @@ impl<'a> Scopes<'a> {
         self.has(name) && !matches!(self.only(step, name, Space::Types), Only::Nothing)
     }
 
-    /// Notes where each `use` leads, until a `*` leads nowhere else. At first each seems to lead out of the files.
+    /// Notes where each `use` leads, until no `*` leads to more scopes. At first each seems to lead out of the files.
     pub(super) fn find_leads(&mut self) {
         for pass in 0..=self.scopes.len() {
-            let before = self.ways.len();
+            let before = self.stars.len();
             for place in 0..self.imports.len() {
                 self.find_lead(place);
             }
-            if pass > 1 && self.ways.len() == before {
+            if self.stars.len() > before {
+                self.find_ways();
+            } else if pass > 1 {
                 break;
             }
         }
@@ -106,16 +108,31 @@ impl<'a> Scopes<'a> {
         if let Lead::In(to) = lead
             && it.is_glob
         {
-            self.add_ways(it.scope, to);
+            self.failed = put(&mut self.stars, (it.scope, to)) || self.failed;
         }
     }
 
-    /// Notes that a scope has a way to another, and to where that has one.
-    fn add_ways(&mut self, from: usize, to: usize) {
-        for place in 0..self.scopes.len() {
-            if self.leads_to(to, place) {
-                let failed = self.ways.insert((from, place), ()).is_err();
-                self.failed = failed || self.failed;
+    /// Notes to which scopes each one leads by `*`, also by those of others.
+    fn find_ways(&mut self) {
+        self.ways.clear();
+        for from in 0..self.scopes.len() {
+            self.add_ways(from);
+        }
+    }
+
+    /// Notes to which scopes one leads.
+    fn add_ways(&mut self, from: usize) {
+        let mut open = Vec::new(self.alloc);
+        self.failed = open.push(from).is_err() || self.failed;
+        for _ in 0..=self.scopes.len() {
+            let Some(at) = open.pop() else {
+                break;
+            };
+            for (star, _) in self.stars.range((at, 0)..=(at, usize::MAX)) {
+                let to = star.1;
+                let before = self.ways.insert((from, to), ());
+                let is_new = matches!(before, Ok(None)) && open.push(to).is_ok();
+                self.failed = (!is_new && !matches!(before, Ok(Some(())))) || self.failed;
             }
         }
     }
@@ -189,10 +206,7 @@ impl<'a> Scopes<'a> {
                 };
             }
         };
-        match lead {
-            Some(place) => Lead::In(place),
-            None => Lead::Lost,
-        }
+        lead.map_or(Lead::Lost, Lead::In)
     }
 
     /// Where a name leads that follows one of a module which these files don't have: to the only module of that name.
@@ -225,11 +239,12 @@ impl<'a> Scopes<'a> {
                 found = Some(both(found, Lead::In(file)));
             }
         }
-        match found {
-            Some(lead) => lead,
-            None if is_known_crate(name) => Lead::Known,
-            None => Lead::Outside,
-        }
+        let beyond = if is_known_crate(name) {
+            Lead::Known
+        } else {
+            Lead::Outside
+        };
+        found.unwrap_or(beyond)
     }
 
     /// Where a name leads that a module declares as that of a module or a type, or brings in by a `use`; nothing if it does neither.
@@ -265,37 +280,38 @@ impl<'a> Scopes<'a> {
     pub(super) fn import_of(
         &self,
         module: usize,
-        name: &str,
+        name: &'a str,
         is_first: bool,
     ) -> Option<&Import<'a>> {
-        if !self.is_used(name) {
+        if !self.is_used(name) || (!is_first && !self.is_member(module, name)) {
             return None;
         }
-        self.imports.iter().find(|it| it.name == name
-            && (it.scope == module || (is_first && it.is_crate))
+        self.imports.iter().find(|it| (it.scope == module || (is_first && it.is_crate))
+            && it.name == name
             && !it.is_bare())
     }
 
     /// Where a name leads that a module declares as that of a module or a type; nothing if it doesn't.
-    pub(super) fn own_lead(&self, module: usize, name: &str, is_first: bool) -> Option<Lead> {
+    pub(super) fn own_lead(&self, module: usize, name: &'a str, is_first: bool) -> Option<Lead> {
         let mut found = None;
         let mut is_conditional = false;
-        for (place, it) in self.scopes.iter().enumerate() {
+        let count = if self.is_member(module, name) {
+            self.scopes.len()
+        } else {
+            0
+        };
+        for (place, it) in self.scopes.iter().enumerate().take(count) {
             if it.outer != module || it.name != name {
                 continue;
             }
             let lead = match it.kind {
                 Kind::Module => Lead::In(place),
-                Kind::Outline => match self.file_in(module, name) {
-                    Some(file) => Lead::In(file),
-                    None => Lead::Outside,
-                },
+                Kind::Outline => self.file_in(module, name).map_or(Lead::Outside, Lead::In),
                 Kind::Misnamed => Lead::Wrong(BROUGHT_IN),
-                Kind::Conditional => {
-                    is_conditional = true;
+                kind => {
+                    is_conditional = is_conditional || kind == Kind::Conditional;
                     continue;
                 }
-                _ => continue,
             };
             found = Some(both(found, lead));
         }
@@ -308,9 +324,12 @@ impl<'a> Scopes<'a> {
     }
 
     /// Where a name leads that a `*` of a module brings in; nothing if none does. What others pass on to that is doubtful.
-    fn star_lead(&self, module: usize, name: &str) -> Option<Lead> {
+    fn star_lead(&self, module: usize, name: &'a str) -> Option<Lead> {
         let mut found = None;
         for it in &self.imports {
+            if matches!(found, Some(Lead::Doubtful)) {
+                break;
+            }
             if !it.is_glob || !self.leads_to(module, it.scope) {
                 continue;
             }
@@ -332,7 +351,7 @@ impl<'a> Scopes<'a> {
     }
 
     /// Whether a body round a scope may have a module or a type of this name, or bring one in.
-    pub(super) fn is_of_body(&self, scope: usize, name: &str) -> bool {
+    pub(super) fn is_of_body(&self, scope: usize, name: &'a str) -> bool {
         if is_start(name) {
             return false;
         }
@@ -353,10 +372,12 @@ impl<'a> Scopes<'a> {
     }
 
     /// Whether a scope has a `use` of this name, perhaps under a condition.
-    pub(super) fn may_import(&self, scope: usize, name: &str) -> bool {
-        self.imports
-            .iter()
-            .any(|it| it.scope == scope && it.name == name)
+    pub(super) fn may_import(&self, scope: usize, name: &'a str) -> bool {
+        self.is_member(scope, name)
+            && self
+                .imports
+                .iter()
+                .any(|it| it.scope == scope && it.name == name)
     }
 
     /// Whether a first name leads out of the files: to the crate of that name, or to what a `use` brings in from one of these.

@@ -115,13 +115,9 @@ impl<'a> Scopes<'a> {
 
     /// Whether a scope may have the macro of this name from another crate, by a `use` or by `extern crate`.
     fn is_imported(&self, scope: usize, name: &str) -> bool {
-        for it in &self.imports {
-            let is_it = it.is_crate || (it.scope == scope && it.name == name);
-            if is_it && it.leads_out() && !matches!(it.lead, Lead::Known) {
-                return true;
-            }
-        }
-        false
+        self.imports.iter().any(|it| (it.is_crate || (it.scope == scope && it.name == name))
+            && it.leads_out()
+            && !matches!(it.lead, Lead::Known))
     }
 
     /// Whether a module hands a name to a macro before others.

@@ -6,7 +6,7 @@ ghost use Rattle.declarations.specs.declared.names.candidates.Space.TheVariants 
 use super::candidates::{Only, Space, Step};
 use super::leads::Lead;
 pub use super::path::Path;
-use super::{Import, Item, Scopes, What};
+use super::{Import, Item, Scopes, What, has_word};
 use crate::known::{is_everywhere, is_known, is_primitive, sent_as};
 use declaration_parser::faults::Faults;
 
@@ -212,7 +212,7 @@ impl<'a> Scopes<'a> {
     }
 
     /// Refuses a name that a macro may make, and as that of a type the name of a module, which the language's own types alone may have.
-    fn not_own(&self, scope: usize, name: &str, space: Space) -> Found<'a>
+    fn not_own(&self, scope: usize, name: &'a str, space: Space) -> Found<'a>
         ensures { IsStepAnswer [] result }
     {
         if space == Space::Types
@@ -279,48 +279,47 @@ impl<'a> Scopes<'a> {
     /// Whether a name that a module passes on may be another than was found in all files: no `use` leads there, or what leads out of the
     /// files or a macro may make the name on one of the ways.
     fn may_differ(&self, module: usize, found: &Found<'a>, name: &str, space: Space) -> bool {
-        let there = match found {
-            Found::In(_, there) => *there,
-            Found::Known(_) | Found::Not => usize::MAX,
-            _ => return false,
-        };
-        for place in 0..self.scopes.len() {
-            if place != there
-                && self.may_lead_to(module, place, name)
-                && self.may_have_other(place, found, name, space)
+        if let Found::In(_, there) = found
+            && !self.may_lead_to(module, *there, name)
+        {
+            return true;
+        }
+        if !matches!(found, Found::In(..) | Found::Known(_) | Found::Not) {
+            return false;
+        }
+        for it in &self.imports {
+            if it.name == name
+                && let Lead::In(next) = it.lead
+                && self.has_other(next, found, name, space)
             {
                 return true;
             }
         }
-        there != usize::MAX && !self.may_lead_to(module, there, name)
+        self.has_other(module, found, name, space)
     }
 
     /// Whether a scope may pass on what another has under a name: it is the other, or `use` leads there.
     pub(super) fn may_lead_to(&self, from: usize, place: usize, name: &str) -> bool {
-        let is_led = self.leads_to(from, place);
-        if is_led || !self.is_used(name) {
-            return is_led;
-        }
-        for it in &self.imports {
-            if it.name == name
-                && !it.is_glob
-                && let Lead::In(next) = it.lead
-                && self.leads_to(next, place)
-            {
-                return true;
-            }
-        }
-        false
+        self.leads_to(from, place)
+            || (self.is_used(name)
+                && self.imports.iter().any(|it| it.name == name
+                    && matches!(it.lead, Lead::In(next) if self.leads_to(next, place))))
     }
 
-    /// Whether a scope may have another than was found, by a macro or by a `*` that leads out of the files.
-    fn may_have_other(&self, place: usize, found: &Found<'a>, name: &str, space: Space) -> bool {
-        let own = |it: &Import<'_>| it.scope == place && it.name == name && !it.is_conditional;
-        let other = |it: &Import<'_>| it.is_glob
-            && it.scope == place
-            && may_bring(it, found, name, space);
-        !self.imports.iter().any(own)
-            && (self.is_handed(place, name) || self.imports.iter().any(other))
+    /// Whether a scope has another than was found, or a `*` leads from it to one that has: by a macro, or by a `*` that leads out of the files.
+    fn has_other(&self, from: usize, found: &Found<'a>, name: &str, space: Space) -> bool {
+        let is_other = |place: usize| self.leads_to(from, place)
+            && !matches!(found, Found::In(_, there) if *there == place)
+            && !self.imports.iter().any(|it| it.scope == place
+                && it.name == name
+                && !it.is_conditional);
+        self.imports.iter().any(|it| it.is_glob
+            && may_bring(it, found, name, space)
+            && is_other(it.scope))
+            || self
+                .calls
+                .iter()
+                .any(|it| is_other(it.scope) && has_word(it.inside, name))
     }
 
     /// Whether a scope has a `*`.

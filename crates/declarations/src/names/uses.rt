@@ -105,6 +105,7 @@ impl<'a> Scopes<'a> {
     fn put_import(&mut self, import: Import<'a>) {
         self.failed = self.imports.push(import).is_err() || self.failed;
         self.failed = put(&mut self.used, import.name) || self.failed;
+        self.failed = put(&mut self.members, (import.scope, import.name)) || self.failed;
         if !import.path.is_known_as(import.name, import.last) {
             self.failed = put(&mut self.named, import.name) || self.failed;
         }
