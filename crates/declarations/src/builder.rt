@@ -155,7 +155,6 @@ impl<'a, 'b> Builder<'a, 'b> {
         self.words.faults.turn_to(self.names.file_of(at.scope));
     }
 
-    /// The node at a place.
     fn node(&self, place: usize) -> Option<&Node> {
         self.schema.nodes.get(place)
     }
@@ -180,13 +179,11 @@ impl<'a, 'b> Builder<'a, 'b> {
         place
     }
 
-    /// Appends a name to a list.
     fn keep_name(&mut self, names: &mut Vec<String>, name: &str) {
         let name = self.text_of(name);
         self.words.push(names, name);
     }
 
-    /// A copy of a name.
     fn text_of(&mut self, name: &str) -> String {
         let text = String::from_str(self.alloc, name);
         self.words.faults.note(text.is_err());

@@ -104,7 +104,6 @@ pub struct Scopes<'a> {
     pub failed: bool,
 }
 
-/// Keeps a name.
 fn put<K: Ord + Drop>(names: &mut BTreeMap<K, ()>, name: K) -> bool {
     names.insert(name, ()).is_err()
 }

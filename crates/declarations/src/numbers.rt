@@ -51,7 +51,6 @@ pub fn operator_at(words: &[Token]) -> Option<(char, u32, &[Token])> {
     }
 }
 
-/// Two to the power of so much.
 fn power_of_two(times: u64) -> Option<u64> {
     1u64.checked_shl(u32::try_from(times).ok()?)
 }

@@ -59,7 +59,6 @@ pub struct Declared<'a> {
 }
 
 impl<'a> Declared<'a> {
-    /// What these files declare.
     fn new(alloc: Global, files: &'a [Read]) -> Result<Declared<'a>, AllocError> {
         let (all, faults) = declarations(alloc, Purpose::Schemas, files)?;
         let mut names = Scopes::new(alloc, files, &all)?;
@@ -73,7 +72,6 @@ impl<'a> Declared<'a> {
     }
 }
 
-/// The tokens of each file.
 fn tokens_in(alloc: Global, sources: &[Source]) -> Result<Vec<Read>, AllocError> {
     let mut files = Vec::new(alloc);
     for source in sources {

@@ -37,7 +37,6 @@ const MORE: &str =
 const BEHIND: &str =
     "` can't stand behind a type: write a known type, or one that is declared and marked";
 
-// What is said of types that can't be followed.
 const TOO_DEEP: &str =
     "types nest more than 64 deep, or hold themselves by aliases: declare a type for a part";
 
@@ -311,7 +310,6 @@ impl<'a> Builder<'a, '_> {
         self.owe_type(index, of, depth)
     }
 
-    /// The place of a known type by its name.
     #[cycle(types)]
     fn known(&mut self, word: &'a str, depth: u32) -> usize {
         match (form_of(word), plain_node(word)) {

@@ -111,8 +111,7 @@ impl<'a> Scopes<'a> {
 
     /// Whether a file is the root of a library by its name.
     pub(super) fn is_library(&self, file: usize) -> bool {
-        let (_, stem) = parts_of(self.name_of_file(file));
-        stem == "lib"
+        parts_of(self.name_of_file(file)).1 == "lib"
     }
 
     /// Whether a file has no module round it: it is the root of a crate, or alone and not in its `src`.

@@ -49,7 +49,6 @@ impl<'a> Scopes<'a> {
         only_of(&self.items, &self.scopes, step, name, space)
     }
 
-    /// Whether a scope is one of a step's.
     pub(super) fn is_in(&self, scope: usize, step: Step<'a>) -> bool {
         is_within(&self.scopes, step, scope)
     }
@@ -373,11 +372,8 @@ impl<'a> Scopes<'a> {
 
     /// Whether a scope has a `use` of this name, perhaps under a condition.
     pub(super) fn may_import(&self, scope: usize, name: &'a str) -> bool {
-        self.is_member(scope, name)
-            && self
-                .imports
-                .iter()
-                .any(|it| it.scope == scope && it.name == name)
+        let mut imports = self.imports.iter();
+        self.is_member(scope, name) && imports.any(|it| it.scope == scope && it.name == name)
     }
 
     /// Whether a first name leads out of the files: to the crate of that name, or to what a `use` brings in from one of these.

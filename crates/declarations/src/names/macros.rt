@@ -58,11 +58,9 @@ fn is_harmless(name: &str) -> bool {
     name.starts_with("assert_") || name.starts_with("const_assert") || name == "thread_local"
 }
 
-/// Whether a name is among words.
 pub fn has_word(words: &[Token], name: &str) -> bool {
-    words
-        .iter()
-        .any(|token| plain_name(token.text.as_str()) == name)
+    let mut words = words.iter();
+    words.any(|token| plain_name(token.text.as_str()) == name)
 }
 
 impl<'a> Scopes<'a> {
@@ -128,8 +126,7 @@ impl<'a> Scopes<'a> {
 
     /// Whether a scope hands a name to a macro, which may declare it there.
     pub(super) fn is_handed(&self, scope: usize, name: &str) -> bool {
-        self.calls
-            .iter()
-            .any(|call| call.scope == scope && has_word(call.inside, name))
+        let mut calls = self.calls.iter();
+        calls.any(|call| call.scope == scope && has_word(call.inside, name))
     }
 }

@@ -16,12 +16,9 @@ pub struct Path<'a> {
 impl<'a> Path<'a> {
     /// Takes a colon, which tells of other crates if a path begins with it.
     pub fn begin(&mut self) {
-        if self.count == 0 {
-            self.is_absolute = true;
-        }
+        self.is_absolute = self.is_absolute || self.count == 0;
     }
 
-    /// Goes on by a name.
     pub fn go(&mut self, name: &'a str) {
         let count = self.count;
         if let Some(place) = self.names.get_mut(count) {

@@ -31,7 +31,6 @@ impl<'a> Scopes<'a> {
         }
     }
 
-    /// Reads an item.
     fn read_item(&mut self, item: &items::Item<'a>) {
         let is_conditional = item.has("cfg");
         let import = Import::of(item.scope, item.is_public, is_conditional);

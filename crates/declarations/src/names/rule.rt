@@ -322,11 +322,9 @@ impl<'a> Scopes<'a> {
                 .any(|it| is_other(it.scope) && has_word(it.inside, name))
     }
 
-    /// Whether a scope has a `*`.
     pub(super) fn has_star(&self, scope: usize) -> bool {
-        self.imports
-            .iter()
-            .any(|it| it.is_glob && it.scope == scope)
+        let mut imports = self.imports.iter();
+        imports.any(|it| it.is_glob && it.scope == scope)
     }
 
     /// What the last name of a path stands for, which a scope uses.

@@ -101,7 +101,6 @@ impl<'a> Scopes<'a> {
         }
     }
 
-    /// Adds what is brought in.
     fn put_import(&mut self, import: Import<'a>) {
         self.failed = self.imports.push(import).is_err() || self.failed;
         self.failed = put(&mut self.used, import.name) || self.failed;
