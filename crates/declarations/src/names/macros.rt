@@ -58,6 +58,7 @@ fn is_harmless(name: &str) -> bool {
     name.starts_with("assert_") || name.starts_with("const_assert") || name == "thread_local"
 }
 
+/// Whether a name is among words.
 pub fn has_word(words: &[Token], name: &str) -> bool {
     let mut words = words.iter();
     words.any(|token| plain_name(token.text.as_str()) == name)

@@ -19,6 +19,7 @@ impl<'a> Path<'a> {
         self.is_absolute = self.is_absolute || self.count == 0;
     }
 
+    /// Goes on by a name.
     pub fn go(&mut self, name: &'a str) {
         let count = self.count;
         if let Some(place) = self.names.get_mut(count) {
