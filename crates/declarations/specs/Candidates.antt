@@ -45,8 +45,7 @@ is_place_of_step step place (Some scope) = is_of_step step place scope
 -- whether an item is a constant
 abbrev pub is_constant_item : What → Bool
 is_constant_item (what.Constant of value) = true
-is_constant_item what.MadeConstant = true
-is_constant_item what.Static = true
+is_constant_item (what.RefusedConstant why) = true
 is_constant_item _ = false
 
 -- whether an item is a type that can be asked for

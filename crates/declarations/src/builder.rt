@@ -190,8 +190,7 @@ impl<'a, 'b> Builder<'a, 'b> {
         text.unwrap_or(String::new(self.alloc))
     }
 
-    /// Begins the table with all declared types without parameters, in their order, and says what is wrong beside them: with the
-    /// files, and with the types that have parameters.
+    /// Begins the table with all declared types without parameters, and says what is wrong with the files and the other types.
     pub fn owe_all(&mut self) {
         let declared = self.declared;
         self.words.faults.put(declared.faults.as_str());

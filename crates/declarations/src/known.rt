@@ -6,9 +6,6 @@ pub use declaration_parser::sent::{is_primitive, sent_as};
 use declaration_parser::tokens::is_listed;
 use schema_table::{IntegerType, Node};
 
-/// Crates whose types are known here by their names.
-pub const KNOWN_CRATES: &str = "alloc arrayvec core hashbrown heapless postcard serde_bytes std";
-
 /// What a known type makes of what is in `<` and `>` after its name.
 #[derive(Clone, Copy, PartialEq, Eq, Drop)]
 pub enum KnownForm {
@@ -36,13 +33,12 @@ pub enum KnownForm {
     Big,
 }
 
-/// A form, how many types it holds, and at which place a length is among what is in its brackets; at [`NOWHERE`] if there is none.
+/// A form, how many types it holds, and where a length is among what is in its brackets, or [`NOWHERE`].
 pub type FormRow = (KnownForm, usize, usize);
 
 pub const NOWHERE: usize = usize::MAX;
 
-/// The known types that hold others, or a length, by their names. In a heap what precedes the length says which element is
-/// first.
+/// The known types that hold others, or a length. Before the length of a heap is which element comes first.
 const ROWS: &[(&str, KnownForm, usize, usize)] = &[
     ("Arc Box Cell Cow Mutex Rc", KnownForm::Inner, 1, NOWHERE),
     ("RefCell Reverse RwLock", KnownForm::Inner, 1, NOWHERE),
@@ -96,6 +92,14 @@ pub fn form_of(word: &str) -> Option<FormRow> {
 /// Whether every file has this name, unless it declares it or a `use` brings another in.
 pub fn is_everywhere(word: &str) -> bool {
     is_primitive(word) || is_listed(word, "Box Option Result String Vec")
+}
+
+/// Whether the types of the crate of this name are known by theirs.
+pub fn is_known_crate(name: &str) -> bool {
+    is_listed(
+        name,
+        "alloc arrayvec core hashbrown heapless postcard serde_bytes std",
+    )
 }
 
 /// Whether a type of this name is known.

@@ -9,11 +9,11 @@ mod reading;
 mod rule;
 mod uses;
 
-use crate::known::{KNOWN_CRATES, is_everywhere};
+use crate::known::is_everywhere;
 pub use candidates::Space;
 use declaration_parser::declaration::Declaration;
 use declaration_parser::items::{self, Kind, Scope, Walk};
-use declaration_parser::tokens::{Read, Token, is_listed};
+use declaration_parser::tokens::{Read, Token};
 use folders::module_of_file;
 use leads::Lead;
 pub use macros::has_word;
@@ -30,16 +30,11 @@ pub enum What<'a> {
     Unmarked,
     /// What an alias stands for.
     Alias(&'a [Token]),
-    /// An alias with parameters.
-    Generic,
     /// A constant: the words of its type, and those that it is computed of.
     Constant(&'a [Token], &'a [Token]),
-    /// What a macro makes: a type, a constant, or flags that are sent as their bits.
-    Made,
-    MadeConstant,
-    Bits,
-    /// A `static`, whose value isn't read.
-    Static,
+    /// A type that isn't taken, for this reason; and a constant.
+    Refused(&'static str),
+    RefusedConstant(&'static str),
 }
 
 /// A name that a scope declares.
@@ -53,7 +48,7 @@ struct Item<'a> {
 }
 
 /// What a `use` brings into a scope: the last name of a path, by this name; all of it by `*`.
-#[derive(Clone, Copy, Drop)]
+#[derive(Clone, Copy, Default, Drop)]
 struct Import<'a> {
     name: &'a str,
     path: Path<'a>,
@@ -67,7 +62,7 @@ struct Import<'a> {
     lead: Lead,
 }
 
-/// Where a declaration is, how many declarations are where it was found, and whether another of its name precedes it in its module.
+/// Where a declaration is, how many are where it was found, and whether another in its module precedes it by the same name.
 #[derive(Clone, Copy, Default, Drop)]
 pub struct Stand {
     pub scope: usize,
@@ -177,7 +172,6 @@ impl<'a> Scopes<'a> {
         })
     }
 
-    /// The name of a file by its place.
     fn name_of_file(&self, file: usize) -> &'a str {
         self.files.get(file).map_or("", |read| read.file.as_str())
     }
@@ -187,8 +181,7 @@ impl<'a> Scopes<'a> {
         self.name_of_file(self.scope(scope).file)
     }
 
-    /// Notes which item a marked declaration is, and where it is. Types are items in the order in which they are declared, so those
-    /// before the last one needn't be gone over again; gives the place of this one.
+    /// Notes which item a marked declaration is, from a place on, and where it is. Gives the item's place, where the next may begin.
     fn mark(&mut self, index: usize, it: &Declaration<'a>, from: usize) -> usize {
         let mut stand = Stand::default();
         let mut first = from;
@@ -253,9 +246,4 @@ impl<'a> Scopes<'a> {
     pub fn has(&self, name: &str) -> bool {
         self.named.contains_key(name)
     }
-}
-
-/// Whether a crate's types are known by their names.
-fn is_known_crate(name: &str) -> bool {
-    is_listed(name, KNOWN_CRATES)
 }

@@ -55,8 +55,7 @@ fn power_of_two(times: u64) -> Option<u64> {
     1u64.checked_shl(u32::try_from(times).ok()?)
 }
 
-/// What an operator makes of two numbers, if their type has that. Of a shift the second has a type of its own. What shifts all
-/// bits out isn't computed, as Rust has it.
+/// What an operator makes of two numbers, if their type has that. What a shift is by has a type of its own.
 pub fn computed_of(operator: char, first: Number, second: Number) -> Option<Number> {
     let most = match operator {
         '<' | '>' => first.most,

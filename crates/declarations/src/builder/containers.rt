@@ -13,10 +13,6 @@ use schema_table::{IntegerType, Node};
 const NO_ARGUMENTS: &str =
     "what a type holds is wanted in `<` and `>`, as `Option<u8>` and `ArrayVec<u8, 4>` have it";
 
-/// What is said of a type whose bytes have no order.
-const NO_INTEGER: &str =
-    "` isn't an integer of 16 to 128 bits: write one, or its bytes as an array";
-
 /// The node of a known type, by the places of the types that it holds (of a map, that of its pairs), its length, and its type if
 /// that can be sent as its bytes. Nothing if it has no node of its own.
 fn node_of(
@@ -46,8 +42,8 @@ fn node_of(
 }
 
 impl<'a> Builder<'a, '_> {
-    /// The words between the commas that nothing encloses.
-    pub(super) fn parts(&mut self, words: &'a [Token]) -> Vec<&'a [Token]> {
+    /// The words between the commas that nothing encloses; of arguments only those of types and lengths.
+    pub(super) fn parts(&mut self, words: &'a [Token], are_arguments: bool) -> Vec<&'a [Token]> {
         let mut all = Vec::new(self.alloc);
         let mut rest = words;
         for _ in 0..words.len() {
@@ -55,7 +51,9 @@ impl<'a> Builder<'a, '_> {
                 break;
             }
             let (part, behind) = type_up_to(rest, &[","]);
-            self.words.push(&mut all, part);
+            if !are_arguments || !(part.is_empty() || is_lifetime(first_word(part))) {
+                self.words.push(&mut all, part);
+            }
             rest = behind_first(behind);
         }
         all
@@ -69,9 +67,7 @@ impl<'a> Builder<'a, '_> {
         let (inside, rest) = type_up_to(self.words.rest, &[">"]);
         self.words.rest = rest;
         self.words.owe(">");
-        let mut all = self.parts(inside);
-        all.retain(|words| !words.is_empty() && !is_lifetime(first_word(words)));
-        all
+        self.parts(inside, true)
     }
 
     /// The place of a type that holds the types and the length in these parts.
@@ -140,7 +136,10 @@ impl<'a> Builder<'a, '_> {
         match node_of(form, places, most, of) {
             Some(node) if is_ordered => self.put(first, node, names),
             Some(node) => self.add(node, names),
-            None if is_ordered => self.refuse(first_word(words), NO_INTEGER),
+            None if is_ordered => self.refuse(
+                first_word(words),
+                "` isn't an integer of 16 to 128 bits: write one, or its bytes as an array",
+            ),
             None => self.wrong(&[NO_ARGUMENTS]),
         }
     }

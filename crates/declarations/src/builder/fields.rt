@@ -5,13 +5,6 @@ use crate::known::KnownForm;
 use declaration_parser::declaration::{Field, Fields, Form, Layout, VariantOf};
 use schema_table::Node;
 
-// What is said of a field that `with` lays out, and whose type it isn't for.
-const NO_BUFFER: &str =
-    "`serde_bytes` sends how many bytes there are before them: write `ByteBuf` in its place";
-
-const OTHER_CRATE: &str =
-    "`with` names something of these files or of another crate here: write the type that is on the wire";
-
 /// What a path begins with that names a layout: each has to lead out of the files.
 fn roots_of(layout: Layout) -> &'static [&'static str] {
     match layout {
@@ -78,7 +71,9 @@ impl<'a> Builder<'a, '_> {
         let roots = roots_of(field.layout);
         for root in roots {
             if !self.names.is_foreign(self.at.scope, root, roots) {
-                return self.wrong(&[OTHER_CRATE]);
+                return self.wrong(&[
+                    "`with` names something of these files or of another crate here: write the type that is on the wire",
+                ]);
             }
         }
         let form = match (field.layout, self.node(place)) {
@@ -89,7 +84,9 @@ impl<'a> Builder<'a, '_> {
             | (Layout::Array, Some(Node::Array(..))) => return place,
             (Layout::Buffer, Some(Node::Option(inner)))
                 if matches!(self.node(*inner), Some(Node::Bytes)) => return place,
-            (Layout::Buffer, _) => return self.wrong(&[NO_BUFFER]),
+            (Layout::Buffer, _) => return self.wrong(&[
+                "`serde_bytes` sends how many bytes there are before them: write `ByteBuf` in its place",
+            ]),
             _ => return self.wrong(&[
                 "`with` is of an array here: write the type that is on the wire",
             ]),

@@ -7,14 +7,8 @@ use crate::numbers::{Number, computed_of, literal, operator_at, width_of};
 use declaration_parser::attributes::group;
 use declaration_parser::tokens::Token;
 
-// What is said of words that are no length.
-const TWO: &str =
-    "` is more than one constant: leave out what isn't meant, or write its module before it";
-
+/// What is said of a word that is no length.
 const NO_NUMBER: &str = "` isn't a length in plain digits: write them";
-
-const NO_LENGTH: &str =
-    "a length is a number, the name of one, or computed of those: write the number";
 
 /// How many numbers one length may be computed of.
 const MOST_NUMBERS: u32 = 10_000;
@@ -26,8 +20,7 @@ const WEAKEST: u32 = 3;
 const GREATEST: u64 = 0xFFFF_FFFF;
 
 impl<'a> Builder<'a, '_> {
-    /// The length that these words are; if they are none, why the constant in them that was looked for last is none, or what a
-    /// length is.
+    /// The length that these words are. If they are none, it says why the constant that was looked for last is none, if any.
     pub(super) fn length(&mut self, words: &'a [Token]) -> u64 {
         self.left = MOST_NUMBERS;
         self.doubt = ("", "");
@@ -38,7 +31,9 @@ impl<'a> Builder<'a, '_> {
         match (number, self.doubt, words) {
             (Some(number), _, _) => return number.value,
             (None, ("", _), [only]) => self.refuse(only.text.as_str(), NO_NUMBER),
-            (None, ("", _), _) => self.wrong(&[NO_LENGTH]),
+            (None, ("", _), _) => self.wrong(&[
+                "a length is a number, the name of one, or computed of those: write the number",
+            ]),
             (None, (name, why), _) => self.refuse(name, why),
         };
         0
@@ -115,10 +110,9 @@ impl<'a> Builder<'a, '_> {
     fn named_number(&mut self, most: u64, depth: u32) -> Option<Number> {
         if let Some((value, suffix)) = literal(self.words.peek()) {
             self.words.step();
-            let most = if suffix.is_empty() {
-                most
-            } else {
-                width_of(suffix)?.0
+            let most = match suffix {
+                "" => most,
+                of => width_of(of)?.0,
             };
             return Number { value, most }.within(most);
         }
@@ -148,7 +142,8 @@ impl<'a> Builder<'a, '_> {
                     .within(most);
             }
             Found::Wrong(why) => why,
-            Found::Two => TWO,
+            Found::Two =>
+                "` is more than one constant: leave out what isn't meant, or write its module before it",
             _ => return None,
         };
         self.doubt = (last, why);

@@ -37,9 +37,6 @@ const MORE: &str =
 const BEHIND: &str =
     "` can't stand behind a type: write a known type, or one that is declared and marked";
 
-const TOO_DEEP: &str =
-    "types nest more than 64 deep, or hold themselves by aliases: declare a type for a part";
-
 /// Appends which declared name is most like a word, if half of it is, and all that there are.
 fn put_nearest<'a>(faults: &mut Faults<'a>, declared: &[Declaration<'a>], word: &str) {
     let (mut most, mut nearest) = (0, "");
@@ -60,8 +57,7 @@ fn put_nearest<'a>(faults: &mut Faults<'a>, declared: &[Declaration<'a>], word: 
     faults.put("\n");
 }
 
-/// The path at the start of words: the names before the last, the last, which is empty if there is none, and the words after
-/// it. What is in brackets may follow `::` too, as in `Vec::<u8>`.
+/// The path at the start of words, its last name, empty if there is none, and the words after it, as `<u8>` after `Vec::`.
 pub fn path_at(words: &[Token]) -> (Path<'_>, &str, &[Token]) {
     let mut path = Path::default();
     let mut last = "";
@@ -97,12 +93,11 @@ impl<'a> Builder<'a, '_> {
         }
         if depth == 0 {
             // parameters that grow reach this many times
-            if !self.is_too_deep {
-                self.wrong(&[TOO_DEEP]);
-            }
+            self.words.is_wrong = self.is_too_deep;
             self.is_too_deep = true;
-            self.words.is_wrong = true;
-            return NOWHERE;
+            return self.wrong(&[
+                "types nest more than 64 deep, or hold themselves by aliases: declare a type for a part",
+            ]);
         }
         if self.schema.nodes.len() > MOST_NODES {
             return self.wrong(&[
@@ -132,7 +127,7 @@ impl<'a> Builder<'a, '_> {
     #[cycle(types)]
     fn bracketed(&mut self, open: Word, inside: &'a [Token], depth: u32) -> usize {
         if matches!(open, Word::Paren) {
-            let parts = self.parts(inside);
+            let parts = self.parts(inside, false);
             let form = match parts.len() {
                 1 if last_word(inside) != "," => KnownForm::Inner,
                 _ => KnownForm::Tuple,
@@ -222,7 +217,6 @@ impl<'a> Builder<'a, '_> {
         self.wrong(&["`", word, TWO, paths.as_str()])
     }
 
-    /// Refuses a type that is sent as another.
     fn refuse_sent(&mut self, word: &str, sent: &str) -> usize {
         self.wrong(&["`", word, "` is sent as `", sent, "`: write that"])
     }
@@ -247,9 +241,8 @@ impl<'a> Builder<'a, '_> {
 
     /// What stands for a parameter of this name, which is a length or a type.
     pub(super) fn given(&self, word: &str, is_length: bool) -> Option<Given<'a>> {
-        let of = &self.made.get(self.at.own)?.of;
-        of.iter()
-            .find(|it| it.name == word && it.is_length == is_length)
+        let mut of = self.made.get(self.at.own)?.of.iter();
+        of.find(|it| it.name == word && it.is_length == is_length)
             .copied()
     }
 
@@ -260,10 +253,9 @@ impl<'a> Builder<'a, '_> {
         {
             return Given { name, ..it };
         }
-        let is_of_own = words.iter().any(|token| {
-            let word = plain_name(token.text.as_str());
-            word == "Self" || self.given(word, false).is_some() || self.given(word, true).is_some()
-        });
+        let own = self.made.get(self.at.own);
+        let is_of_own = has_word(words, "Self")
+            || own.is_some_and(|own| own.of.iter().any(|it| has_word(words, it.name)));
         let own = if is_of_own { self.at.own } else { NOWHERE };
         let at = Context { own, ..self.at };
         Given {

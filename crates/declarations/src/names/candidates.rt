@@ -1,9 +1,8 @@
 //! The candidates of a step: the items of a name in some scopes.
-ghost use Rattle.std.specs.Prelude.{◌≡◌, ◌∷◌, [], IfNone, IfSome, nat_eq};
+ghost use Rattle.std.specs.Prelude.{◌≡◌};
 ghost use Rattle.std.specs.Cmp.Lexicographic.{pointwise};
 ghost use Rattle.std.specs.List.{slice_get};
-ghost use Rattle.declarations.specs.Candidates.{is_alike_byte, is_module_kind, is_place_of_step};
-ghost use Rattle.declarations.specs.Candidates.{is_item_of, candidates, TellsOnly};
+ghost use Rattle.declarations.specs.Candidates.{is_alike_byte, is_item_of, is_place_of_step, candidates, TellsOnly};
 
 use super::{Item, Kind, Scope, What};
 
@@ -37,14 +36,7 @@ pub enum Only<'b, 'a> {
     Two,
 }
 
-/// Whether two bytes of names are one: a crate's name has `_` for the `-` of its folder.
-fn is_alike(byte: u8, wanted: u8) -> bool
-    ensures { result ≡ is_alike_byte byte wanted }
-{
-    byte == wanted || (byte == b'-' && wanted == b'_')
-}
-
-/// Whether a module has this name.
+/// Whether a module has this name: a crate's has `_` for the `-` of its folder.
 pub fn is_called(name: &str, wanted: &str) -> bool
     ensures { result ≡ pointwise is_alike_byte name.now wanted.now }
 {
@@ -54,20 +46,13 @@ pub fn is_called(name: &str, wanted: &str) -> bool
         let [other, rest @ ..] = right else {
             return false;
         };
-        if !is_alike(*first, *other) {
+        if *first != *other && (*first != b'-' || *other != b'_') {
             return false;
         }
         left = behind;
         right = rest;
     }
     right.is_empty()
-}
-
-/// Whether a scope is a module, whose names others see.
-fn is_module(scope: &Scope<'_>) -> bool
-    ensures { result ≡ is_module_kind scope.now.kind }
-{
-    matches!(scope.kind, Kind::File | Kind::Module)
 }
 
 /// Whether a scope is one of a step's.
@@ -77,11 +62,12 @@ pub fn is_within(scopes: &[Scope<'_>], step: Step<'_>, scope: usize) -> bool
     let Some(it) = scopes.get(scope) else {
         return false;
     };
+    let is_module = matches!(it.kind, Kind::File | Kind::Module);
     match step {
         Step::Scope(own) => scope == own,
-        Step::All => is_module(it),
-        Step::Module(name) => is_module(it) && is_called(it.name, name),
-        Step::Bodies => !is_module(it),
+        Step::All => is_module,
+        Step::Module(name) => is_module && is_called(it.name, name),
+        Step::Bodies => !is_module,
     }
 }
 
@@ -89,39 +75,12 @@ pub fn is_within(scopes: &[Scope<'_>], step: Step<'_>, scope: usize) -> bool
 fn is_of(item: &Item<'_>, space: Space) -> bool
     ensures { result ≡ is_item_of space item.now.what }
 {
-    let is_constant = matches!(
-        item.what,
-        What::Constant(..) | What::MadeConstant | What::Static
-    );
+    let is_constant = matches!(item.what, What::Constant(..) | What::RefusedConstant(_));
     match space {
         Space::Types => !is_constant,
         Space::Constants => is_constant,
         Space::Asked => matches!(item.what, What::Marked(_) | What::Alias(_)),
     }
-}
-
-/// The first candidate among items, and those after it.
-fn first_of<'b, 'a>(
-    items: &'b [Item<'a>],
-    scopes: &[Scope<'a>],
-    step: Step<'_>,
-    name: &str,
-    space: Space,
-) -> Option<(&'b Item<'a>, &'b [Item<'a>])>
-    ensures first { IfSome result (λ found.
-        candidates scopes.now step.entry name.now space items.now
-        ≡ found.0.now ∷ candidates scopes.now step.entry name.now space found.1.now) }
-    ensures none { IfNone result
-        (candidates scopes.now step.entry name.now space items.now ≡ []) }
-{
-    let mut left = items;
-    while let [item, rest @ ..] = left {
-        if item.name == name && is_of(item, space) && is_within(scopes, step, item.scope) {
-            return Some((item, rest));
-        }
-        left = rest;
-    }
-    None
 }
 
 /// The only candidate among items.
@@ -134,11 +93,19 @@ pub fn only_of<'b, 'a>(
 ) -> Only<'b, 'a>
     ensures only { TellsOnly result (candidates scopes.now step.entry name.now space items.now) }
 {
-    let Some((item, rest)) = first_of(items, scopes, step, name, space) else {
-        return Only::Nothing;
-    };
-    match first_of(rest, scopes, step, name, space) {
-        None => Only::One(item),
-        Some(_) => Only::Two,
+    let mut found = None;
+    let mut left = items;
+    while let [item, rest @ ..] = left {
+        if item.name == name && is_of(item, space) && is_within(scopes, step, item.scope) {
+            if found.is_some() {
+                return Only::Two;
+            }
+            found = Some(item);
+        }
+        left = rest;
+    }
+    match found {
+        Some(item) => Only::One(item),
+        None => Only::Nothing,
     }
 }

@@ -29,10 +29,8 @@ impl<'a> Scopes<'a> {
 
     /// Whether the path of a `use` begins with a crate that has serde's derives, also by another name, or ends with its name.
     fn is_of_serde(&self, it: &Import<'a>, root: &'a str) -> bool {
-        let krate = match self.import_of(self.module_of(it.scope), root, true) {
-            Some(by) => by.last,
-            None => root,
-        };
+        let by = self.import_of(self.module_of(it.scope), root, true);
+        let krate = by.map_or(root, |by| by.last);
         has_serdes(krate) || (it.path.count > 1 && has_serdes(it.path.before()))
     }
 

@@ -1,23 +1,22 @@
 //! Which file a module has, by the folders that both are in.
 use super::{Kind, Scopes};
 
-/// The name of a file without its ending, and the folder of it.
+/// A path without its last name, and that name.
+fn split_last(path: &str) -> (&str, &str) {
+    path.rsplit_once('/').unwrap_or(("", path))
+}
+
+/// The folder of a file, and its name without the ending.
 fn parts_of(file: &str) -> (&str, &str) {
-    let (folder, name) = file.rsplit_once('/').unwrap_or(("", file));
+    let (folder, name) = split_last(file);
     let (stem, _) = name.rsplit_once('.').unwrap_or((name, ""));
     (folder, stem)
 }
 
-/// The last name of a folder.
-fn last_of(folder: &str) -> &str {
-    let (_, name) = folder.rsplit_once('/').unwrap_or(("", folder));
-    name
-}
-
 /// The folder in which one of this name is, if that is its last name.
 fn without_last<'f>(folder: &'f str, name: &str) -> Option<&'f str> {
-    let (before, last) = folder.rsplit_once('/').unwrap_or(("", folder));
-    if last == name { Some(before) } else { None }
+    let (before, last) = split_last(folder);
+    (last == name).then_some(before)
 }
 
 /// Whether a file of this name is the root of a crate.
@@ -27,13 +26,14 @@ fn is_root(stem: &str) -> bool {
 
 /// Whether each file of a folder of this name is the root of a crate.
 fn has_roots(folder: &str) -> bool {
-    matches!(last_of(folder), "bin" | "examples" | "tests" | "benches")
+    let (_, last) = split_last(folder);
+    matches!(last, "bin" | "examples" | "tests" | "benches")
 }
 
 /// Whether a folder is the `src` of a crate, or in it. Above a whole path it may have any name.
 fn is_in_src(folder: &str) -> bool {
     let is_whole = folder.starts_with('/');
-    last_of(folder) == "src"
+    split_last(folder).1 == "src"
         || (!is_whole && (folder.starts_with("src/") || folder.contains("/src/")))
 }
 
@@ -41,10 +41,10 @@ fn is_in_src(folder: &str) -> bool {
 pub(super) fn module_of_file(file: &str) -> &str {
     let (folder, stem) = parts_of(file);
     if is_root(stem) {
-        return last_of(folder.strip_suffix("/src").unwrap_or(folder));
+        return split_last(folder.strip_suffix("/src").unwrap_or(folder)).1;
     }
     if stem == "mod" {
-        return last_of(folder);
+        return split_last(folder).1;
     }
     stem
 }
@@ -76,7 +76,7 @@ impl<'a> Scopes<'a> {
     fn is_file_in(&self, module: usize, file: usize) -> bool {
         let (folder, stem) = parts_of(self.name_of_file(file));
         let within = match stem {
-            "mod" => without_last(folder, last_of(folder)).unwrap_or(""),
+            "mod" => split_last(folder).0,
             _ => folder,
         };
         !is_root(stem) && self.is_folder_of(module, within)
@@ -122,13 +122,12 @@ impl<'a> Scopes<'a> {
 
     /// The root of the crate whose modules lead to a scope. Words in no file are taken as those of the only file.
     pub(super) fn root_of(&self, scope: usize) -> Option<usize> {
-        let mut own = self.scope(scope).file;
-        if own >= self.files.len() {
-            if self.files.len() != 1 {
-                return None;
-            }
-            own = 0;
-        }
+        let file = self.scope(scope).file;
+        let mut own = match self.files.len() {
+            1 => 0,
+            count if file < count => file,
+            _ => return None,
+        };
         for _ in 0..self.files.len() {
             if self.is_top_file(own) {
                 return Some(own);

@@ -4,18 +4,20 @@ ghost use Rattle.declarations.specs.NameRule.{candidates_in};
 
 use super::candidates::{Only, Space, Step, is_called, is_within, only_of};
 use super::path::Path;
-use super::rule::{BROUGHT_IN, BY_MODULE};
-use super::{Import, Kind, Scopes, is_known_crate, put};
+use super::rule::BROUGHT_IN;
+use super::{Import, Kind, Scopes, put};
+use crate::known::is_known_crate;
 use declaration_parser::tokens::is_among;
 
 /// Where a path leads.
-#[derive(Clone, Copy, Drop)]
+#[derive(Clone, Copy, Default, Drop)]
 pub(super) enum Lead {
     /// To the module at this place.
     In(usize),
     /// To what belongs to a type, as a variant does.
     Type,
     Known,
+    #[default]
     Outside,
     /// To what a `*` may bring in that leads out of the files.
     Open,
@@ -43,14 +45,10 @@ fn both(found: Option<Lead>, other: Lead) -> Lead {
 
 impl<'a> Scopes<'a> {
     /// The candidates of a step.
-    pub(super) fn only(&self, step: Step<'a>, name: &str, space: Space) -> Only<'_, 'a>
+    pub(super) fn only(&self, step: Step<'_>, name: &str, space: Space) -> Only<'_, 'a>
         ensures only { TellsOnly result (candidates_in self.now step.entry name.now space) }
     {
         only_of(&self.items, &self.scopes, step, name, space)
-    }
-
-    pub(super) fn is_in(&self, scope: usize, step: Step<'a>) -> bool {
-        is_within(&self.scopes, step, scope)
     }
 
     /// Whether a scope is in a module, as a body is.
@@ -75,8 +73,7 @@ impl<'a> Scopes<'a> {
         (0..self.scopes.len()).any(|place| is_within(&self.scopes, Step::Module(name), place))
     }
 
-    /// Whether a step has a type of this name.
-    fn has_type(&self, step: Step<'a>, name: &str) -> bool {
+    fn has_type(&self, step: Step<'_>, name: &str) -> bool {
         self.has(name) && !matches!(self.only(step, name, Space::Types), Only::Nothing)
     }
 
@@ -95,7 +92,6 @@ impl<'a> Scopes<'a> {
         }
     }
 
-    /// Notes where the `use` at a place leads.
     fn find_lead(&mut self, place: usize) {
         let Some(it) = self.imports.get(place).copied() else {
             return;
@@ -119,7 +115,6 @@ impl<'a> Scopes<'a> {
         }
     }
 
-    /// Notes to which scopes one leads.
     fn add_ways(&mut self, from: usize) {
         let mut open = Vec::new(self.alloc);
         self.failed = open.push(from).is_err() || self.failed;
@@ -144,11 +139,10 @@ impl<'a> Scopes<'a> {
     /// Where the names before the last of a path lead that a scope uses; without them, where the last one does.
     pub(super) fn lead(&self, scope: usize, path: &Path<'a>, last: &'a str) -> Lead {
         let root = path.first(last);
-        if !path.is_absolute && self.is_of_body(scope, path.root()) {
-            return Lead::Doubtful;
-        }
         let mut lead = if path.is_absolute {
             self.crate_lead(root)
+        } else if self.is_of_body(scope, path.root()) {
+            Lead::Doubtful
         } else {
             self.first_lead(self.module_of(scope), root)
         };
@@ -181,14 +175,10 @@ impl<'a> Scopes<'a> {
     }
 
     /// Whether a module of this name is there that isn't a crate.
-    fn has_namesake(&self, name: &'a str) -> bool {
-        for place in 0..self.scopes.len() {
-            let is_crate = place < self.files.len() && self.is_top_file(place);
-            if !is_crate && self.is_in(place, Step::Module(name)) {
-                return true;
-            }
-        }
-        false
+    fn has_namesake(&self, name: &str) -> bool {
+        let mut scopes = 0..self.scopes.len();
+        scopes.any(|place| is_within(&self.scopes, Step::Module(name), place)
+            && (place >= self.files.len() || !self.is_top_file(place)))
     }
 
     /// Where a name leads that follows a module.
@@ -209,44 +199,37 @@ impl<'a> Scopes<'a> {
     }
 
     /// Where a name leads that follows one of a module which these files don't have: to the only module of that name.
-    fn only_lead(&self, before: &str, name: &'a str) -> Lead {
-        let mut found = None;
-        for (place, it) in self.scopes.iter().enumerate() {
-            if it.kind == Kind::Misnamed && it.name == name {
-                return Lead::Wrong(BROUGHT_IN);
-            }
-            if self.is_in(place, Step::Module(name)) {
-                found = Some(both(found, Lead::In(place)));
-            }
+    fn only_lead(&self, before: &str, name: &str) -> Lead {
+        let mut scopes = self.scopes.iter();
+        if scopes.any(|it| it.kind == Kind::Misnamed && it.name == name) {
+            return Lead::Wrong(BROUGHT_IN);
         }
-        match found {
-            Some(_) if self.imports.iter().any(|it| it.may_pass_on(name)) => Lead::Doubtful,
-            Some(Lead::In(place)) if !is_start(before) && self.around_module(place).is_some() =>
-                Lead::Doubtful,
-            Some(lead) => lead,
-            None if self.has_type(Step::All, name) => Lead::Type,
-            None => Lead::Lost,
+        let step = Step::Module(name);
+        let mut places = (0..self.scopes.len()).filter(|at| is_within(&self.scopes, step, *at));
+        match (places.next(), places.next()) {
+            (None, _) if self.has_type(Step::All, name) => Lead::Type,
+            (None, _) => Lead::Lost,
+            _ if self.imports.iter().any(|it| it.may_pass_on(name)) => Lead::Doubtful,
+            (Some(only), None) if is_start(before) || self.around_module(only).is_none() =>
+                Lead::In(only),
+            _ => Lead::Doubtful,
         }
     }
 
     /// Where the name of a crate leads: to the only library whose folder has it.
     fn crate_lead(&self, name: &str) -> Lead {
-        let mut found = None;
-        for file in 0..self.files.len() {
-            // the scope of a file is at its place
-            if is_called(self.scope(file).name, name) && self.is_library(file) {
-                found = Some(both(found, Lead::In(file)));
-            }
+        // the scope of a file is at its place
+        let mut files = (0..self.files.len()).filter(|file| is_called(self.scope(*file).name, name)
+            && self.is_library(*file));
+        match (files.next(), files.next()) {
+            (Some(only), None) => Lead::In(only),
+            (Some(_), Some(_)) => Lead::Doubtful,
+            _ if is_known_crate(name) => Lead::Known,
+            _ => Lead::Outside,
         }
-        let beyond = if is_known_crate(name) {
-            Lead::Known
-        } else {
-            Lead::Outside
-        };
-        found.unwrap_or(beyond)
     }
 
-    /// Where a name leads that a module declares as that of a module or a type, or brings in by a `use`; nothing if it does neither.
+    /// Where a name leads that a module declares as a module or a type, or brings in by a `use`; nothing if it does neither.
     /// The first name of a path could be a crate's too.
     fn member_lead(&self, module: usize, name: &'a str, is_first: bool) -> Option<Lead> {
         let (mut at, mut word) = (module, name);
@@ -260,10 +243,8 @@ impl<'a> Scopes<'a> {
                 Some(_) if own.is_some() => return own,
                 // its own first name is a crate's
                 Some(it) if it.path.root() == word && !it.path.is_absolute => {
-                    return match self.crate_lead(word) {
-                        Lead::In(_) => Some(Lead::Doubtful),
-                        _ => None,
-                    };
+                    let is_here = matches!(self.crate_lead(word), Lead::In(_));
+                    return is_here.then_some(Lead::Doubtful);
                 }
                 Some(it) => match it.lead {
                     Lead::In(place) if it.path.count > 0 => (at, word) = (place, it.last),
@@ -274,8 +255,8 @@ impl<'a> Scopes<'a> {
         Some(Lead::Doubtful)
     }
 
-    /// The import of a module or a crate by this name, if a module has it and doesn't have the name anyway; of the first name of a path
-    /// also one for all modules.
+    /// The import of a module or a crate by this name that a module has, unless it only repeats the name; of the first name
+    /// of a path also one for all modules.
     pub(super) fn import_of(
         &self,
         module: usize,
@@ -287,18 +268,15 @@ impl<'a> Scopes<'a> {
         }
         self.imports.iter().find(|it| (it.scope == module || (is_first && it.is_crate))
             && it.name == name
-            && !it.is_bare())
+            && (it.path.count > 0 || it.last != it.name))
     }
 
     /// Where a name leads that a module declares as that of a module or a type; nothing if it doesn't.
     pub(super) fn own_lead(&self, module: usize, name: &'a str, is_first: bool) -> Option<Lead> {
         let mut found = None;
         let mut is_conditional = false;
-        let count = if self.is_member(module, name) {
-            self.scopes.len()
-        } else {
-            0
-        };
+        let is_member = self.is_member(module, name);
+        let count = if is_member { self.scopes.len() } else { 0 };
         for (place, it) in self.scopes.iter().enumerate().take(count) {
             if it.outer != module || it.name != name {
                 continue;
@@ -315,7 +293,9 @@ impl<'a> Scopes<'a> {
             found = Some(both(found, lead));
         }
         match found {
-            Some(Lead::In(_)) if is_conditional && is_first => Some(Lead::Wrong(BY_MODULE)),
+            Some(Lead::In(_)) if is_conditional && is_first => Some(Lead::Wrong(
+                "` is in a module that stands under a condition: write `self::` or `crate::` before its path",
+            )),
             Some(Lead::In(_)) if is_conditional && self.has_star(module) => Some(Lead::Doubtful),
             None if self.has_type(Step::Scope(module), name) => Some(Lead::Type),
             found => found,
@@ -326,9 +306,6 @@ impl<'a> Scopes<'a> {
     fn star_lead(&self, module: usize, name: &'a str) -> Option<Lead> {
         let mut found = None;
         for it in &self.imports {
-            if matches!(found, Some(Lead::Doubtful)) {
-                break;
-            }
             if !it.is_glob || !self.leads_to(module, it.scope) {
                 continue;
             }

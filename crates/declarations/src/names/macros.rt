@@ -1,5 +1,6 @@
 //! What macros make, as far as their rules and calls say.
 use super::leads::Lead;
+use super::reading::MADE;
 use super::{Import, Scopes, What};
 use crate::known::is_everywhere;
 use declaration_parser::attributes::{
@@ -18,28 +19,23 @@ fn name_of<'a>(rules: &Item<'a>) -> &'a str {
 
 /// The first name that the rules of a macro are handed; empty if there is none.
 fn first_handed(rules: &[Token]) -> &str {
-    for pair in rules.windows(2) {
-        if let [mark, rest @ ..] = pair
-            && matches!(mark.word, Word::Dollar)
-            && let Some(name) = name_at(rest)
-        {
-            return name;
-        }
-    }
-    ""
+    let mut names = rules.windows(2).filter_map(|pair| match pair {
+        [mark, rest @ ..] if matches!(mark.word, Word::Dollar) => name_at(rest),
+        _ => None,
+    });
+    names.next().unwrap_or("")
 }
 
 /// Whether the rules of a macro declare a type by the first name that they are handed.
 fn is_maker(rules: &[Token]) -> bool {
     let handed = first_handed(rules);
     rules.windows(3).any(|words| match words {
-        [of, mark, name] => {
-            matches!(
+        [of, mark, name] => matches!(mark.word, Word::Dollar)
+            && matches!(
                 of.word,
                 Word::Struct | Word::Enum | Word::Union | Word::Alias
-            ) && matches!(mark.word, Word::Dollar)
-                && plain_name(name.text.as_str()) == handed
-        }
+            )
+            && plain_name(name.text.as_str()) == handed,
         _ => false,
     })
 }
@@ -47,10 +43,10 @@ fn is_maker(rules: &[Token]) -> bool {
 /// Whether words may make any name: one of others, as `struct [<$a $b>]` does in `paste!`, or a module.
 fn are_open(words: &[Token]) -> bool {
     words.iter().any(|token| matches!(token.word, Word::Module))
-        || words.windows(2).any(|pair| match pair {
-            [open, less] => matches!((open.word, less.word), (Word::Bracket, Word::Less)),
-            _ => false,
-        })
+        || words.windows(2).any(|pair| matches!(
+            (front(pair), front(behind_first(pair))),
+            (Word::Bracket, Word::Less)
+        ))
 }
 
 /// Whether a macro is known to declare no type and no length.
@@ -73,11 +69,12 @@ impl<'a> Scopes<'a> {
 
     /// Reads what the rules of a macro make where it is called, unless they are there; and whether they may make any name.
     fn read_rules(&mut self, call: &Item<'a>, rules: &Item<'a>) -> bool {
+        let import = Import::of(call.scope, false, false);
         if rules.scope != call.scope {
-            self.read_made(Import::of(call.scope, false, false), rules.inside, false);
+            self.read_made(import, rules.inside, false);
         }
         if is_maker(rules.inside) && is_everywhere(name_at(call.inside).unwrap_or("")) {
-            self.add(call.scope, call.inside, What::Made, false);
+            self.add(import, call.inside, What::Refused(MADE));
         }
         are_open(rules.inside) || self.calls_another(rules)
     }

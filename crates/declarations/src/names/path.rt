@@ -1,5 +1,5 @@
 //! The names before the last one of a path.
-use super::is_known_crate;
+use crate::known::is_known_crate;
 
 /// How many names a path that is followed has at most before its last one.
 const MOST: usize = 16;
@@ -28,7 +28,6 @@ impl<'a> Path<'a> {
         self.count = count.saturating_add(1);
     }
 
-    /// Leaves out the last of the names.
     pub(super) fn without_last(self) -> Path<'a> {
         Path {
             count: self.count.saturating_sub(1),

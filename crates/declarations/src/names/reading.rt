@@ -4,6 +4,10 @@ use declaration_parser::attributes::{behind_first, first_word, front, line_at, n
 use declaration_parser::items::{self, ItemKind};
 use declaration_parser::tokens::{Token, Word, is_among, is_lifetime};
 
+/// Why what a macro makes isn't taken.
+pub(super) const MADE: &str =
+    "` is made by a macro, which isn't followed: write its declaration out, in a file of its own";
+
 /// What an alias stands for, by its words from its name on. Lifetimes are no parameters.
 fn alias_of(words: &[Token]) -> What<'_> {
     let (head, value) = up_to(behind_first(words), &["="]);
@@ -14,7 +18,7 @@ fn alias_of(words: &[Token]) -> What<'_> {
     if is_plain {
         What::Alias(behind_first(value))
     } else {
-        What::Generic
+        What::Refused("` is an alias with parameters: write the type that it stands for")
     }
 }
 
@@ -32,13 +36,14 @@ impl<'a> Scopes<'a> {
     }
 
     fn read_item(&mut self, item: &items::Item<'a>) {
-        let is_conditional = item.has("cfg");
-        let import = Import::of(item.scope, item.is_public, is_conditional);
+        let import = Import::of(item.scope, item.is_public, item.has("cfg"));
         let kind = self.scope(item.scope).kind;
         let what = match item.kind {
             ItemKind::Type => What::Unmarked,
             ItemKind::Alias => alias_of(item.words),
-            ItemKind::Static => What::Static,
+            ItemKind::Static => What::RefusedConstant(
+                "` is a `static`, whose value isn't read: make it a `const`",
+            ),
             ItemKind::Constant => {
                 let (of, value) = up_to(behind_first(behind_first(item.words)), &["="]);
                 What::Constant(of, behind_first(value))
@@ -52,32 +57,24 @@ impl<'a> Scopes<'a> {
             ItemKind::Call if kind != Kind::Impl => return self.read_call(item),
             _ => return,
         };
-        self.add(item.scope, item.words, what, is_conditional);
+        self.add(import, item.words, what);
     }
 
-    /// Adds what the first of these words stands for in a scope, if it is a name.
-    pub(super) fn add(
-        &mut self,
-        scope: usize,
-        words: &'a [Token],
-        what: What<'a>,
-        is_conditional: bool,
-    ) {
-        let Some(name) = name_at(words) else {
-            return;
-        };
-        if matches!(self.scope(scope).kind, Kind::Impl) {
-            return;
+    /// Adds what the first of these words stands for, if it is a name, where something may be imported too.
+    pub(super) fn add(&mut self, import: Import<'a>, words: &'a [Token], what: What<'a>) {
+        if let Some(name) = name_at(words)
+            && self.scope(import.scope).kind != Kind::Impl
+        {
+            let item = Item {
+                name,
+                what,
+                scope: import.scope,
+                line: line_at(words),
+                is_conditional: import.is_conditional,
+            };
+            self.failed = self.items.push(item).is_err() || self.failed;
+            self.failed = put(&mut self.named, name) || self.failed;
         }
-        let item = Item {
-            name,
-            what,
-            scope,
-            line: line_at(words),
-            is_conditional,
-        };
-        self.failed = self.items.push(item).is_err() || self.failed;
-        self.failed = put(&mut self.named, name) || self.failed;
     }
 
     /// Reads what the call of a macro may bring in or declare.
@@ -106,13 +103,15 @@ impl<'a> Scopes<'a> {
                     self.read_use(import, whole);
                     None
                 }
-                Word::Struct | Word::Enum | Word::Union if are_bits => Some(What::Bits),
-                Word::Struct | Word::Enum | Word::Union | Word::Alias => Some(What::Made),
-                Word::Constant => Some(What::MadeConstant),
+                Word::Struct | Word::Enum | Word::Union if are_bits => Some(What::Refused(
+                    "` is made by `bitflags!`, and sent as its bits: write the integer behind its name",
+                )),
+                Word::Struct | Word::Enum | Word::Union | Word::Alias => Some(What::Refused(MADE)),
+                Word::Constant => Some(What::RefusedConstant(MADE)),
                 _ => None,
             };
             if let Some(what) = what {
-                self.add(import.scope, words, what, import.is_conditional);
+                self.add(import, words, what);
             }
             rest = words;
         }

@@ -3,7 +3,7 @@ ghost use Rattle.std.specs.Prelude.{[]};
 ghost use Rattle.declarations.specs.NameRule.{IsAnswerOf, IsAnsweredOrPassed, IsNowhereIfNone, IsOnlyOfAStep, IsStepAnswer, candidates_in};
 ghost use Rattle.declarations.specs.declared.names.candidates.Space.TheVariants as space;
 
-use super::candidates::{Only, Space, Step};
+use super::candidates::{Only, Space, Step, is_within};
 use super::leads::Lead;
 pub use super::path::Path;
 use super::{Import, Item, Scopes, What, has_word};
@@ -14,35 +14,11 @@ use declaration_parser::faults::Faults;
 const AT_TIMES: &str =
     "` stands under a condition, without which it is another: call it otherwise, or leave that one out";
 
-pub(super) const BY_MODULE: &str =
-    "` is in a module that stands under a condition: write `self::` or `crate::` before its path";
-
 pub(super) const BROUGHT_IN: &str =
     "` is brought in by a `use`: name the file of its declaration too, or write the type that is on the wire";
 
-pub(super) const RENAMED: &str =
-    "` is another name that a `use` gives: write the name of the declaration, with its module before it";
-
 const BY_STAR: &str =
     "` may be what a `use` with `*` or a macro brings in: write its whole path, or name the file of its declaration too";
-
-const MADE: &str =
-    "` is made by a macro, which isn't followed: write its declaration out, in a file of its own";
-
-const HANDED: &str =
-    "` may be made by a macro that its module hands it to: write its path, or a `use` of it";
-
-const NOT_THERE: &str =
-    "` isn't declared in the module that its path names: name the file of its declaration too";
-
-const STATIC: &str = "` is a `static`, whose value isn't read: make it a `const`";
-
-const BITS: &str =
-    "` is made by `bitflags!`, and sent as its bits: write the integer behind its name";
-
-const GENERIC: &str = "` is an alias with parameters: write the type that it stands for";
-
-const OF_MODULE: &str = "` is a module here: write the type that is on the wire";
 
 const UNMARKED: &str =
     "` isn't declared and marked here: write `// message` before its declaration, if its fields are what is sent";
@@ -65,12 +41,12 @@ pub enum Found<'a> {
 
 /// What a `use` brings into a step under a name.
 #[derive(Clone, Copy, Drop)]
-enum Brought {
+enum Brought<'b, 'a> {
     Nothing,
     /// A known type by its own name.
     Known,
-    /// What the import at this place leads to.
-    One(usize),
+    /// What this import leads to.
+    One(&'b Import<'a>),
     Several,
 }
 
@@ -106,49 +82,41 @@ impl<'a> Scopes<'a> {
                 || self.is_handed(scope, name))
     }
 
-    /// What an item is.
     fn found_as(&self, item: &Item<'a>) -> Found<'a>
         ensures { IsAnswerOf item.now result }
     {
         match item.what {
             What::Marked(index) if self.stand(index).count != 1 => Found::Wrong(UNMARKED),
             What::Unmarked => Found::Wrong(UNMARKED),
-            What::Generic => Found::Wrong(GENERIC),
-            What::Made | What::MadeConstant => Found::Wrong(MADE),
-            What::Bits => Found::Wrong(BITS),
-            What::Static => Found::Wrong(STATIC),
+            What::Refused(why) | What::RefusedConstant(why) => Found::Wrong(why),
             what => Found::In(what, item.scope),
         }
     }
 
     /// What a `use` brings into a step under a name; of what these files declare by that name, only if it is asked for.
-    fn brought(&self, step: Step<'a>, name: &'a str, space: Space, with_own: bool) -> Brought {
+    fn brought(&self, step: Step<'_>, name: &str, space: Space, with_own: bool) -> Brought<'_, 'a> {
         let mut brought = Brought::Nothing;
         if !self.is_used(name) {
             return brought;
         }
-        for (index, it) in self.imports.iter().enumerate() {
-            let is_it = !it.is_glob && it.name == name && self.is_in(it.scope, step);
+        for it in &self.imports {
+            let is_it = !it.is_glob && it.name == name && is_within(&self.scopes, step, it.scope);
             let is_own = it.last == it.name && matches!(it.lead, Lead::In(_));
             if !is_it || (is_own && !with_own) {
                 continue;
             }
+            // a known type by its own name, from a crate that no module hides
+            let is_known = space == Space::Types
+                && it.path.is_known_as(it.name, it.last)
+                && matches!(it.lead, Lead::Known)
+                && !self.is_at_times(it.scope, it.name, it.is_conditional);
             brought = match brought {
-                Brought::Nothing | Brought::Known if self.is_known_import(it, space) =>
-                    Brought::Known,
-                Brought::Nothing => Brought::One(index),
+                Brought::Nothing | Brought::Known if is_known => Brought::Known,
+                Brought::Nothing => Brought::One(it),
                 _ => Brought::Several,
             };
         }
         brought
-    }
-
-    /// Whether a known type is brought in by its own name, from a crate that no module hides.
-    fn is_known_import(&self, it: &Import<'a>, space: Space) -> bool {
-        space == Space::Types
-            && it.path.is_known_as(it.name, it.last)
-            && matches!(it.lead, Lead::Known)
-            && !self.is_at_times(it.scope, it.name, it.is_conditional)
     }
 
     /// What a name stands for where a scope uses it: what the scope has, before what is round it.
@@ -205,13 +173,13 @@ impl<'a> Scopes<'a> {
         match (self.only(step, name, space), brought) {
             (Only::Nothing, Brought::Nothing) => self.not_own(scope, name, space),
             (Only::Nothing, Brought::Known) => Found::Known(name),
-            (Only::Nothing, Brought::One(index)) => self.brought_in(index, name, space),
+            (Only::Nothing, Brought::One(it)) => self.brought_in(it, name, space),
             (Only::One(item), Brought::Nothing) => self.declared(item, name),
             _ => Found::Two,
         }
     }
 
-    /// Refuses a name that a macro may make, and as that of a type the name of a module, which the language's own types alone may have.
+    /// Refuses a name that a macro may make, and as a type the name of a module, unless it is the language's.
     fn not_own(&self, scope: usize, name: &'a str, space: Space) -> Found<'a>
         ensures { IsStepAnswer [] result }
     {
@@ -219,28 +187,29 @@ impl<'a> Scopes<'a> {
             && !is_primitive(name)
             && self.own_lead(scope, name, false).is_some()
         {
-            return Found::Wrong(OF_MODULE);
+            return Found::Wrong("` is a module here: write the type that is on the wire");
         }
         if !is_everywhere(name) && self.is_handed(scope, name) {
-            return Found::Wrong(HANDED);
+            return Found::Wrong(
+                "` may be made by a macro that its module hands it to: write its path, or a `use` of it",
+            );
         }
         Found::Not
     }
 
     /// What a `use` brings in: from other crates what is known; from these files what its path says, by the same name.
-    fn brought_in(&self, index: usize, name: &'a str, space: Space) -> Found<'a>
+    fn brought_in(&self, it: &Import<'a>, name: &'a str, space: Space) -> Found<'a>
         ensures only { IsOnlyOfAStep self.now name.now space result }
     {
-        let Some(it) = self.imports.get(index) else {
-            return Found::Not;
-        };
         if self.is_at_times(it.scope, name, it.is_conditional) {
             return Found::Wrong(AT_TIMES);
         }
         match it.lead {
             Lead::Known if space == Space::Types && it.path.count > 0 => Found::Known(it.last),
             Lead::In(place) if it.last == name => self.by_path(place, name, space),
-            Lead::In(_) | Lead::Type if it.last != name => Found::Wrong(RENAMED),
+            Lead::In(_) | Lead::Type if it.last != name => Found::Wrong(
+                "` is another name that a `use` gives: write the name of the declaration, with its module before it",
+            ),
             Lead::Wrong(why) => Found::Wrong(why),
             _ => Found::Wrong(BROUGHT_IN),
         }
@@ -276,8 +245,8 @@ impl<'a> Scopes<'a> {
         found
     }
 
-    /// Whether a name that a module passes on may be another than was found in all files: no `use` leads there, or what leads out of the
-    /// files or a macro may make the name on one of the ways.
+    /// Whether a name that a module passes on may be another than was found in all files: no `use` leads there, or on a
+    /// way there a macro or what leads out of the files may make the name.
     fn may_differ(&self, module: usize, found: &Found<'a>, name: &str, space: Space) -> bool {
         if let Found::In(_, there) = found
             && !self.may_lead_to(module, *there, name)
@@ -306,7 +275,8 @@ impl<'a> Scopes<'a> {
                     && matches!(it.lead, Lead::In(next) if self.leads_to(next, place))))
     }
 
-    /// Whether a scope has another than was found, or a `*` leads from it to one that has: by a macro, or by a `*` that leads out of the files.
+    /// Whether a scope has another than was found, or a `*` leads from it to one that has: by a macro, or by a `*` that
+    /// leads out of the files.
     fn has_other(&self, from: usize, found: &Found<'a>, name: &str, space: Space) -> bool {
         let is_other = |place: usize| self.leads_to(from, place)
             && !matches!(found, Found::In(_, there) if *there == place)
@@ -353,7 +323,9 @@ impl<'a> Scopes<'a> {
         match self.step(Step::Scope(module), name, space) {
             Found::In(..) if self.may_import(module, name) => Found::Two,
             Found::Not => match self.passed_on(module, name, space) {
-                Found::Not => Found::Wrong(NOT_THERE),
+                Found::Not => Found::Wrong(
+                    "` isn't declared in the module that its path names: name the file of its declaration too",
+                ),
                 found => found,
             },
             found => found,
@@ -366,7 +338,7 @@ impl<'a> Scopes<'a> {
         let mut last = "";
         for item in &self.items {
             let module = self.scope(item.scope).name;
-            let is_it = item.name == name && self.is_in(item.scope, Step::All);
+            let is_it = item.name == name && is_within(&self.scopes, Step::All, item.scope);
             if is_it && !module.is_empty() && module != last {
                 faults.put_all(&[before, module, "::", name, "`"]);
                 before = " or `";
@@ -375,17 +347,14 @@ impl<'a> Scopes<'a> {
         }
     }
 
-    /// What a name stands for that is requested: a type that is marked or an alias, outside of bodies where there is one.
+    /// What a name that is asked for stands for: a marked type or an alias, outside of bodies if there is one.
     pub fn find_asked(&self, path: Path<'a>, name: &'a str) -> Found<'a>
         ensures only { IsOnlyOfAStep self.now name.now space.Asked result }
     {
-        // A path leads into no body.
-        let (first, second) = if path.count > 0 {
-            (Step::Module(path.before()), Step::Module(path.before()))
-        } else {
-            (Step::All, Step::Bodies)
-        };
-        for step in [first, second] {
+        let named = Step::Module(path.before());
+        for step in [Step::All, Step::Bodies] {
+            // a path leads into no body
+            let step = if path.count > 0 { named } else { step };
             match self.only(step, name, Space::Asked) {
                 Only::Nothing => {}
                 Only::One(item) => return self.found_as(item),

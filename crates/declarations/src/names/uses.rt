@@ -5,9 +5,6 @@ use super::{Import, Scopes, put};
 use declaration_parser::attributes::{front, plain_name};
 use declaration_parser::tokens::{Token, Word};
 
-/// In place of a path, that another file's words are brought in.
-const INCLUDE: &str = "include!";
-
 /// The words after a name, and the name that it has from there on.
 fn renamed<'a>(own: &'a str, words: &'a [Token]) -> (&'a str, &'a [Token]) {
     match words {
@@ -23,15 +20,10 @@ impl<'a> Import<'a> {
     /// Nothing yet, in a scope.
     pub(super) fn of(scope: usize, is_public: bool, is_conditional: bool) -> Import<'a> {
         Import {
-            name: "",
-            path: Path::default(),
-            last: "",
             scope,
-            is_glob: true,
-            is_crate: false,
             is_public,
             is_conditional,
-            lead: Lead::Outside,
+            ..Import::default()
         }
     }
 
@@ -41,11 +33,6 @@ impl<'a> Import<'a> {
             return self.is_glob && self.is_public && self.leads_out();
         }
         self.last != name || self.leads_out()
-    }
-
-    /// Whether it brings in a name as it is.
-    pub(super) fn is_bare(&self) -> bool {
-        self.path.count == 0 && self.last == self.name
     }
 
     /// Whether it may bring in modules that aren't in these files.
@@ -113,7 +100,7 @@ impl<'a> Scopes<'a> {
     /// Adds another file's words, of which nothing is known.
     pub(super) fn add_include(&mut self, import: Import<'a>) {
         let mut path = Path::default();
-        path.go(INCLUDE);
+        path.go("include!");
         self.put_import(Import {
             is_public: true,
             ..import.named("", path, "")
