@@ -106,6 +106,8 @@ every_file files n found l gone =
     subst (λ z. AreDeclaredIn found (tokens_in z)) (take_all n files l) (all_declared found (tokens_in (take n files)) gone)
 
 -- what stands before a stretch, the stretch and the rest
-pub parted : (tokens attributes behind rest : List Token) (n : ℕ) → attributes ++ behind ≡ tokens → rest ≡ drop n behind → tokens ≡ (attributes ++ take n behind) ++ rest
-parted tokens attributes behind rest n h e =
-    sym h ∙ ap (λ z. attributes ++ z) (sym (take-append-drop n behind) ∙ ap (λ z. take n behind ++ z) (sym e)) ∙ sym (append_assoc attributes (take n behind) rest)
+pub parted : (tokens attributes behind rest : List Token) (m n : ℕ) → attributes ≡ take m tokens → behind ≡ drop m tokens → rest ≡ drop n behind
+    → tokens ≡ (attributes ++ take n behind) ++ rest
+parted tokens attributes behind rest m n a b e =
+    sym (take-append-drop m tokens) ∙ ap (λ z. z ++ drop m tokens) (sym a)
+    ∙ ap (λ z. attributes ++ z) (sym b ∙ sym (take-append-drop n behind) ∙ ap (λ z. take n behind ++ z) (sym e)) ∙ sym (append_assoc attributes (take n behind) rest)

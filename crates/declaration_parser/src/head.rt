@@ -1,6 +1,4 @@
 //! What precedes a declaration: attributes, and comments that mark.
-ghost use Rattle.std.specs.Prelude.{◌≡◌, ◌++◌};
-
 use crate::attributes::{AttributeWalk, first_part, first_word, held, same_words};
 use crate::declaration::Marks;
 use crate::derives::derive_of;
@@ -25,14 +23,6 @@ pub struct Marking<'a> {
     pub wrong: Option<(usize, &'a str)>,
     /// A derive that is called otherwise than serde's, and so may send other bytes.
     pub other: Option<&'a Token>,
-}
-
-/// Comments and attributes, what they mark, and the tokens after them.
-#[derive(Clone, Copy, Drop)]
-pub struct Head<'a> {
-    pub attributes: &'a [Token],
-    pub behind: &'a [Token],
-    pub marking: Marking<'a>,
 }
 
 impl<'a> Marking<'a> {
@@ -82,7 +72,7 @@ impl<'a> Marking<'a> {
     }
 
     /// What attributes and comments mark.
-    fn of(attributes: &'a [Token]) -> Marking<'a> {
+    pub fn of(attributes: &'a [Token]) -> Marking<'a> {
         let mut marking = Marking {
             is_derived: true,
             ..Marking::default()
@@ -114,17 +104,5 @@ impl<'a> Marking<'a> {
     /// Whether a declaration is marked, or was meant to be.
     pub fn is_meant(&self) -> bool {
         self.marks.written || self.marks.read || self.wrong.is_some()
-    }
-}
-
-/// Takes so many attributes and comments, and adds up what they mark.
-pub fn head_of<'a>(tokens: &'a [Token], length: usize) -> Head<'a>
-    ensures { result.attributes.now ++ result.behind.now ≡ tokens.now }
-{
-    let (attributes, behind) = tokens.split_at(length.min(tokens.len()));
-    Head {
-        attributes,
-        behind,
-        marking: Marking::of(attributes),
     }
 }

@@ -7,7 +7,7 @@ use crate::attributes::{
 };
 use crate::cursor::Cursor;
 use crate::declaration::{Body, Declaration, Field, Fields, Form, VariantOf};
-use crate::head::{Head, Marking};
+use crate::head::Marking;
 use crate::items::behind_public;
 use crate::tokens::{Read, Token, Word, is_lifetime, is_listed, is_name};
 use crate::words::{MOST_FIELDS, NO_MARK, OF_IMPLEMENTATIONS, ONLY_FIELD, OTHER_DERIVE, USED};
@@ -46,18 +46,20 @@ pub struct Parser<'a, 'b> {
 }
 
 impl<'a, 'b> Parser<'a, 'b> {
-    /// A parser of the words of a declaration, after what marks it.
-    pub fn new(job: Job<'a, 'b>, head: &Head<'a>, words: &'a [Token]) -> Parser<'a, 'b> {
+    /// A parser of the words of a declaration, after the attributes and comments that mark it so.
+    pub fn new(
+        job: Job<'a, 'b>,
+        marking: Marking<'a>,
+        attributes: &[Token],
+        words: &'a [Token],
+    ) -> Parser<'a, 'b> {
         let mut at = Cursor::new(job.alloc, words);
         at.faults.turn_to(job.file.file.as_str());
-        if let [.., token] = head.attributes {
-            at.line = token.line;
-        }
-        if let Some((line, word)) = head.marking.wrong {
+        at.line = attributes.last().map_or(0, |token| token.line);
+        if let Some((line, word)) = marking.wrong {
             at.line = line;
             at.refuse(word, NO_MARK);
         }
-        let marking = head.marking;
         Parser { job, marking, at }
     }
 

@@ -8,7 +8,7 @@ use crate::attributes::{behind, first_word, line_at, type_up_to};
 use crate::declaration::Declaration;
 use crate::derives::{is_derived, renamed_derive};
 use crate::faults::Faults;
-use crate::head::{Head, head_of};
+use crate::head::Marking;
 use crate::items::{Item, ItemKind, Walk};
 use crate::marks::is_mark;
 use crate::parser::by_hand::ByHand;
@@ -39,20 +39,15 @@ fn refuse_mark(tokens: &[Token], why: &str, faults: &mut Faults<'_>)
     }
 }
 
-/// Whether an item is the call of a macro that holds something marked; of rules only by comments.
-fn is_marked_call(item: &Item<'_>) -> bool {
-    let may_derive = matches!(item.kind, ItemKind::Call | ItemKind::Hidden);
-    first_mark(item.inside).is_some()
-        || (may_derive && is_derived(item.inside, "Serialize"))
-        || (may_derive && is_derived(item.inside, "Deserialize"))
-}
-
-/// Refuses a call of a macro that holds something marked, and says whether it did.
+/// Refuses a call of a macro that holds something marked, and says whether it did; of rules only by comments.
 fn refuses_call(item: &Item<'_>, faults: &mut Faults<'_>) -> bool
     ensures silent { SaysNothing faults.new → SaysNothing faults.old }
     ensures said { SaysNothing faults.new → ¬ IsTrue result }
 {
-    if !is_marked_call(item) {
+    let may_derive = matches!(item.kind, ItemKind::Call | ItemKind::Hidden);
+    let derives = may_derive
+        && (is_derived(item.inside, "Serialize") || is_derived(item.inside, "Deserialize"));
+    if !derives && first_mark(item.inside).is_none() {
         return false;
     }
     faults.refuse(line_at(item.words), first_word(item.words), IN_MACRO);
@@ -60,150 +55,124 @@ fn refuses_call(item: &Item<'_>, faults: &mut Faults<'_>) -> bool
 }
 
 /// Skips what isn't marked, and returns how many tokens after its attributes: those of a call.
-fn pass_over(head: &Head<'_>, item: &Item<'_>, faults: &mut Faults<'_>) -> usize
+fn pass_over(
+    item: &Item<'_>,
+    attributes: &[Token],
+    behind: &[Token],
+    faults: &mut Faults<'_>,
+) -> usize
     ensures silent { SaysNothing faults.new → SaysNothing faults.old }
-    ensures within { result ≤ length head.now.behind.now }
+    ensures within { result ≤ length behind.now }
     ensures no_mark { SaysNothing faults.new
-        → NoMark (head.now.attributes.now ++ take result head.now.behind.now) }
+        → NoMark (attributes.now ++ take result behind.now) }
 {
-    let length = item.passed().min(head.behind.len());
-    let (passed, _) = head.behind.split_at(length);
-    refuse_mark(head.attributes, ALMOST, faults);
+    let length = item.passed().min(behind.len());
+    let (passed, _) = behind.split_at(length);
+    refuse_mark(attributes, ALMOST, faults);
     if !refuses_call(item, faults) {
         refuse_mark(passed, ALMOST, faults);
     }
     length
 }
 
-/// Keeps a declaration, with its attributes, the words after them, and what is wrong with it.
-fn keep<'a>(
-    mut declaration: Declaration<'a>,
-    attributes: &'a [Token],
-    words: &'a [Token],
-    wrong: Faults<'a>,
-    found: &mut Vec<Declaration<'a>>,
-    faults: &mut Faults<'a>,
-)
-    ensures silent { SaysNothing faults.new → SaysNothing faults.old }
-    ensures stands { SaysNothing faults.new → NoMark words.now
-        → Accounts found.old.items found.new.items (attributes.now ++ words.now) }
-{
-    declaration.attributes = attributes;
-    declaration.words = words;
-    let Ok(wrong) = wrong.finished() else {
-        return faults.note(true);
-    };
-    declaration.wrong = wrong;
-    faults.note(found.push(declaration).is_err());
+/// The marked declarations that were read, and what is wrong with others.
+#[derive(Drop)]
+struct Reading<'a> {
+    found: Vec<Declaration<'a>>,
+    faults: Faults<'a>,
 }
 
-/// Reads what is marked, and returns how many tokens after its attributes it takes: those up to its body or a semicolon, and
-/// these. What is wrong is kept with it.
-fn add_declaration<'a>(
-    job: Job<'a, '_>,
-    head: &Head<'a>,
-    found: &mut Vec<Declaration<'a>>,
-    faults: &mut Faults<'a>,
-) -> usize
-    ensures silent { SaysNothing faults.new → SaysNothing faults.old }
-    ensures within { result ≤ length head.now.behind.now }
-    ensures stands { SaysNothing faults.new → Accounts found.old.items found.new.items
-        (head.now.attributes.now ++ take result head.now.behind.now) }
-{
-    let (_, body) = type_up_to(head.behind, &["{", ";"]);
-    let length = head.behind.len().saturating_sub(behind(body).len());
-    let (words, _) = head.behind.split_at(length);
-    let mut parser = Parser::new(job, head, words);
-    let declaration = parser.declaration(head.attributes);
-    let wrong = parser.at.faults;
-    refuse_mark(words, IN_WORDS, faults);
-    keep(declaration, head.attributes, words, wrong, found, faults);
-    length
-}
-
-/// Reads an item at the start of tokens: a declaration, or what is skipped. Returns the tokens after it.
-fn read_front<'a>(
-    job: Job<'a, '_>,
-    item: &Item<'a>,
-    tokens: &'a [Token],
-    found: &mut Vec<Declaration<'a>>,
-    faults: &mut Faults<'a>,
-) -> &'a [Token]
-    ensures silent { SaysNothing faults.new → SaysNothing faults.old }
-    ensures stands { SaysNothing faults.new
-        → GoneOver found.old.items found.new.items tokens.now result.now }
-{
-    let head = head_of(tokens, item.attributes.len());
-    if head.marking.is_meant() {
-        let taken = add_declaration(job, &head, found, faults);
-        let (_, rest) = head.behind.split_at(taken);
-        return rest;
+impl<'a> Reading<'a> {
+    /// Keeps a declaration, with its attributes, the words after them, and what is wrong with it.
+    fn keep(
+        &mut self,
+        mut declaration: Declaration<'a>,
+        attributes: &'a [Token],
+        words: &'a [Token],
+        wrong: Faults<'a>,
+    )
+        ensures silent { SaysNothing self.new.faults → SaysNothing self.old.faults }
+        ensures stands { SaysNothing self.new.faults → NoMark words.now
+            → Accounts self.old.found.items self.new.found.items (attributes.now ++ words.now) }
+    {
+        declaration.attributes = attributes;
+        declaration.words = words;
+        let Ok(wrong) = wrong.finished() else {
+            return self.faults.note(true);
+        };
+        declaration.wrong = wrong;
+        self.faults.note(self.found.push(declaration).is_err());
     }
-    let passed = pass_over(&head, item, faults);
-    let (_, rest) = head.behind.split_at(passed);
-    rest
-}
 
-/// Reads an item of which so many tokens are left, and what precedes it. What a declaration has taken isn't read anew.
-fn read_up_to<'a>(
-    job: Job<'a, '_>,
-    item: &Item<'a>,
-    tokens: &'a [Token],
-    found: &mut Vec<Declaration<'a>>,
-    faults: &mut Faults<'a>,
-) -> &'a [Token]
-    ensures silent { SaysNothing faults.new → SaysNothing faults.old }
-    ensures stands { SaysNothing faults.new
-        → GoneOver found.old.items found.new.items tokens.now result.now }
-{
-    if tokens.len() < item.left {
-        return tokens;
+    /// Reads an item whose attributes these are: skips it, or takes a declaration up to its body or a semicolon, and these.
+    /// Returns how many tokens after the attributes. What is wrong with a declaration is kept with it.
+    fn take(
+        &mut self,
+        job: Job<'a, '_>,
+        item: &Item<'a>,
+        attributes: &'a [Token],
+        after: &'a [Token],
+    ) -> usize
+        ensures silent { SaysNothing self.new.faults → SaysNothing self.old.faults }
+        ensures within { result ≤ length after.now }
+        ensures stands { SaysNothing self.new.faults → Accounts self.old.found.items
+            self.new.found.items (attributes.now ++ take result after.now) }
+    {
+        let marking = Marking::of(attributes);
+        if !marking.is_meant() {
+            return pass_over(item, attributes, after, &mut self.faults);
+        }
+        let (_, body) = type_up_to(after, &["{", ";"]);
+        let length = after.len().saturating_sub(behind(body).len());
+        let (words, _) = after.split_at(length);
+        let mut parser = Parser::new(job, marking, attributes, words);
+        let declaration = parser.declaration(attributes);
+        let wrong = parser.at.faults;
+        refuse_mark(words, IN_WORDS, &mut self.faults);
+        self.keep(declaration, attributes, words, wrong);
+        length
     }
-    let (skipped, rest) = tokens.split_at(tokens.len() - item.left);
-    refuse_mark(skipped, ALMOST, faults);
-    read_front(job, item, rest, found, faults)
-}
 
-/// Refuses another name of a derive of serde's, by which a type would be marked that isn't found.
-fn refuse_renamed(tokens: &[Token], faults: &mut Faults<'_>)
-    ensures { SaysNothing faults.new → SaysNothing faults.old }
-{
-    if let Some(name) = renamed_derive(tokens) {
-        faults.refuse(name.line, name.text.as_str(), RENAMES);
+    /// Reads an item of which so many tokens are left, and what precedes it; the tokens after it. What a declaration has taken
+    /// isn't read anew.
+    fn read_up_to(&mut self, job: Job<'a, '_>, item: &Item<'a>, tokens: &'a [Token]) -> &'a [Token]
+        ensures silent { SaysNothing self.new.faults → SaysNothing self.old.faults }
+        ensures stands { SaysNothing self.new.faults
+            → GoneOver self.old.found.items self.new.found.items tokens.now result.now }
+    {
+        if tokens.len() < item.left {
+            return tokens;
+        }
+        let (skipped, rest) = tokens.split_at(tokens.len() - item.left);
+        refuse_mark(skipped, ALMOST, &mut self.faults);
+        let (attributes, after) = rest.split_at(item.attributes.len().min(rest.len()));
+        let taken = self.take(job, item, attributes, after);
+        let (_, left) = after.split_at(taken);
+        left
     }
-}
 
-/// Reads the declarations of a file, after those of others.
-fn add_declarations<'a>(
-    alloc: Global,
-    purpose: Purpose,
-    file: &'a Read,
-    by_hand: &ByHand<'a>,
-    found: &mut Vec<Declaration<'a>>,
-    faults: &mut Faults<'a>,
-)
-    ensures silent { SaysNothing faults.new → SaysNothing faults.old }
-    ensures accounts { SaysNothing faults.new
-        → Accounts found.old.items found.new.items file.now.tokens.items }
-{
-    faults.put(file.faults.as_str());
-    faults.turn_to(file.file.as_str());
-    refuse_renamed(&file.tokens, faults);
-    let mut walk = Walk::new(alloc);
-    walk.add_file("");
-    walk.read_file(0, &file.tokens);
-    faults.note(walk.failed);
-    let job = Job {
-        alloc,
-        purpose,
-        file,
-        by_hand,
-    };
-    let mut rest: &'a [Token] = &file.tokens;
-    for item in &walk.items {
-        rest = read_up_to(job, item, rest, found, faults);
+    /// Reads the declarations of a file, after those of others.
+    fn add_file(&mut self, job: Job<'a, '_>)
+        ensures silent { SaysNothing self.new.faults → SaysNothing self.old.faults }
+        ensures accounts { SaysNothing self.new.faults → Accounts self.old.found.items
+            self.new.found.items job.entry.file.now.tokens.items }
+    {
+        let file = job.file;
+        self.faults.put(file.faults.as_str());
+        self.faults.turn_to(file.file.as_str());
+        if let Some(name) = renamed_derive(&file.tokens) {
+            self.faults.refuse(name.line, name.text.as_str(), RENAMES);
+        }
+        let mut walk = Walk::new(job.alloc);
+        walk.add_file("");
+        walk.read_file(0, &file.tokens);
+        self.faults.note(walk.failed);
+        let mut rest: &'a [Token] = &file.tokens;
+        for item in &walk.items {
+            rest = self.read_up_to(job, item, rest);
+        }
+        refuse_mark(rest, ALMOST, &mut self.faults);
     }
-    refuse_mark(rest, ALMOST, faults);
 }
 
 /// Says that nothing is marked, if there is nothing else to say.
@@ -232,12 +201,19 @@ pub fn declarations(
         → AreDeclaredIn r.0.items (tokens_in files.now)) }
 {
     let by_hand = ByHand::of(alloc, files)?;
-    let mut found = Vec::new(alloc);
-    let mut faults = Faults::new(alloc);
+    let mut reading = Reading {
+        found: Vec::new(alloc),
+        faults: Faults::new(alloc),
+    };
     for file in files {
-        add_declarations(alloc, purpose, file, &by_hand, &mut found, &mut faults);
+        reading.add_file(Job {
+            alloc,
+            purpose,
+            file,
+            by_hand: &by_hand,
+        });
     }
-    refuse_nothing(files, found.is_empty(), &mut faults);
-    let faults = faults.finished()?;
-    Ok((found, faults))
+    refuse_nothing(files, reading.found.is_empty(), &mut reading.faults);
+    let faults = reading.faults.finished()?;
+    Ok((reading.found, faults))
 }

@@ -4,10 +4,10 @@ use Rattle.declaration_parser.proofs.reading.declarations.Goals as goal
 
 pub loop-file-preserved : goal.loop-file-preserved
 loop-file-preserved c silent =
-    one_file_more c.args.files.now c.loop-file.file-index c.file-item.result c.file-item.result c.loop-file.found.items c.add_declarations.new.found.items
-    c.loop-file-test.true c.file-item.is (c.loop-file.invariant (c.add_declarations.ensures.silent silent)) (c.add_declarations.ensures.accounts silent)
+    one_file_more c.args.files.now c.loop-file.file-index c.file-item.result c.file-item.result c.loop-file.reading.found.items c.add_file.new.self.found.items
+    c.loop-file-test.true c.file-item.is (c.loop-file.invariant (c.add_file.ensures.silent silent)) (c.add_file.ensures.accounts silent)
 
 pub returns : goal.returns
 returns c = record {
-  accounted = λ e. every_file c.args.files.now c.loop-file.file-index c.loop-file.found.items (omega arith) (c.loop-file.invariant (c.refuse_nothing.ensures (c.in_ok-faults.ensures e)));
+  accounted = λ e. every_file c.args.files.now c.loop-file.file-index c.loop-file.reading.found.items (omega arith) (c.loop-file.invariant (c.refuse_nothing.ensures (c.in_ok-faults.ensures e)));
 }

@@ -5,4 +5,4 @@ use Rattle.declaration_parser.proofs.reading.declarations.Given as goal
 
 -- the files that were read, unless something was wrong
 abbrev pub invariant-loop-file : goal.invariant-loop-file
-invariant-loop-file l = SaysNothing l.faults → AreGoneOver l.found.items (tokens_in (take l.file-index l.files))
+invariant-loop-file l = SaysNothing l.reading.faults → AreGoneOver l.reading.found.items (tokens_in (take l.file-index l.files))
