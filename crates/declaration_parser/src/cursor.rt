@@ -65,6 +65,14 @@ impl<'a> Cursor<'a> {
         found
     }
 
+    /// Takes the next token, and refuses it unless it is what is wanted, which this says.
+    pub fn want(&mut self, is_wanted: bool, wanted: &str) {
+        let next = self.step();
+        if !is_wanted {
+            self.wrong(&[wanted, " in place of `", next, "`"]);
+        }
+    }
+
     /// Takes this token, which must be next.
     pub fn owe(&mut self, wanted: &str) {
         let next = self.step();

@@ -104,13 +104,6 @@ impl Item<'_> {
     }
 }
 
-/// Whether a `!` may call what the first word names, or an attribute of all that a file has begins with it: else it negates what
-/// is behind it.
-fn is_called(words: &[Token]) -> bool {
-    let word = first_word(words);
-    word == "#" || (is_name(word) && !is_among(word, BEFORE_VALUE))
-}
-
 /// What follows the attributes and marks at the start.
 fn behind_attributes(tokens: &[Token]) -> &[Token] {
     let mut rest = tokens;
@@ -207,11 +200,12 @@ impl<'a> Walk<'a> {
     /// Reads what follows attributes: a call of a macro, words of an item, or what begins one.
     fn read_words(&mut self, item: &mut Item<'a>, words: &'a [Token]) -> &'a [Token] {
         let is_quiet = words.len() > self.quiet;
+        let word = first_word(words);
         if let Some((inside, rest)) = passed_over(words)
             && (!is_quiet || rest.len() >= self.quiet)
-            && is_called(words)
+            && (word == "#" || (is_name(word) && !is_among(word, BEFORE_VALUE)))
         {
-            item.kind = match first_word(words) {
+            item.kind = match word {
                 "macro_rules" => ItemKind::Rules,
                 "#" => ItemKind::Hidden,
                 _ if is_quiet => ItemKind::Hidden,
@@ -224,7 +218,7 @@ impl<'a> Walk<'a> {
         if is_quiet {
             return behind_first(words);
         }
-        item.is_public = first_word(words) == "pub";
+        item.is_public = word == "pub";
         self.read_item(item, behind_public(words))
     }
 

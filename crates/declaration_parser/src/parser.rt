@@ -85,11 +85,8 @@ impl<'a, 'b> Parser<'a, 'b> {
 
     /// Takes a name that may be written `r#name`, and isn't one that the implementations use, if it can't be.
     fn name_of(&mut self, is_free: bool) -> &'a str {
-        let word = self.at.step();
-        if !is_name(word) {
-            self.at
-                .wrong(&["a name is wanted in place of `", word, "`"]);
-        }
+        let word = self.at.peek();
+        self.at.want(is_name(word), "a name is wanted");
         let name = plain_name(word);
         self.refuse_in_code(
             name.len() != word.len(),
@@ -100,22 +97,10 @@ impl<'a, 'b> Parser<'a, 'b> {
         name
     }
 
-    /// Takes the type of a field.
-    fn type_words(&mut self) -> &'a [Token] {
-        let (words, rest) = type_up_to(self.at.rest, ENDS);
-        match words {
-            [.., token] => self.at.line = token.line,
-            _ => self.at.wrong(&["a type is wanted"]),
-        }
-        self.at.turn_to(rest);
-        words
-    }
-
     /// Takes a discriminant or a field's default, which isn't sent.
     fn pass_value(&mut self) {
         if self.at.take("=") {
-            let (_, rest) = up_to(self.at.rest, &[","]);
-            self.at.rest = rest;
+            (_, self.at.rest) = up_to(self.at.rest, &[","]);
         }
     }
 
@@ -135,7 +120,12 @@ impl<'a, 'b> Parser<'a, 'b> {
         self.at.field = Some((place, name));
         let said = self.said(attributes);
         let is_left_out = self.is_left_out(said);
-        let of = self.type_words();
+        let (of, rest) = type_up_to(self.at.rest, ENDS);
+        match of {
+            [.., token] => self.at.line = token.line,
+            _ => self.at.wrong(&["a type is wanted"]),
+        }
+        self.at.turn_to(rest);
         self.pass_value();
         if !self.at.is_wrong {
             self.at.field = None;
@@ -152,12 +142,8 @@ impl<'a, 'b> Parser<'a, 'b> {
     /// Turns to what is in the group at the start, and gives what follows that.
     fn enter(&mut self) -> &'a [Token] {
         let Some((inside, behind)) = group(self.at.rest) else {
-            let word = self.at.step();
-            self.at.wrong(&[
-                "what is declared is wanted, and closed, in place of `",
-                word,
-                "`",
-            ]);
+            self.at
+                .want(false, "what is declared is wanted, and closed,");
             return &[];
         };
         self.at.rest = inside;
@@ -198,17 +184,6 @@ impl<'a, 'b> Parser<'a, 'b> {
         Fields { form, items, count }
     }
 
-    /// Takes a variant of an enum.
-    fn variant(&mut self) -> VariantOf<'a> {
-        let attributes = self.attributes();
-        let name = self.name_of(true);
-        self.at.variant = name;
-        self.said(attributes);
-        let fields = self.fields();
-        self.pass_value();
-        VariantOf { name, fields }
-    }
-
     /// Takes the variants of an enum, which has one at least.
     fn variants(&mut self) -> Vec<VariantOf<'a>> {
         let mut variants = Vec::new(self.job.alloc);
@@ -221,37 +196,18 @@ impl<'a, 'b> Parser<'a, 'b> {
             if self.at.rest.is_empty() {
                 break;
             }
-            let variant = self.variant();
-            self.at.keep(&mut variants, variant);
+            let attributes = self.attributes();
+            let name = self.name_of(true);
+            self.at.variant = name;
+            self.said(attributes);
+            let fields = self.fields();
+            self.pass_value();
+            self.at.keep(&mut variants, VariantOf { name, fields });
             self.go_on();
         }
         self.at.variant = "";
         self.at.turn_to(behind);
         variants
-    }
-
-    /// Takes `struct` or `enum`, and says whether it is the latter.
-    fn is_enum(&mut self) -> bool {
-        let kind = front(self.at.rest);
-        let word = self.at.step();
-        if !matches!(kind, Word::Struct | Word::Enum) {
-            self.at.wrong(&["a struct or an enum is wanted in place of `", word, "`"]);
-        }
-        matches!(kind, Word::Enum)
-    }
-
-    /// Takes a lifetime, a type parameter or a length, and says whether it is a length.
-    fn parameter(&mut self) -> (&'a str, bool) {
-        self.attributes();
-        let is_length = self.at.take("const");
-        let name = if is_lifetime(self.at.peek()) {
-            self.at.step()
-        } else {
-            self.name_of(false)
-        };
-        let (_, rest) = type_up_to(self.at.rest, &[",", ">"]);
-        self.at.rest = rest;
-        (name, is_length)
     }
 
     /// Takes the lifetimes and type parameters, and says which are lengths.
@@ -265,7 +221,14 @@ impl<'a, 'b> Parser<'a, 'b> {
             if self.at.peek() == ">" {
                 break;
             }
-            let (name, is_length) = self.parameter();
+            self.attributes();
+            let is_length = self.at.take("const");
+            let name = if is_lifetime(self.at.peek()) {
+                self.at.step()
+            } else {
+                self.name_of(false)
+            };
+            (_, self.at.rest) = type_up_to(self.at.rest, &[",", ">"]);
             self.at.keep(&mut parameters, name);
             if is_length {
                 self.at.keep(&mut lengths, name);
@@ -289,8 +252,8 @@ impl<'a, 'b> Parser<'a, 'b> {
     }
 
     /// Takes what is declared, and gives the bounds that follow fields in parentheses.
-    fn body(&mut self, is_enum: bool) -> (Body<'a>, &'a [Token]) {
-        if is_enum {
+    fn body(&mut self, kind: Word) -> (Body<'a>, &'a [Token]) {
+        if matches!(kind, Word::Enum) {
             return (Body::Enum(self.variants()), &[]);
         }
         let fields = self.fields();
@@ -308,7 +271,9 @@ impl<'a, 'b> Parser<'a, 'b> {
     /// Takes a declaration, after its attributes.
     pub fn declaration(&mut self, attributes: &'a [Token]) -> Declaration<'a> {
         self.at.rest = behind_public(self.at.rest);
-        let is_enum = self.is_enum();
+        let kind = front(self.at.rest);
+        let is_one = matches!(kind, Word::Struct | Word::Enum);
+        self.at.want(is_one, "a struct or an enum is wanted");
         let name = self.name_of(false);
         self.at.name = name;
         let line = self.at.line;
@@ -324,7 +289,7 @@ impl<'a, 'b> Parser<'a, 'b> {
         }
         self.check_by_hand();
         let before = self.bounds();
-        let (body, after) = self.body(is_enum);
+        let (body, after) = self.body(kind);
         self.at.line = line;
         self.check_transparent(said, &body);
         Declaration {

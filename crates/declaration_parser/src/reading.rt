@@ -17,7 +17,6 @@ use crate::tokens::{Read, Token};
 use crate::words::{ALMOST, IN_MACRO, IN_WORDS, RENAMES};
 use std::alloc::{AllocError, Global};
 
-/// The first mark among tokens.
 fn first_mark(tokens: &[Token]) -> Option<&Token>
     ensures { result ≡ None → NoMark tokens.now }
 {
@@ -29,7 +28,6 @@ fn first_mark(tokens: &[Token]) -> Option<&Token>
     None
 }
 
-/// Refuses a mark among these tokens, for this reason.
 fn refuse_mark(tokens: &[Token], why: &str, faults: &mut Faults<'_>)
     ensures silent { SaysNothing faults.new → SaysNothing faults.old }
     ensures no_mark { SaysNothing faults.new → NoMark tokens.now }

@@ -181,7 +181,6 @@ pub fn common(word: &str, other: &str) -> usize {
     front.saturating_add(pairs.take_while(is_same).count())
 }
 
-/// A text without its first bytes.
 fn behind(text: &str, length: usize) -> &str {
     text.get(length..).unwrap_or("")
 }
@@ -192,14 +191,12 @@ fn front_of<'a>(text: &'a str, rest: &str) -> &'a str {
         .unwrap_or("")
 }
 
-/// A text without its first character.
 fn behind_one(text: &str) -> &str {
     let mut characters = text.chars();
     characters.next();
     characters.as_str()
 }
 
-/// How many `#` a text begins with.
 fn hashes(text: &str) -> usize {
     front_of(text, text.trim_start_matches('#')).len()
 }
@@ -255,23 +252,18 @@ impl<'a> Tokens<'a> {
     /// Reads what is next: a blank, a comment or a token.
     fn read_next(&mut self) {
         let text = self.rest;
-        let Some(first) = first_letter(text) else {
-            return;
-        };
-        if first.is_whitespace() {
-            self.take_to(behind_one(text));
-        } else if text.starts_with("//") {
-            self.read_comment();
-        } else if text.starts_with("/*") {
-            self.take_closed(behind_comment(text));
-        } else if first == '"' {
-            self.read_text(text, None);
-        } else if first == '\'' {
-            self.read_token(behind_quoted(text));
-        } else if is_of_word(first) {
-            self.read_word();
-        } else {
-            self.read_token(behind_one(text));
+        match first_letter(text) {
+            Some(first) if first.is_whitespace() => {
+                self.take_to(behind_one(text));
+            }
+            Some('"') => self.read_text(text, None),
+            Some('\'') => self.read_token(behind_quoted(text)),
+            Some(first) if is_of_word(first) => self.read_word(),
+            _ if text.starts_with("//") => self.read_comment(),
+            _ if text.starts_with("/*") => {
+                self.take_closed(behind_comment(text));
+            }
+            _ => self.read_token(behind_one(text)),
         }
     }
 

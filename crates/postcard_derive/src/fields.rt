@@ -6,75 +6,73 @@ use declaration_parser::declaration::{Field, Fields, Form, Layout};
 const ROW: usize = 6;
 
 /// How a field is written, and how one that is sent as its bytes. A word between two `%` stands for what it has: its `type`,
-/// its `member`, the name that it is `bound` to, its `place`, and the `way` that sends it.
+/// its `member`, the name that it is `bound` to, its `place`, and the `way` that sends it; `&` is there if others are beside it,
+/// and brackets are parentheses if none are.
 pub type Spelling = [&'static str; 2];
 
-// In the type of a shape; in ghost text, in the shape of a value, and in that of a variant, with others and alone.
+// In the type of a shape; in ghost text, in the shape of a value, and in that of a variant.
 pub const TYPE: Spelling = ["%type%", "%way%<%type%>"];
 
 pub const SEEN: Spelling = ["v.%member%", "record { 0 = v.%member% }"];
 
-pub const HELD: Spelling = ["x%place%", "record { 0 = x%place% }"];
+pub const HELD: Spelling = ["x%place%", "%[%record { 0 = x%place% }%]%"];
 
-pub const HELD_ALONE: Spelling = ["x%place%", "(record { 0 = x%place% })"];
-
-// In what is sent of a value, and of a variant, whose fields are borrowed, with others and alone.
-pub const SENT: Spelling = ["&self.%member%", "%way%(self.%member%)"];
-
-pub const SENT_ALONE: Spelling = ["self.%member%", "%way%(self.%member%)"];
+// In what is sent of a value, and of a variant, whose fields are borrowed.
+pub const SENT: Spelling = ["%&%self.%member%", "%way%(self.%member%)"];
 
 pub const LENT: Spelling = ["%bound%", "%way%(*%bound%)"];
-
-pub const LENT_ALONE: Spelling = ["%bound%", "&%way%(*%bound%)"];
 
 // In a value, or a pattern for one, and in a pattern for a shape.
 pub const BOUND: Spelling = ["%bound%", "%bound%"];
 
 pub const TAKEN: Spelling = ["%bound%", "%way%(%bound%)"];
 
+/// Whether a field is sent as its bytes.
+pub fn is_fixed(field: &Field) -> bool {
+    matches!(field.layout, Layout::Little | Layout::Big)
+}
+
 impl Text {
-    /// Appends a field.
-    fn put_field(&mut self, field: &Field, spelling: Spelling) {
+    fn put_field(&mut self, field: &Field, spelling: Spelling, is_alone: bool) {
         let [own, fixed] = spelling;
-        let (way, pieces) = match field.layout {
-            Layout::Little => ("fixint::LE", fixed),
-            Layout::Big => ("fixint::BE", fixed),
-            _ => ("", own),
-        };
+        let pieces = if is_fixed(field) { fixed } else { own };
         for piece in pieces.split('%') {
             match piece {
                 "type" => self.put_words(field.of),
-                "way" => self.put(way),
+                "way" if field.layout == Layout::Little => self.put("fixint::LE"),
+                "way" => self.put("fixint::BE"),
                 "member" | "bound" if !field.name.is_empty() => self.put(field.name),
                 "bound" => self.put_numbered("p", field.place),
                 "member" | "place" => self.put_numbered("", field.place),
+                "&" if is_alone => {}
+                "[" => self.put(if is_alone { "(" } else { "" }),
+                "]" => self.put(if is_alone { ")" } else { "" }),
                 _ => self.put(piece),
             }
         }
     }
 
-    /// Appends fields with commas between them.
     fn put_list(&mut self, fields: &[Field], spelling: Spelling) {
         for (place, field) in fields.iter().enumerate() {
             self.put_before(place, "");
-            self.put_field(field, spelling);
+            self.put_field(field, spelling, false);
         }
     }
 
     /// Appends a tuple of up to six fields; one field stands for itself.
     fn put_row(&mut self, fields: &[Field], spelling: Spelling) {
-        if let [field] = fields {
-            return self.put_field(field, spelling);
-        }
-        self.put("(");
+        let is_tuple = fields.len() != 1;
+        self.put(if is_tuple { "(" } else { "" });
         self.put_list(fields, spelling);
-        self.put(")");
+        self.put(if is_tuple { ")" } else { "" });
     }
 
     /// Appends a tuple; one field stands for itself, and more than six are in rows, which may be named.
     fn put_rows(&mut self, fields: &[Field], spelling: Spelling, by_name: bool) {
-        if fields.len() <= ROW {
-            return self.put_row(fields, spelling);
+        match fields {
+            [field] => return self.put_field(field, spelling, true),
+            _ if fields.len() <= ROW => return self.put_row(fields, spelling),
+            _ => {}
         }
         for (place, row) in fields.chunks(ROW).enumerate() {
             self.put_before(place, "(");
@@ -105,11 +103,6 @@ impl Text {
                 self.put(";\n");
             }
         }
-    }
-
-    /// Appends a tuple whose fields are written in the first way, or in the second if there is one alone.
-    pub fn put_tuple_or(&mut self, fields: &[Field], spelling: Spelling, alone: Spelling) {
-        self.put_tuple(fields, if fields.len() == 1 { alone } else { spelling });
     }
 
     /// Appends a struct or a variant of this name with the names to which its fields are bound.

@@ -65,7 +65,6 @@ fn run(rt: &HostRuntime, path: &str, with_schemas: bool) -> Result<u8, RunError>
     Ok(0)
 }
 
-/// Returns the words after the program's name.
 fn words_of(rt: &HostRuntime) -> Result<Vec<String>, RunError> {
     let mut words = Vec::new(rt.alloc());
     for word in env::args(rt).map_err(RunError::Arguments)?.skip(1) {

@@ -7,6 +7,9 @@ use std::alloc::{AllocError, Global};
 /// Names of the language that are in types, unless the file gives them to others.
 const OF_TYPES: &[&str] = &["Box", "Option", "Result", "String", "Vec"];
 
+/// Traits that bounds in implementations have.
+const OF_BOUNDS: &[&str] = &["Flavor", "Readable", "Serialize", "Shaped"];
+
 /// The names of `postcard` that implementations may bring in, in order, and what is in those that do.
 const OF_POSTCARD: &[(&str, &str)] = &[
     ("AsShape", "= AsShape;"),
@@ -54,14 +57,11 @@ pub fn rows_of<'a>(alloc: Global, it: &Declaration<'a>) -> Result<Vec<NamedField
 fn is_brought_in(scope: &Origins, it: &Declaration, word: &PathWord, is_bound: bool) -> bool {
     let name = word.text;
     let from = scope.origin(name);
-    if word.is_led || is_among(name, &it.parameters) || is_among(name, OF_THE_CRATE) {
-        false
-    } else if is_bound {
-        !is_among(name, &["Flavor", "Readable", "Serialize", "Shaped"]) && !from.is_empty()
-    } else if word.leads {
-        !from.is_empty()
-    } else {
-        is_capital(name) && (!is_among(name, OF_TYPES) || is_among(from, OF_THE_CRATE))
+    match (is_bound, word.leads) {
+        _ if word.is_led || is_among(name, &it.parameters) || is_among(name, OF_THE_CRATE) => false,
+        (true, _) => !is_among(name, OF_BOUNDS) && !from.is_empty(),
+        (_, true) => !from.is_empty(),
+        _ => is_capital(name) && (!is_among(name, OF_TYPES) || is_among(from, OF_THE_CRATE)),
     }
 }
 

@@ -13,12 +13,10 @@ impl Text {
         };
         let mut before = "";
         for word in &words {
-            let parted = if word.is_led {
-                "::"
-            } else if is_wordy(before) && is_wordy(word.text) {
-                " "
-            } else {
-                ""
+            let parted = match before {
+                _ if word.is_led => "::",
+                _ if is_wordy(before) && is_wordy(word.text) => " ",
+                _ => "",
             };
             let text = match word.text {
                 text if word.is_led || !word.leads => text,

@@ -1,5 +1,5 @@
 //! From declarations to implementations, which `rt fmt` lays out.
-use crate::fields::{SEEN, SENT, SENT_ALONE, TAKEN, TYPE};
+use crate::fields::{SEEN, SENT, TAKEN, TYPE};
 use crate::names::{Use, names_of, names_of_postcard};
 use crate::text::Text;
 use declaration_parser::declaration::{Body, Declaration, Fields};
@@ -88,7 +88,7 @@ impl Text {
             "value" => self.put_value(name, fields),
             _ => {
                 self.put("        ");
-                self.put_tuple_or(items, SENT, SENT_ALONE);
+                self.put_tuple(items, SENT);
                 self.put(".serialize(serializer)\n");
             }
         }
@@ -117,7 +117,6 @@ impl Text {
         }
     }
 
-    /// Appends the implementations of a declaration.
     fn put_declaration(&mut self, it: &Declaration, path: &str, with_schemas: bool) {
         let shape = match &it.body {
             Body::Enum(_) => VARIANTS,

@@ -9,6 +9,9 @@ use declaration_parser::sent::is_primitive;
 use declaration_parser::tokens::{is_among, is_lifetime};
 use std::alloc::{AllocError, Global};
 
+/// Crates of whose types some are known here.
+const OF_KNOWN: &[&str] = &["alloc", "core", "heapless", "std"];
+
 /// What is said of a word, with what is to be written in its place.
 const IN_ITS_PLACE: &str = "` can't stand in the type of a field: write `";
 
@@ -17,7 +20,6 @@ fn text_at<'a>(words: &[PathWord<'a>], place: usize) -> &'a str {
     words.get(place).map_or("", |word| word.text)
 }
 
-/// Whether these texts are at a place.
 fn are_at(words: &[PathWord], place: usize, wanted: &[&str]) -> bool {
     let mut places = wanted.iter().enumerate();
     places.all(|(step, text)| text_at(words, place.saturating_add(step)) == *text)
@@ -27,12 +29,12 @@ fn are_at(words: &[PathWord], place: usize, wanted: &[&str]) -> bool {
 fn reference_refusal(it: &Declaration, words: &[PathWord], place: usize) -> &'static str {
     let of = place.saturating_add(2);
     let is_lent = are_at(words, of, &["str"]) || are_at(words, of, &["[", "u8", "]"]);
-    if !is_lifetime(text_at(words, place.saturating_add(1))) {
-        "` is a reference without a lifetime: write one of the type, as `&'a str`"
-    } else if it.marks.read && !is_lent {
-        "` can't be read: `&'a str` and `&'a [u8]` alone are lent; write `Vec` for a list, or the type itself"
-    } else {
-        ""
+    match text_at(words, place.saturating_add(1)) {
+        word if !is_lifetime(word) =>
+            "` is a reference without a lifetime: write one of the type, as `&'a str`",
+        _ if it.marks.read && !is_lent =>
+            "` can't be read: `&'a str` and `&'a [u8]` alone are lent; write `Vec` for a list, or the type itself",
+        _ => "",
     }
 }
 
@@ -74,24 +76,17 @@ impl Origins<'_> {
     /// Why a name can't be a type's, or in a path to one.
     fn name_refusal(&self, it: &Declaration, word: &PathWord) -> &'static str {
         let (name, from) = (word.text, self.origin(word.head));
-        let is_alone = !word.is_led && !word.leads;
-        if is_alone && (is_among(name, &it.parameters) || is_primitive(name)) {
-            ""
-        } else if is_alone && is_small(name) {
-            NO_TYPE
-        } else if !is_wordy(word.head) {
-            "` stands behind `::`, with which no path begins in Rattle: leave that out"
-        } else if !is_alone && is_capital(word.head) {
-            "` leads to a type of its own: write that type itself"
-        } else if is_alone && !is_among(from, OF_THE_CRATE) {
-            no_message(from, name)
-        } else if word.is_led
-            && !word.leads
-            && (from == "std" || is_among(word.head, &["alloc", "core", "heapless", "std"]))
-        {
-            no_message(word.head, name)
-        } else {
-            ""
+        let is_known = from == "std" || is_among(word.head, OF_KNOWN);
+        match (word.is_led, word.leads) {
+            (false, false) if is_among(name, &it.parameters) || is_primitive(name) => "",
+            (false, false) if is_small(name) => NO_TYPE,
+            _ if !is_wordy(word.head) =>
+                "` stands behind `::`, with which no path begins in Rattle: leave that out",
+            (false, false) if is_among(from, OF_THE_CRATE) => "",
+            (false, false) => no_message(from, name),
+            _ if is_capital(word.head) => "` leads to a type of its own: write that type itself",
+            (true, false) if is_known => no_message(word.head, name),
+            _ => "",
         }
     }
 

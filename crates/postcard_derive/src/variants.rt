@@ -1,5 +1,5 @@
 //! The implementations of an enum, whose shape holds its variants in fours, and then one by one.
-use crate::fields::{HELD, HELD_ALONE, LENT, LENT_ALONE, TAKEN, TYPE};
+use crate::fields::{HELD, LENT, TAKEN, TYPE, is_fixed};
 use crate::text::Text;
 use declaration_parser::declaration::VariantOf;
 use declaration_parser::tokens::is_among;
@@ -19,20 +19,18 @@ struct Place {
     holder: (&'static str, &'static str),
 }
 
-/// The place of a variant among so many.
 fn place_of(index: usize, count: usize) -> Place {
     let fours = count.saturating_sub(1) / 4;
-    let in_fours = fours.saturating_mul(4);
-    let holder = if index.saturating_add(1) == count {
-        ("Last", "Last")
-    } else if index >= in_fours {
-        ("Variant", "This")
-    } else {
-        ("Variants4", OF_SHAPES.get(index % 4).copied().unwrap_or(""))
+    let ones = index.saturating_sub(fours.saturating_mul(4));
+    let holder = match OF_SHAPES.get(index % 4) {
+        _ if index.saturating_add(1) == count => ("Last", "Last"),
+        Some(by) if index / 4 < fours => ("Variants4", *by),
+        _ => ("Variant", "This"),
     };
+    let fours = fours.min(index / 4);
     Place {
-        fours: fours.min(index / 4),
-        ones: index.saturating_sub(in_fours),
+        fours,
+        ones,
         holder,
     }
 }
@@ -73,7 +71,7 @@ impl Text {
         if fields.is_empty() {
             self.put("tt");
         } else {
-            self.put_tuple_or(fields, HELD, HELD_ALONE);
+            self.put_tuple(fields, HELD);
         }
         self.put_times(place.fours.saturating_add(place.ones), ")");
         self.put("\n");
@@ -99,8 +97,9 @@ impl Text {
             self.put_numbered(" => serializer.serialize_unit_variant(", index);
         } else {
             self.put_numbered(" => serializer.serialize_newtype_variant(", index);
-            self.put(if fields.len() > 1 { ", &" } else { ", " });
-            self.put_tuple_or(fields, LENT, LENT_ALONE);
+            let is_lent = matches!(fields.as_slice(), [field] if !is_fixed(field));
+            self.put(if is_lent { ", " } else { ", &" });
+            self.put_tuple(fields, LENT);
         }
         self.put("),\n");
     }

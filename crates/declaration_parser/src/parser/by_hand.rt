@@ -34,24 +34,18 @@ impl<'a> Implemented<'a> {
             is_by_macros: false,
         };
         for _ in 0..u32::MAX {
-            let before = found.count();
+            let before = (found.names.len(), found.types.len(), found.is_by_macros);
             for file in files {
                 for place in 0..file.tokens.len() {
                     let (_, rest) = file.tokens.split_at(place);
                     found.add_front(rest)?;
                 }
             }
-            if found.count() == before {
+            if before == (found.names.len(), found.types.len(), found.is_by_macros) {
                 break;
             }
         }
         Ok(found)
-    }
-
-    /// How much was found.
-    fn count(&self) -> usize {
-        let found = self.names.len().saturating_add(self.types.len());
-        found.saturating_add(usize::from(self.is_by_macros))
     }
 
     /// Adds what the words at the start say: another name of the trait or of a type that was found, what a macro is handed, or an

@@ -85,7 +85,6 @@ impl<'a> Parser<'a, '_> {
         }
     }
 
-    /// Reads the words of an attribute of serde's.
     fn read_serde(&mut self, it: ConditionedAttribute<'a>, said: &mut Said) {
         let is_other = !it.condition.is_empty() && !self.marking.is_under(it.condition);
         let mut rest = held(it.words);

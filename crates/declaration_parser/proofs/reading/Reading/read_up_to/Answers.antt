@@ -18,5 +18,5 @@ returns-clause-stands c silent =
     (length c.args.tokens.now - c.args.item.now.left) c.split_at.ensures.front c.split_at.ensures.back
     (c.refuse_mark.ensures.no_mark (c.take-taken.ensures.silent silent))
     (gone_front before found rest front left
-        (parted rest attributes after left c.min.result c.take-taken.result c.split_at-2.ensures.front c.split_at-2.ensures.back c.split_at-3.ensures.back)
-        (c.take-taken.ensures.stands silent))
+    (parted rest attributes after left c.min.result c.take-taken.result c.split_at-2.ensures.front c.split_at-2.ensures.back c.split_at-3.ensures.back)
+    (c.take-taken.ensures.stands silent))
