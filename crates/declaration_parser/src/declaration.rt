@@ -73,6 +73,14 @@ pub struct Marks {
 }
 
 impl Marks {
+    /// Whether the derive of this name is one of them.
+    pub fn has(&self, derive: &str) -> bool {
+        match derive {
+            "Serialize" => self.written,
+            _ => self.read,
+        }
+    }
+
     /// Adds one of them.
     pub fn add(&mut self, is_written: bool) {
         self.written = self.written || is_written;
@@ -110,9 +118,6 @@ pub struct Declaration<'a> {
 impl Declaration<'_> {
     /// Whether a derive of this name marks it, which a `use` may make another crate's.
     pub fn is_by_use(&self, derive: &str) -> bool {
-        match derive {
-            "Serialize" => self.marks.written && !self.sure.written,
-            _ => self.marks.read && !self.sure.read,
-        }
+        self.marks.has(derive) && !self.sure.has(derive)
     }
 }

@@ -11,7 +11,7 @@ use crate::head::Marking;
 use crate::items::behind_public;
 use crate::tokens::{Read, Token, Word, is_lifetime, is_listed, is_name};
 use crate::words::{MOST_FIELDS, NO_MARK, OF_IMPLEMENTATIONS, ONLY_FIELD, OTHER_DERIVE, USED};
-use by_hand::ByHand;
+use by_hand::Implemented;
 use std::alloc::Global;
 
 /// What ends the type of a field.
@@ -32,7 +32,7 @@ pub struct Job<'a, 'b> {
     pub alloc: Global,
     pub purpose: Purpose,
     pub file: &'a Read,
-    pub by_hand: &'b ByHand<'a>,
+    pub by_hand: &'b [Implemented<'a>],
 }
 
 /// Reads a declaration from the start of tokens.

@@ -11,7 +11,7 @@ use crate::faults::Faults;
 use crate::head::Marking;
 use crate::items::{Item, ItemKind, Walk};
 use crate::marks::is_mark;
-use crate::parser::by_hand::ByHand;
+use crate::parser::by_hand::implemented_in;
 use crate::parser::{Job, Parser, Purpose};
 use crate::tokens::{Read, Token};
 use crate::words::{ALMOST, IN_MACRO, IN_WORDS, RENAMES};
@@ -198,7 +198,7 @@ pub fn declarations(
     ensures accounted { IfOk result (λ r. string_bytes r.1 ≡ []
         → AreDeclaredIn r.0.items (tokens_in files.now)) }
 {
-    let by_hand = ByHand::of(alloc, files)?;
+    let by_hand = implemented_in(alloc, files)?;
     let mut reading = Reading {
         found: Vec::new(alloc),
         faults: Faults::new(alloc),

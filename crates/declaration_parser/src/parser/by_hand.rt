@@ -8,19 +8,12 @@ use std::collections::BTreeMap;
 
 /// The name of one of serde's traits, all its names, and those of the types of files that implement it by hand.
 #[derive(Drop)]
-struct Implemented<'a> {
+pub struct Implemented<'a> {
     name: &'a str,
     names: Vec<&'a str>,
     types: BTreeMap<&'a str, ()>,
     /// Whether macros implement it: then each name that a macro is handed may be such a type.
     is_by_macros: bool,
-}
-
-/// What files implement by hand of `Serialize` and `Deserialize`, so that each file is read once for all types.
-#[derive(Drop)]
-pub struct ByHand<'a> {
-    written: Implemented<'a>,
-    read: Implemented<'a>,
 }
 
 impl<'a> Implemented<'a> {
@@ -106,27 +99,22 @@ impl<'a> Implemented<'a> {
     }
 }
 
-impl<'a> ByHand<'a> {
-    /// That of these files.
-    pub fn of(alloc: Global, files: &'a [Read]) -> Result<ByHand<'a>, AllocError> {
-        Ok(ByHand {
-            written: Implemented::of(alloc, "Serialize", files)?,
-            read: Implemented::of(alloc, "Deserialize", files)?,
-        })
+/// What files implement by hand of `Serialize`, and of `Deserialize`, so that each file is read once for all types.
+pub fn implemented_in(alloc: Global, files: &[Read]) -> Result<Vec<Implemented<'_>>, AllocError> {
+    let mut all = Vec::new(alloc);
+    for name in ["Serialize", "Deserialize"] {
+        all.push(Implemented::of(alloc, name, files)?)?;
     }
+    Ok(all)
 }
 
 impl Parser<'_, '_> {
     /// Refuses a type that is written by hand on a side that isn't derived, or is so under a condition.
     pub(super) fn check_by_hand(&mut self) {
         let marking = self.marking;
-        let by_hand = self.job.by_hand;
-        for (is_marked, side) in [
-            (marking.marks.written, &by_hand.written),
-            (marking.marks.read, &by_hand.read),
-        ] {
-            let may_be = marking.is_derived && (!is_marked || marking.is_conditional);
-            if may_be && side.types.contains_key(self.at.name) {
+        for side in self.job.by_hand {
+            let is_sure = marking.marks.has(side.name) && !marking.is_conditional;
+            if marking.is_derived && !is_sure && side.types.contains_key(self.at.name) {
                 self.at.refuse(side.name, BY_HAND);
             }
         }
