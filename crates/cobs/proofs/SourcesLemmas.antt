@@ -1,6 +1,5 @@
 -- The bytes of a source that are decoded.
 use Rattle.std.proofs.Common.{◌≡◌, ◌≢◌, ℕ, zero, suc, ◌<◌, ◌≤◌, List, [], ◌∷◌, length, take, get_or, inl, inr, refl, ap, sym, ◌∙◌, arith}
-use Rattle.std.proofs.lemmas.List.{take_all}
 use Rattle.std.proofs.lemmas.Bool.{eq-eqb, ne_eqb}
 use Rattle.std.proofs.lemmas.Bool.Decides.{eqb_tells}
 use Rattle.std.proofs.lemmas.Nat.{xor_comm}
@@ -11,7 +10,7 @@ use Rattle.cobs.specs.Codes.{Marks}
 use Rattle.cobs.specs.Frames.{NoZero}
 use Rattle.cobs.specs.InPlace.{stretch}
 use Rattle.cobs.specs.Sentinel.{masked}
-use Rattle.cobs.proofs.MaskingLemmas.{masked_get, masked_take, masked_length}
+use Rattle.cobs.proofs.MaskingLemmas.{masked_get, masked_length}
 
 -- only the sentinel becomes zero
 becomes_zero : (sentinel byte : ℕ) → bit_xor sentinel byte ≡ 0 → byte ≡ sentinel
@@ -79,9 +78,6 @@ stretch_within (b ∷ bytes) = elim (eqb_tells b 0) [
   | inr t ↦ rw (ne_eqb b 0 t.1) (omega (arith, stretch_within bytes))
 ]
 
-pub reach_all : (sentinel : ℕ) (bytes : List ℕ) → length (stretch (masked sentinel bytes)) ≤ length bytes
-reach_all s bytes = omega (arith, stretch_within (masked s bytes), masked_length s bytes)
-
 -- it doesn't go past a sentinel
 pub reach_end : (sentinel n : ℕ) (bytes : List ℕ) → n < length bytes → get_or bytes n 0 ≡ sentinel → length (stretch (masked sentinel bytes)) ≤ n
 reach_end s n [] l e = absurd (omega arith)
@@ -90,23 +86,6 @@ reach_end s (suc n) (b ∷ bytes) l e = elim (eqb_tells (bit_xor s b) 0) [
   | inl t ↦ rw (eq-eqb (bit_xor s b) 0 t.1) (omega arith)
   | inr t ↦ rw (ne_eqb (bit_xor s b) 0 t.1) (omega (arith, reach_end s n bytes (omega arith) e))
 ]
-
--- a front that has all of it begins with the same
-stretch_front_of : (n : ℕ) (bytes : List ℕ) → length (stretch bytes) ≤ n → stretch (take n bytes) ≡ stretch bytes
-stretch_front_of n [] l = ap stretch (take_all n [] (omega arith))
-stretch_front_of zero (b ∷ bytes) l = elim (eqb_tells b 0) [
-  | inl t ↦ rw (eq-eqb b 0 t.1) refl
-  | inr t ↦ let m : suc (length (stretch bytes)) ≤ 0 = rw (ne_eqb b 0 t.1) at l in absurd (omega arith)
-]
-stretch_front_of (suc n) (b ∷ bytes) l = elim (eqb_tells b 0) [
-  | inl t ↦ rw (eq-eqb b 0 t.1) refl
-  | inr t ↦
-      let m : suc (length (stretch bytes)) ≤ suc n = rw (ne_eqb b 0 t.1) at l in
-      rw (ne_eqb b 0 t.1) (ap (λ r. b ∷ r) (stretch_front_of n bytes (omega (arith, m))))
-]
-
-pub stretch_reached : (sentinel n : ℕ) (bytes : List ℕ) → length (stretch (masked sentinel bytes)) ≤ n → stretch (masked sentinel (take n bytes)) ≡ stretch (masked sentinel bytes)
-stretch_reached s n bytes l = ap stretch (sym (masked_take s n bytes)) ∙ stretch_front_of n (masked s bytes) l
 
 -- what comes before the first sentinel ends there
 pub stretch_again : (s : ℕ) (bytes front : List ℕ) → masked s front ≡ stretch (masked s bytes) → stretch (masked s front) ≡ stretch (masked s bytes)

@@ -1,7 +1,7 @@
 -- What the streaming decoders do with a byte and with a piece.
-use Rattle.std.proofs.Common.{◌≡◌, ◌≢◌, ℕ, zero, suc, ◌+◌, ◌-◌, ◌^◌, ◌<◌, ◌≤◌, min, nat_lt, if◌then◌else◌, false, set, List, [], ◌∷◌, ◌++◌, length, take, drop, append_assoc, length-append, length-take, length-drop, get_or, Option, Some, None, Result, Ok, Err, inl, inr, refl, ap, sym, ◌∙◌, subst, arith}
-use Rattle.std.proofs.lemmas.List.{append-nil, take-take, drop_more, set_past}
-use Rattle.std.specs.Prelude.{bit_xor, IfOk, IfSome, IsNone}
+use Rattle.std.proofs.Common.{◌≡◌, ◌≢◌, ℕ, zero, suc, ◌+◌, ◌-◌, ◌^◌, ◌<◌, ◌≤◌, min, nat_lt, if◌then◌else◌, false, set, List, [], ◌∷◌, ◌++◌, length, take, drop, append_assoc, length-append, length-take, length-drop, Option, Some, None, Result, Ok, Err, inl, inr, refl, ap, sym, ◌∙◌, subst, arith}
+use Rattle.std.proofs.lemmas.List.{append-nil, take-take, set_past}
+use Rattle.std.specs.Prelude.{IfOk, IfSome, IsNone}
 use Rattle.cobs.specs.Frames.{NoZero, part, part_from, after}
 use Rattle.cobs.specs.InPlace.{written_over}
 use Rattle.cobs.specs.Feeding.{at_zero, at_byte, answer_of, frame_after, placed, told_by, fed, next, standing, listed}
@@ -19,7 +19,7 @@ use Rattle.cobs.specs.declared.dec.report.DecodeReport.{DecodeReport}
 use Rattle.cobs.specs.declared.dec.progress.Progress.{Progress}
 use Rattle.cobs.proofs.DecodingLemmas.{part_append, nonzero_append}
 use Rattle.cobs.proofs.FeedsLemmas.{StoresByte, frame_byte, answer_byte, part_told, takes_told, takes_over}
-use Rattle.cobs.proofs.MaskingLemmas.{masked_zero, masked_length, masked_get}
+use Rattle.cobs.proofs.MaskingLemmas.{masked_zero}
 use Rattle.cobs.proofs.MessagesLemmas.{decoded_next, decoded_left, placed_zero, length-placed, message_here, message_met}
 use Rattle.cobs.proofs.PassingLemmas.{all_placed}
 use Rattle.cobs.proofs.TurnsLemmas.{Came}
@@ -226,17 +226,3 @@ pub byte_fits : (p : List ℕ) (b room : ℕ) (d : Progress) → 0 < b → HasSt
 byte_fits p b room d some s l w =
     let told = told_by (fed (standing p) b) in
     omega (arith, s.len, l, w, ap length (part_told p b some), length-append (part p) (listed told), told_few told)
-
--- a byte that fits was taken
-pub stored_front : (d : Progress) (old : List ℕ) (byte : ℕ) (result : Result (Option ℕ) DecodeError) (d' : Progress) (new : List ℕ) → 0 < byte → d.len < length old → length old < 2 ^ 64 → StoresByte d old byte result d' new
-    → (p : List ℕ) → HasStreamed d p → TakesFront p (byte ∷ []) old 1 d' new
-stored_front d old byte result d' new some room small t p s =
-    byte_then p byte [] old new new 0 d' some (byte_fits p byte (length old) d some s room small) (t.buffer p s) (none_front (p ++ byte ∷ []) [] new d' (t.stands p s))
-
--- one byte of a piece was taken
-pub front_byte : (key read : ℕ) (bytes p old new : List ℕ) (d : Progress) → read < length bytes → TakesFront p (bit_xor key (get_or bytes read 0) ∷ []) old 1 d new → TakesFront p (drop read (masked key bytes)) old 1 d new
-front_byte key read bytes p old new d l f =
-    let m = masked key bytes in
-    let one : bit_xor key (get_or bytes read 0) ∷ [] ≡ take 1 (drop read m) =
-    ap (λ b. b ∷ []) (sym (masked_get key bytes read l)) ∙ sym (ap (take 1) (drop_more m read 0 (omega (arith, l, masked_length key bytes)))) in
-    front_longer p (bit_xor key (get_or bytes read 0) ∷ []) (drop read m) old new 1 1 d one f

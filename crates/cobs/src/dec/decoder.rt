@@ -6,6 +6,7 @@ ghost use Rattle.cobs.specs.Sentinel.{masked};
 
 use super::progress::Progress;
 use super::report::{DecodeError, DecodeReport};
+use crate::moves::copy_over;
 
 /// Decodes frames that arrive in chunks, into a borrowed buffer.
 ///
@@ -117,7 +118,6 @@ impl<'a> CobsDecoder<'a> {
         ensures sentinel { sentinel_of self.new ≡ sentinel_of self.old }
         ensures lent { lent_name self.new ≡ lent_name self.old }
     {
-        let written = &mut self.dest[place..place + bytes.len()];
-        written.copy_from_slice(bytes);
+        copy_over(bytes, self.dest, place, 0);
     }
 }

@@ -6,6 +6,7 @@ ghost use Rattle.cobs.specs.Sentinel.{masked};
 
 use super::progress::Progress;
 use super::report::{DecodeError, DecodeReport};
+use crate::moves::copy_over;
 use arrayvec::ArrayVec;
 
 /// Decodes frames that arrive in chunks, into an array of N bytes of its own.
@@ -137,8 +138,7 @@ impl<const N: usize> CobsDecoderHeapless<N> {
         ensures progress { array_progress self.new ≡ array_progress self.old }
         ensures sentinel { array_sentinel self.new ≡ array_sentinel self.old }
     {
-        let buffer = self.array.as_mut_slice();
-        buffer[place..place + bytes.len()].copy_from_slice(bytes);
+        copy_over(bytes, self.array.as_mut_slice(), place, 0);
     }
 }
 

@@ -6,6 +6,7 @@ ghost use Rattle.cobs.specs.Sentinel.{masked};
 
 use super::progress::Progress;
 use super::report::{DecodeError, DecodeReport};
+use crate::moves::copy_over;
 use std::alloc::{AllocError, Global};
 
 /// Decodes frames that arrive in chunks, into a buffer of its own.
@@ -165,7 +166,6 @@ impl CobsDecoderOwned {
         ensures progress { owned_progress self.new ≡ owned_progress self.old }
         ensures sentinel { owned_sentinel self.new ≡ owned_sentinel self.old }
     {
-        let buffer = self.buffer.as_mut_slice();
-        buffer[place..place + bytes.len()].copy_from_slice(bytes);
+        copy_over(bytes, self.buffer.as_mut_slice(), place, 0);
     }
 }

@@ -1,4 +1,3 @@
-use Rattle.std.proofs.lemmas.Grind.{common_steps}
 use Rattle.std.proofs.Common.{◌≡◌, ◌+◌, ◌++◌, [], length, ap, sym, ◌∙◌, append_assoc, refl, subst, arith}
 use Rattle.std.proofs.lemmas.List.{append-nil}
 use Rattle.cobs.specs.Codes.{Open}
@@ -47,21 +46,3 @@ returns g c =
           let all = append_assoc m done.0 c.loop-rest.rest.now ∙ ap (λ b. m ++ b) (sym done.1) in
           rw c.loop-rest.invariant.end at (rw all at (last.coding (m ++ done.0) (done.2 m o)));
     }
-
-pub split_at-requires : goal.split_at-requires
-split_at-requires g c = grind (arith, common_steps)
-
-pub put_some-requires-clause-block : goal.put_some-requires-clause-block
-put_some-requires-clause-block g c = grind (arith, common_steps)
-
-pub put_some-requires-clause-few : goal.put_some-requires-clause-few
-put_some-requires-clause-few g c = grind (arith, common_steps)
-
-pub loop-rest-smaller : goal.loop-rest-smaller
-loop-rest-smaller g c = grind (arith, common_steps)
-
-pub put_some-requires-2-clause-block : goal.put_some-requires-2-clause-block
-put_some-requires-2-clause-block g c = grind (arith, common_steps)
-
-pub put_some-requires-2-clause-few : goal.put_some-requires-2-clause-few
-put_some-requires-2-clause-few g c = grind (arith, common_steps)

@@ -148,65 +148,14 @@ returns g c = record {
 pub loop-read-init : goal.loop-read-init
 loop-read-init g c = record { reading = c.loop-buf.invariant.reading; within = omega arith; from = omega arith }
 
-pub bounds-buf-0 : goal.bounds-buf-0
-bounds-buf-0 g c = grind (arith, common_steps)
-
-pub overflow_sub-buf : goal.overflow_sub-buf
-overflow_sub-buf g c = grind (arith, common_steps)
-
-pub overflow_add-read : goal.overflow_add-read
-overflow_add-read g c = grind (arith, common_steps)
-
-pub slice_bounds-is_clear_255-count : goal.slice_bounds-is_clear_255-count
-slice_bounds-is_clear_255-count g c = grind (arith, common_steps)
-
-pub slice_bounds-is_clear_255-start : goal.slice_bounds-is_clear_255-start
-slice_bounds-is_clear_255-start g c = grind (arith, common_steps)
-
-pub slice_bounds-is_clear_255-end : goal.slice_bounds-is_clear_255-end
-slice_bounds-is_clear_255-end g c = grind (arith, common_steps)
-
-pub is_clear_255-requires : goal.is_clear_255-requires
-is_clear_255-requires g c = grind (arith, common_steps)
-
-pub overflow_add-read-in-loop-buf : goal.overflow_add-read-in-loop-buf
-overflow_add-read-in-loop-buf g c = grind (arith, common_steps)
-
 pub take_some_within-read-requires-clause-some : goal.take_some_within-read-requires-clause-some
 take_some_within-read-requires-clause-some g c = grind (arith, common_steps)
-
-pub overflow_add-read-in-loop-buf-2 : goal.overflow_add-read-in-loop-buf-2
-overflow_add-read-in-loop-buf-2 g c = grind (arith, common_steps)
 
 pub loop-buf-smaller : goal.loop-buf-smaller
 loop-buf-smaller g c = grind (arith, common_steps)
 
-pub slice_bounds-before_by_64-count : goal.slice_bounds-before_by_64-count
-slice_bounds-before_by_64-count g c = grind (arith, common_steps)
-
-pub slice_bounds-before_by_64-start : goal.slice_bounds-before_by_64-start
-slice_bounds-before_by_64-start g c = grind (arith, common_steps)
-
 pub slice_bounds-before_by_64-end : goal.slice_bounds-before_by_64-end
 slice_bounds-before_by_64-end g c = grind (arith, common_steps)
 
-pub before_by_64-requires : goal.before_by_64-requires
-before_by_64-requires g c = grind (arith, common_steps)
-
-pub overflow_add-end : goal.overflow_add-end
-overflow_add-end g c = grind (arith, common_steps)
-
-pub overflow_add-read-in-loop-read : goal.overflow_add-read-in-loop-read
-overflow_add-read-in-loop-read g c = grind (arith, common_steps)
-
-pub loop-read-smaller : goal.loop-read-smaller
-loop-read-smaller g c = grind (arith, common_steps)
-
 pub answer_behind-requires : goal.answer_behind-requires
 answer_behind-requires g c = grind (arith, common_steps)
-
-pub with_parsed-requires : goal.with_parsed-requires
-with_parsed-requires g c = grind (arith, common_steps)
-
-pub shape_of-buf : goal.shape_of-buf
-shape_of-buf g c = grind (arith, common_steps)

@@ -1,4 +1,3 @@
-use Rattle.std.proofs.lemmas.Grind.{common_steps}
 use Rattle.std.proofs.Common.{◌≡◌, ◌≢◌, ℕ, zero, suc, ◌+◌, ◌-◌, ◌<◌, ◌≤◌, List, true, [], ◌∷◌, ◌++◌, length, take, drop, get_or, length-drop, refl, sym, ◌∙◌, ap, subst, arith}
 use Rattle.std.proofs.lemmas.List.{length-take-le, drop_at, take_all}
 use Rattle.std.proofs.lemmas.Nat.{xor_of_8}
@@ -119,30 +118,3 @@ returns c = record {
       over c.args.sentinel c.args.end c.args.buf.now c.move_down.new.buffer (positive c.args.end c.if-end-eq0.false) r.stops.within r.stops.none r.stops.end c.move_down.ensures r.few (r.bytes 0) c.ranges.sentinel.fits c.put_zeros-state.new.out c.put_zeros-state.result c.put_zeros-state.auto.out c.put_zeros-state.ensures.out c.put_zeros-state.ensures.state;
   bytes = c.requires.bytes;
 }
-
-pub bounds-buf-0 : goal.bounds-buf-0
-bounds-buf-0 c = grind (arith, common_steps)
-
-pub overflow_sub-len : goal.overflow_sub-len
-overflow_sub-len c = grind (arith, common_steps)
-
-pub move_down-requires-clause-within : goal.move_down-requires-clause-within
-move_down-requires-clause-within c = grind (arith, common_steps)
-
-pub move_down-requires-clause-down : goal.move_down-requires-clause-down
-move_down-requires-clause-down c = grind (arith, common_steps)
-
-pub slice_bounds-put_zeros-end : goal.slice_bounds-put_zeros-end
-slice_bounds-put_zeros-end c = grind (arith, common_steps)
-
-pub slice_bounds-put_zeros-end-2 : goal.slice_bounds-put_zeros-end-2
-slice_bounds-put_zeros-end-2 c = grind (arith, common_steps)
-
-pub put_zeros-state-requires-clause-short : goal.put_zeros-state-requires-clause-short
-put_zeros-state-requires-clause-short c = grind (arith, common_steps)
-
-pub answer_behind-requires : goal.answer_behind-requires
-answer_behind-requires c = grind (arith, common_steps)
-
-pub with_parsed-requires-2 : goal.with_parsed-requires-2
-with_parsed-requires-2 c = grind (arith, common_steps)

@@ -1,4 +1,4 @@
-use Rattle.std.proofs.Common.{◌≡◌, [], length, sym, ◌∙◌, ap, Ok, Some, None}
+use Rattle.std.proofs.Common.{arith, ◌≡◌, [], length, sym, ◌∙◌, ap, Ok, Some, None}
 use Rattle.cobs.specs.Feeding.{at_zero}
 use Rattle.cobs.specs.Frames.{part}
 use Rattle.cobs.specs.InPlace.{overwritten}
@@ -6,6 +6,7 @@ use Rattle.cobs.specs.Pieces.{first_answer, frame_left}
 use Rattle.cobs.specs.Whole.{frame_in}
 use Rattle.cobs.proofs.PushingLemmas.{pushed_over, pushed_refused, pushed_whole, then_refused, then_empty, then_whole}
 use Rattle.cobs.proofs.TakesLemmas.{unmasked}
+use Rattle.std.proofs.lemmas.Grind.{common_steps}
 use Rattle.cobs.proofs.dec.whole.decode_pushed.Goals as goal
 use Rattle.cobs.proofs.dec.whole.decode_pushed.Goals.{After-push, After-end}
 
@@ -63,3 +64,6 @@ returns-in-Err c = record {
   answer = pushed_refused c.args.source.now c.args.rest.now c.args.dest.now c.requires.rest c.in-Err.error (sym (answered (goal.at.returns-in-Err c).After-push) ∙ c.in-Err.is);
   dest = over (goal.at.returns-in-Err c).After-push;
 }
+
+pub overflow_add-zeros : goal.overflow_add-zeros
+overflow_add-zeros c = grind (arith, common_steps)

@@ -1,4 +1,4 @@
-use Rattle.std.proofs.Common.{refl, ◌∙◌, ap, subst, length}
+use Rattle.std.proofs.Common.{arith, refl, ◌∙◌, ap, subst, length}
 use Rattle.cobs.specs.Frames.{part}
 use Rattle.cobs.specs.InPlace.{stretch, overwritten}
 use Rattle.cobs.specs.Sentinel.{masked}
@@ -6,6 +6,7 @@ use Rattle.cobs.specs.Taking.{DecodesFront}
 use Rattle.cobs.specs.Whole.{frame_in, decoded_from}
 use Rattle.cobs.proofs.PushingLemmas.{told_fitting, over_fitting}
 use Rattle.cobs.proofs.SourcesLemmas.{stretch_again}
+use Rattle.std.proofs.lemmas.Grind.{common_steps}
 use Rattle.cobs.proofs.dec.whole.decode_slowly.Goals as goal
 use Rattle.cobs.proofs.dec.whole.decode_slowly.Goals.{In-Some}
 
@@ -42,3 +43,6 @@ decode_pushed-requires-clause-rest c = c.behind_zeros-rest.ensures.value
 
 pub decode_pushed-requires-in-None-clause-rest : goal.decode_pushed-requires-in-None-clause-rest
 decode_pushed-requires-in-None-clause-rest c = c.behind_zeros-rest.ensures.value
+
+pub overflow_add-source-in-Some : goal.overflow_add-source-in-Some
+overflow_add-source-in-Some c = grind (arith, common_steps)

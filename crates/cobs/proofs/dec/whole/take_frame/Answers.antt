@@ -1,4 +1,5 @@
-use Rattle.std.proofs.Common.{◌≡◌, ℕ, true, List, [], length, get_or, Option, Result, Ok, Err, sym, ◌∙◌, subst}
+use Rattle.std.proofs.Common.{◌≡◌, ℕ, true, List, [], length, get_or, Option, Result, Ok, Err, sym, ◌∙◌, subst, arith}
+use Rattle.std.proofs.lemmas.List.{take_all}
 use Rattle.std.specs.Prelude.{bit_xor}
 use Rattle.std.specs.Result.{is_ok}
 use Rattle.cobs.specs.Frames.{NoZero}
@@ -8,6 +9,7 @@ use Rattle.cobs.specs.Streaming.{HasStreamed}
 use Rattle.cobs.specs.declared.dec.report.DecodeError.{DecodeError}
 use Rattle.cobs.specs.declared.dec.report.DecodeReport.{DecodeReport}
 use Rattle.cobs.proofs.FeedsLemmas.{frame_byte}
+use Rattle.cobs.proofs.MaskingLemmas.{masked_length}
 use Rattle.cobs.proofs.PushingLemmas.{clear_over, clear_taken}
 use Rattle.cobs.proofs.WholesLemmas.{entering_on, entering_positive}
 use Rattle.cobs.proofs.dec.whole.take_frame.Goals as goal
@@ -37,3 +39,8 @@ loop-byte-preserved c =
 
 pub returns-clause-dest : goal.returns-clause-dest
 returns-clause-dest c = c.push.ensures.buffer [] c.new-progress.ensures ∙ clear_over (masked c.args.sentinel c.args.frame.now) c.args.dest.now c.requires
+
+pub returns-clause-stands : goal.returns-clause-stands
+returns-clause-stands c =
+    let p = masked c.args.sentinel c.args.frame.now in
+    subst (HasStreamed c.loop-byte.progress) (take_all c.loop-byte.byte-index p (omega (arith, c.loop-byte-test.false, masked_length c.args.sentinel c.args.frame.now))) c.loop-byte.invariant

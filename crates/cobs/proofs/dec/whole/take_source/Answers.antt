@@ -218,56 +218,11 @@ returns-clause-within g c =
 pub by_code-requires : goal.by_code-requires
 by_code-requires g c = masked_positive c.args.sentinel (get_or c.args.source.now 0 0) c.requires.begins
 
-pub bounds-source-0 : goal.bounds-source-0
-bounds-source-0 g c = grind (arith, common_steps)
-
-pub overflow_sub-source : goal.overflow_sub-source
-overflow_sub-source g c = grind (arith, common_steps)
-
 pub overflow_add-read : goal.overflow_add-read
 overflow_add-read g c = grind (arith, common_steps)
-
-pub slice_bounds-is_clear_255-count : goal.slice_bounds-is_clear_255-count
-slice_bounds-is_clear_255-count g c = grind (arith, common_steps)
-
-pub slice_bounds-is_clear_255-start : goal.slice_bounds-is_clear_255-start
-slice_bounds-is_clear_255-start g c = grind (arith, common_steps)
-
-pub slice_bounds-is_clear_255-end : goal.slice_bounds-is_clear_255-end
-slice_bounds-is_clear_255-end g c = grind (arith, common_steps)
-
-pub is_clear_255-requires : goal.is_clear_255-requires
-is_clear_255-requires g c = grind (arith, common_steps)
-
-pub overflow_add-read-in-loop-read : goal.overflow_add-read-in-loop-read
-overflow_add-read-in-loop-read g c = grind (arith, common_steps)
-
-pub slice_bounds-take_some-count : goal.slice_bounds-take_some-count
-slice_bounds-take_some-count g c = grind (arith, common_steps)
-
-pub slice_bounds-take_some-start : goal.slice_bounds-take_some-start
-slice_bounds-take_some-start g c = grind (arith, common_steps)
 
 pub slice_bounds-take_some-end : goal.slice_bounds-take_some-end
 slice_bounds-take_some-end g c = grind (arith, common_steps)
 
 pub take_some-read-requires-clause-some : goal.take_some-read-requires-clause-some
 take_some-read-requires-clause-some g c = grind (arith, common_steps)
-
-pub loop-read-smaller : goal.loop-read-smaller
-loop-read-smaller g c = grind (arith, common_steps)
-
-pub slice_bounds-before_sentinel-count : goal.slice_bounds-before_sentinel-count
-slice_bounds-before_sentinel-count g c = grind (arith, common_steps)
-
-pub slice_bounds-before_sentinel-start : goal.slice_bounds-before_sentinel-start
-slice_bounds-before_sentinel-start g c = grind (arith, common_steps)
-
-pub slice_bounds-before_sentinel-end : goal.slice_bounds-before_sentinel-end
-slice_bounds-before_sentinel-end g c = grind (arith, common_steps)
-
-pub before_sentinel-requires : goal.before_sentinel-requires
-before_sentinel-requires g c = grind (arith, common_steps)
-
-pub overflow_add-end : goal.overflow_add-end
-overflow_add-end g c = grind (arith, common_steps)

@@ -6,6 +6,7 @@ use Rattle.cobs.specs.InPlace.{written_over}
 use Rattle.cobs.specs.Sentinel.{masked}
 use Rattle.cobs.proofs.MaskingLemmas.{masked_length, masked_take}
 use Rattle.cobs.proofs.SourcesLemmas.{marked_byte, unmarked_byte}
+use Rattle.std.proofs.lemmas.Grind.{common_steps}
 use Rattle.cobs.proofs.dec.window.copy_frame_until.Goals as goal
 
 pub returns-then-marks-eq0-clause-stops : goal.returns-then-marks-eq0-clause-stops
@@ -36,3 +37,12 @@ returns-clause-buffer g c =
     c.copy_few.ensures
     ∙ ap (written_over c.args.place (masked c.args.sentinel _)) (c.copy_clear_some-marks.ensures.same c.if-marks-eq0.false)
     ∙ ap (λ b. written_over c.args.place b c.args.buffer.now) (sym (masked_take c.args.sentinel c.lowest-n.result.0 c.args.bytes.now))
+
+pub copy_few-requires-clause-few : goal.copy_few-requires-clause-few
+copy_few-requires-clause-few g c = grind (arith, common_steps)
+
+pub copy_few-requires-clause-room : goal.copy_few-requires-clause-room
+copy_few-requires-clause-room g c = grind (arith, common_steps)
+
+pub slice_bounds-copy_few-end : goal.slice_bounds-copy_few-end
+slice_bounds-copy_few-end g c = grind (arith, common_steps)

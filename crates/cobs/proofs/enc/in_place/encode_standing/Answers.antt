@@ -6,6 +6,7 @@ use Rattle.cobs.specs.Sentinel.{masked}
 use Rattle.cobs.proofs.CodingLemmas.{coded_end}
 use Rattle.cobs.proofs.MaskingLemmas.{masked_length, masked_zero}
 use Rattle.cobs.proofs.StandingLemmas.{standing_new, standing_on, standing_all, standing_end}
+use Rattle.std.proofs.lemmas.Grind.{common_steps}
 use Rattle.cobs.proofs.enc.in_place.encode_standing.Goals as goal
 use Rattle.cobs.proofs.enc.in_place.encode_standing.Goals.{Joined-done-n, then-done-n, else-done-n}
 
@@ -73,3 +74,9 @@ returns-else-sentinel-ne0 c =
     let n = c.args.n in
     let bytes = set coded code_at (n + 1 - code_at) in
     encoded c.args.sentinel n code_at c.args.buffer.now coded bytes (coded_here (goal.at.returns-else-sentinel-ne0 c).Joined-done-n) (rw c.if-sentinel-ne0.false (sym (masked_zero (take (n + 1) bytes))))
+
+pub bounds-buffer-code_at : goal.bounds-buffer-code_at
+bounds-buffer-code_at c = grind (arith, common_steps)
+
+pub overflow_sub-buffer : goal.overflow_sub-buffer
+overflow_sub-buffer c = grind (arith, common_steps)

@@ -1,6 +1,7 @@
 use Rattle.std.proofs.Common.{arith}
 use Rattle.std.proofs.lemmas.Grind.{common_steps}
+use Rattle.cobs.proofs.MaskingLemmas.{masked_zero}
 use Rattle.cobs.proofs.dec.owned.CobsDecoderOwned.overwrite.Goals as goal
 
 pub returns-clause-buffer : goal.returns-clause-buffer
-returns-clause-buffer c = grind (arith, common_steps)
+returns-clause-buffer c = grind (arith, common_steps, masked_zero c.args.bytes.now)

@@ -1,4 +1,3 @@
-use Rattle.std.proofs.lemmas.Grind.{common_steps}
 use Rattle.std.proofs.Common.{◌≡◌, ◌+◌, ◌-◌, ◌<◌, ◌≤◌, arith, ap, sym, ◌∙◌, get_or, length, drop, length-take, length-drop, Ok, Err, None, subst, List, ℕ}
 use Rattle.std.proofs.lemmas.Result.{err_from_is_err_and}
 use Rattle.std.specs.Prelude.{bit_xor}
@@ -99,33 +98,3 @@ returns-then-at-piece c =
     let turn = turn_front_for key p piece c.args.buffer.now at t.result c.loop-at.buffer t.new.buffer c.loop-at.self t.new.self before c.loop-at.auto.buffer (t.ensures.front before.now before.stands) in
     record { left = _; outcome = turn_end p (masked key piece) c.args.buffer.now (at + t.result) t.new.buffer t.new.self turn (omega (arith, c.if-at-piece.true, masked_length key piece)); stands = turn.stands })
     tt (t.auto.buffer ∙ c.loop-at.auto.buffer)
-
-pub loop-at-init : goal.loop-at-init
-loop-at-init c = grind (arith, common_steps)
-
-pub slice_bounds-take_stretch-count : goal.slice_bounds-take_stretch-count
-slice_bounds-take_stretch-count c = grind (arith, common_steps)
-
-pub slice_bounds-take_stretch-start : goal.slice_bounds-take_stretch-start
-slice_bounds-take_stretch-start c = grind (arith, common_steps)
-
-pub slice_bounds-take_stretch-end : goal.slice_bounds-take_stretch-end
-slice_bounds-take_stretch-end c = grind (arith, common_steps)
-
-pub take_stretch-at-requires : goal.take_stretch-at-requires
-take_stretch-at-requires c = grind (arith, common_steps)
-
-pub overflow_add-at : goal.overflow_add-at
-overflow_add-at c = grind (arith, common_steps)
-
-pub bounds-piece-at : goal.bounds-piece-at
-bounds-piece-at c = grind (arith, common_steps)
-
-pub feed-requires : goal.feed-requires
-feed-requires c = grind (arith, common_steps)
-
-pub overflow_add-at-in-None : goal.overflow_add-at-in-None
-overflow_add-at-in-None c = grind (arith, common_steps)
-
-pub loop-at-smaller : goal.loop-at-smaller
-loop-at-smaller c = grind (arith, common_steps)

@@ -99,47 +99,8 @@ returns-clause-front g c p s =
     subst (λ m. TakesFront p m old (1 + t.result) t.new.self t.new.buffer) (code_then key bytes c.requires.some)
     (byte_then p b rest old mid t.new.buffer t.result t.new.self some fits put (t.ensures.front (p ++ b ∷ []) has))
 
-pub take_row-row-requires : goal.take_row-row-requires
-take_row-row-requires g c = grind (arith, common_steps)
-
-pub returns-then-row-gt0-clause-some : goal.returns-then-row-gt0-clause-some
-returns-then-row-gt0-clause-some g c = grind (arith, common_steps)
-
 pub returns-then-row-gt0-clause-within : goal.returns-then-row-gt0-clause-within
 returns-then-row-gt0-clause-within g c = grind (arith, common_steps)
 
-pub returns-then-row-gt0-clause-len : goal.returns-then-row-gt0-clause-len
-returns-then-row-gt0-clause-len g c = grind (arith, common_steps)
-
-pub returns-then-taken-gt0-clause-some : goal.returns-then-taken-gt0-clause-some
-returns-then-taken-gt0-clause-some g c = grind (arith, common_steps)
-
-pub returns-then-taken-gt0-clause-within : goal.returns-then-taken-gt0-clause-within
-returns-then-taken-gt0-clause-within g c = grind (arith, common_steps)
-
-pub returns-then-taken-gt0-clause-len : goal.returns-then-taken-gt0-clause-len
-returns-then-taken-gt0-clause-len g c = grind (arith, common_steps)
-
-pub bounds-bytes-0 : goal.bounds-bytes-0
-bounds-bytes-0 g c = grind (arith, common_steps)
-
-pub slice_bounds-take_clear-count : goal.slice_bounds-take_clear-count
-slice_bounds-take_clear-count g c = grind (arith, common_steps)
-
-pub slice_bounds-take_clear-start : goal.slice_bounds-take_clear-start
-slice_bounds-take_clear-start g c = grind (arith, common_steps)
-
-pub slice_bounds-take_clear-end : goal.slice_bounds-take_clear-end
-slice_bounds-take_clear-end g c = grind (arith, common_steps)
-
 pub overflow_add-result : goal.overflow_add-result
 overflow_add-result g c = grind (arith, common_steps)
-
-pub returns-clause-some : goal.returns-clause-some
-returns-clause-some g c = grind (arith, common_steps)
-
-pub returns-clause-within : goal.returns-clause-within
-returns-clause-within g c = grind (arith, common_steps)
-
-pub returns-clause-len : goal.returns-clause-len
-returns-clause-len g c = grind (arith, common_steps)

@@ -1,4 +1,3 @@
-use Rattle.std.proofs.lemmas.Grind.{common_steps}
 use Rattle.std.proofs.Common.{◌≡◌, ◌≢◌, ◌-◌, ◌+◌, ◌^◌, ◌<◌, ◌≤◌, ℕ, List, length, take, drop, get_or, ◌∷◌, ◌++◌, [], ap, sym, ◌∙◌, subst, arith}
 use Rattle.std.specs.Prelude.{bit_xor}
 use Rattle.cobs.specs.Feeding.{placed, by_code}
@@ -95,60 +94,3 @@ returns-clause-front g c p s =
     let z : t.result ≡ 0 = omega (arith, c.if-taken-gt0.false) in
     coded c.args.sentinel c.args.read c.args.end t.result p c.args.buffer.now t.new.buffer c.args.self.now t.new.self s z (t.ensures.front p s)
     r.some r.inside r.behind r.clear (omega arith) (t.ensures.coded r.some z) c.by_code-self.ensures.byte _ c.by_code-self.ensures.state w.result w.new.self w.new.buffer w.ensures.front
-
-pub take_within-taken-requires-clause-some : goal.take_within-taken-requires-clause-some
-take_within-taken-requires-clause-some g c = grind (arith, common_steps)
-
-pub take_within-taken-requires-clause-inside : goal.take_within-taken-requires-clause-inside
-take_within-taken-requires-clause-inside g c = grind (arith, common_steps)
-
-pub take_within-taken-requires-clause-behind : goal.take_within-taken-requires-clause-behind
-take_within-taken-requires-clause-behind g c = grind (arith, common_steps)
-
-pub take_within-taken-requires-clause-clear : goal.take_within-taken-requires-clause-clear
-take_within-taken-requires-clause-clear g c = grind (arith, common_steps)
-
-pub returns-then-taken-gt0-clause-some : goal.returns-then-taken-gt0-clause-some
-returns-then-taken-gt0-clause-some g c = grind (arith, common_steps)
-
-pub returns-then-taken-gt0-clause-within : goal.returns-then-taken-gt0-clause-within
-returns-then-taken-gt0-clause-within g c = grind (arith, common_steps)
-
-pub bounds-buffer-read : goal.bounds-buffer-read
-bounds-buffer-read g c = grind (arith, common_steps)
-
-pub overflow_add-read : goal.overflow_add-read
-overflow_add-read g c = grind (arith, common_steps)
-
-pub take_within-requires-clause-some : goal.take_within-requires-clause-some
-take_within-requires-clause-some g c = grind (arith, common_steps)
-
-pub take_within-requires-clause-inside : goal.take_within-requires-clause-inside
-take_within-requires-clause-inside g c = grind (arith, common_steps)
-
-pub overflow_add-result : goal.overflow_add-result
-overflow_add-result g c = grind (arith, common_steps)
-
-pub returns-then-code-clause-some : goal.returns-then-code-clause-some
-returns-then-code-clause-some g c = grind (arith, common_steps)
-
-pub returns-then-code-clause-within : goal.returns-then-code-clause-within
-returns-then-code-clause-within g c = grind (arith, common_steps)
-
-pub overflow_add-read-2 : goal.overflow_add-read-2
-overflow_add-read-2 g c = grind (arith, common_steps)
-
-pub take_within-requires-2-clause-some : goal.take_within-requires-2-clause-some
-take_within-requires-2-clause-some g c = grind (arith, common_steps)
-
-pub take_within-requires-2-clause-inside : goal.take_within-requires-2-clause-inside
-take_within-requires-2-clause-inside g c = grind (arith, common_steps)
-
-pub overflow_add-result-2 : goal.overflow_add-result-2
-overflow_add-result-2 g c = grind (arith, common_steps)
-
-pub returns-clause-some : goal.returns-clause-some
-returns-clause-some g c = grind (arith, common_steps)
-
-pub returns-clause-within : goal.returns-clause-within
-returns-clause-within g c = grind (arith, common_steps)
