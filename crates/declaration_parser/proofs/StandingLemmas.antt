@@ -39,16 +39,6 @@ pub accounts_skipped : (found : List Declaration) (tokens : List Token) → NoMa
 accounts_skipped found tokens h over gone more rest k =
     subst (λ z. AreDeclaredIn (found ++ more) z) (sym (append_assoc over tokens rest)) (gone more (tokens ++ rest) (skip_front tokens more rest h k))
 
--- a stretch is a declaration
-pub accounts_declared : (before found : List Declaration) (d : Declaration) (tokens : List Token) → NoMark d.words.now
-    → found ≡ before ++ d ∷ [] → tokens ≡ d.attributes.now ++ d.words.now → Accounts before found tokens
-accounts_declared before found d tokens h e t over gone more rest k =
-    let own = d.attributes.now ++ d.words.now in
-    let here : AreDeclaredIn (d ∷ more) (own ++ rest) = subst (λ z. AreDeclaredIn (d ∷ more) z) (sym (append_assoc d.attributes.now d.words.now rest)) (declare_front d more rest h k) in
-    let all : AreDeclaredIn (before ++ d ∷ more) (over ++ (own ++ rest)) = gone (d ∷ more) (own ++ rest) here in
-    let named : AreDeclaredIn (found ++ more) (over ++ (own ++ rest)) = subst (λ z. AreDeclaredIn z (over ++ (own ++ rest))) (sym (ap (λ z. z ++ more) e ∙ append_assoc before (d ∷ []) more)) all in
-    subst (λ z. AreDeclaredIn (found ++ more) z) (sym (append_assoc over tokens rest)) (subst (λ z. AreDeclaredIn (found ++ more) (over ++ (z ++ rest))) (sym t) named)
-
 -- nothing is gone over
 pub gone_nowhere : (found : List Declaration) (tokens : List Token) → GoneOver found found tokens tokens
 gone_nowhere found tokens = record { front = []; whole = refl; accounts = λ over gone. subst (λ z. AreGoneOver found z) (sym (append-nil over)) gone }
@@ -86,10 +76,6 @@ gone_behind found more tokens skipped rest left n s e k h =
 pub all_declared : (found : List Declaration) (tokens : List Token) → AreGoneOver found tokens → AreDeclaredIn found tokens
 all_declared found tokens gone =
     subst (λ z. AreDeclaredIn found z) (append-nil tokens) (subst (λ z. AreDeclaredIn z (tokens ++ [])) (append-nil found) (gone [] [] refl))
-
--- before the first token
-pub none_gone_over : AreGoneOver [] []
-none_gone_over more rest h = h
 
 -- one file more was read
 pub one_file_more : (files : List Read) (i : ℕ) (d file : Read) (found more : List Declaration) → i < length files → file ≡ get_or files i d

@@ -96,8 +96,9 @@ pub struct Declaration<'a> {
     /// The words after these.
     pub words: &'a [Token],
     pub name: &'a str,
-    /// The file that it is in.
+    /// The file that it is in, and its place among the items of all files.
     pub file: &'a Read,
+    pub item: usize,
     /// The line of its name.
     pub line: usize,
     /// Its lifetimes and type parameters.

@@ -62,6 +62,8 @@ pub enum ItemKind {
 /// An item.
 #[derive(Clone, Copy, Drop)]
 pub struct Item<'a> {
+    /// Its place among all items of all files.
+    pub place: usize,
     pub kind: ItemKind,
     pub scope: usize,
     /// How many tokens of its file are left where it begins.
@@ -80,6 +82,8 @@ pub struct Item<'a> {
 pub struct Walk<'a> {
     pub scopes: Vec<Scope<'a>>,
     pub items: Vec<Item<'a>>,
+    /// The next file.
+    file: usize,
     /// The scope that is gone over, and how many tokens are left behind the words of an item, in which there is no other, and
     /// behind the module whose files are in another folder.
     scope: usize,
@@ -118,22 +122,22 @@ fn behind_attributes(tokens: &[Token]) -> &[Token] {
 }
 
 impl<'a> Walk<'a> {
-    /// No files.
-    pub fn new(alloc: Global) -> Walk<'a> {
-        Walk {
+    /// No items yet, and the scopes of so many files, which have no names.
+    pub fn new(alloc: Global, files: usize) -> Walk<'a> {
+        let mut walk = Walk {
             scopes: Vec::new(alloc),
             items: Vec::new(alloc),
+            file: 0,
             scope: 0,
             quiet: 0,
             moved: usize::MAX,
             failed: false,
+        };
+        for place in 0..files {
+            walk.scope = place;
+            walk.add_scope(Kind::File, "", 0);
         }
-    }
-
-    /// Adds the scope of a file after those of others.
-    pub fn add_file(&mut self, name: &'a str) {
-        self.scope = self.scopes.len();
-        self.add_scope(Kind::File, name, 0);
+        walk
     }
 
     /// Adds a scope in this one, which ends there, and gives its place.
@@ -152,9 +156,10 @@ impl<'a> Walk<'a> {
         place
     }
 
-    /// Adds the items of a file, whose scope is at this place.
-    pub fn read_file(&mut self, file: usize, tokens: &'a [Token]) {
-        self.scope = file;
+    /// Adds the items of the next file.
+    pub fn read_file(&mut self, tokens: &'a [Token]) {
+        self.scope = self.file;
+        self.file = self.file.saturating_add(1);
         self.quiet = tokens.len();
         self.moved = usize::MAX;
         let mut rest = tokens;
@@ -172,6 +177,7 @@ impl<'a> Walk<'a> {
         let words = behind_attributes(tokens);
         let (attributes, _) = split_before(tokens, words);
         let mut item = Item {
+            place: self.items.len(),
             kind: ItemKind::Other,
             scope: self.scope,
             left: tokens.len(),

@@ -297,6 +297,7 @@ impl<'a, 'b> Parser<'a, 'b> {
             words: &[],
             name,
             file: self.job.file,
+            item: 0,
             line,
             parameters,
             lengths,

@@ -81,9 +81,10 @@ struct Reading<'a> {
 }
 
 impl<'a> Reading<'a> {
-    /// Keeps a declaration, with its attributes, the words after them, and what is wrong with it.
+    /// Keeps a declaration, with the item that it is, its attributes, the words after them, and what is wrong with it.
     fn keep(
         &mut self,
+        item: &Item<'a>,
         mut declaration: Declaration<'a>,
         attributes: &'a [Token],
         words: &'a [Token],
@@ -93,6 +94,7 @@ impl<'a> Reading<'a> {
         ensures stands { SaysNothing self.new.faults → NoMark words.now
             → Accounts self.old.found.items self.new.found.items (attributes.now ++ words.now) }
     {
+        declaration.item = item.place;
         declaration.attributes = attributes;
         declaration.words = words;
         let Ok(wrong) = wrong.finished() else {
@@ -127,7 +129,7 @@ impl<'a> Reading<'a> {
         let declaration = parser.declaration(attributes);
         let wrong = parser.at.faults;
         refuse_mark(words, IN_WORDS, &mut self.faults);
-        self.keep(declaration, attributes, words, wrong);
+        self.keep(item, declaration, attributes, words, wrong);
         length
     }
 
@@ -149,8 +151,8 @@ impl<'a> Reading<'a> {
         left
     }
 
-    /// Reads the declarations of a file, after those of others.
-    fn add_file(&mut self, job: Job<'a, '_>)
+    /// Reads the declarations of a file, which has these items, after those of others.
+    fn add_file(&mut self, job: Job<'a, '_>, items: &[Item<'a>])
         ensures silent { SaysNothing self.new.faults → SaysNothing self.old.faults }
         ensures accounts { SaysNothing self.new.faults → Accounts self.old.found.items
             self.new.found.items job.entry.file.now.tokens.items }
@@ -161,12 +163,8 @@ impl<'a> Reading<'a> {
         if let Some(name) = renamed_derive(&file.tokens) {
             self.faults.refuse(name.line, name.text.as_str(), RENAMES);
         }
-        let mut walk = Walk::new(job.alloc);
-        walk.add_file("");
-        walk.read_file(0, &file.tokens);
-        self.faults.note(walk.failed);
         let mut rest: &'a [Token] = &file.tokens;
-        for item in &walk.items {
+        for item in items {
             rest = self.read_up_to(job, item, rest);
         }
         refuse_mark(rest, ALMOST, &mut self.faults);
@@ -187,31 +185,47 @@ fn refuse_nothing<'a>(files: &'a [Read], finds_none: bool, faults: &mut Faults<'
     faults.put("nothing is marked: write `// message` in a line of its own before a declaration\n");
 }
 
-/// Returns the marked declarations of files, and what is wrong with others, a line each; or that there are none.
+/// What files declare.
+#[derive(Drop)]
+pub struct AllDeclared<'a> {
+    /// What is marked.
+    pub all: Vec<Declaration<'a>>,
+    /// All items, and the scopes that they are in.
+    pub walk: Walk<'a>,
+    /// What is wrong with others, a line each; or that none is marked.
+    pub faults: String,
+}
+
+/// Returns what files declare.
 ///
 /// If nothing is wrong, each token of the files is in a declaration, or was skipped and is no mark.
 pub fn declarations(
     alloc: Global,
     purpose: Purpose,
     files: &[Read],
-) -> Result<(Vec<Declaration<'_>>, String), AllocError>
-    ensures accounted { IfOk result (λ r. string_bytes r.1 ≡ []
-        → AreDeclaredIn r.0.items (tokens_in files.now)) }
+) -> Result<AllDeclared<'_>, AllocError>
+    ensures accounted { IfOk result (λ r. string_bytes r.faults ≡ []
+        → AreDeclaredIn r.all.items (tokens_in files.now)) }
 {
     let by_hand = implemented_in(alloc, files)?;
+    let mut walk = Walk::new(alloc, files.len());
     let mut reading = Reading {
         found: Vec::new(alloc),
         faults: Faults::new(alloc),
     };
     for file in files {
-        reading.add_file(Job {
+        let before = walk.items.len();
+        walk.read_file(&file.tokens);
+        let job = Job {
             alloc,
             purpose,
             file,
             by_hand: &by_hand,
-        });
+        };
+        reading.add_file(job, walk.items.get(before..).unwrap_or(&[]));
     }
+    reading.faults.note(walk.failed);
     refuse_nothing(files, reading.found.is_empty(), &mut reading.faults);
-    let faults = reading.faults.finished()?;
-    Ok((reading.found, faults))
+    let (all, faults) = (reading.found, reading.faults.finished()?);
+    Ok(AllDeclared { all, walk, faults })
 }

@@ -191,7 +191,7 @@ impl<'a, 'b> Builder<'a, 'b> {
     }
 
     /// Begins the table with all declared types without parameters, and says what is wrong with the files and the other types.
-    pub fn owe_all(&mut self) {
+    fn owe_all(&mut self) {
         let declared = self.declared;
         self.words.faults.put(declared.faults.as_str());
         for (index, it) in declared.all.iter().enumerate() {
@@ -244,15 +244,14 @@ impl<'a, 'b> Builder<'a, 'b> {
         if self.is_refused(index, it) {
             return;
         }
-        let stand = self.names.stand(index);
-        let scope = stand.scope;
+        let (scope, is_second) = self.names.stand(index);
         self.turn_to(Context { scope, own });
         self.words.is_wrong = false;
         self.words.name = it.name;
         self.words.variant = "";
         self.words.field = None;
         self.words.line = it.line;
-        if stand.is_second {
+        if is_second {
             self.wrong(&["the file declares this name twice: leave out what isn't on the wire"]);
         }
         for derive in ["Serialize", "Deserialize"] {
@@ -270,9 +269,13 @@ impl<'a, 'b> Builder<'a, 'b> {
         self.put(place, node, names);
     }
 
-    /// The place of the type that words say which are asked for.
-    pub fn make_asked(&mut self, words: &'a [Token]) -> usize {
-        self.whole(words, self.at, DEEPEST)
+    /// The place of the type that words say which are asked for; without words it begins with all declared types.
+    pub fn begin(&mut self, words: Option<&'a [Token]>) -> usize {
+        if let Some(words) = words {
+            return self.whole(words, self.at, DEEPEST);
+        }
+        self.owe_all();
+        0
     }
 
     /// Makes the types that are still to be made, and those that these need; then it is known what can be read.

@@ -43,7 +43,6 @@ struct Item<'a> {
     name: &'a str,
     what: What<'a>,
     scope: usize,
-    line: usize,
     is_conditional: bool,
 }
 
@@ -62,14 +61,6 @@ struct Import<'a> {
     lead: Lead,
 }
 
-/// Where a declaration is, how many are where it was found, and whether another in its module precedes it by the same name.
-#[derive(Clone, Copy, Default, Drop)]
-pub struct Stand {
-    pub scope: usize,
-    pub count: usize,
-    pub is_second: bool,
-}
-
 /// The names of files. If memory runs out for one, [`failed`](Scopes::failed) says so.
 #[derive(Drop)]
 pub struct Scopes<'a> {
@@ -78,9 +69,8 @@ pub struct Scopes<'a> {
     scopes: Vec<Scope<'a>>,
     items: Vec<Item<'a>>,
     imports: Vec<Import<'a>>,
-    stands: Vec<Stand>,
-    /// The names of marked declarations in their scopes.
-    marked: BTreeMap<(usize, &'a str), ()>,
+    /// Which declarations are marked, by their places among the items of files.
+    marked: BTreeMap<usize, usize>,
     /// All names that are declared, or brought in from what isn't known; and all that a `use` or a module has.
     named: BTreeMap<&'a str, ()>,
     used: BTreeMap<&'a str, ()>,
@@ -104,26 +94,19 @@ fn put<K: Ord + Drop>(names: &mut BTreeMap<K, ()>, name: K) -> bool {
 }
 
 impl<'a> Scopes<'a> {
-    /// The names of files, in which these declarations are marked.
+    /// The names of files that have these items, of which these declarations are marked.
     pub fn new(
         alloc: Global,
         files: &'a [Read],
+        walk: Walk<'a>,
         declared: &[Declaration<'a>],
     ) -> Result<Scopes<'a>, AllocError> {
-        let mut walk = Walk::new(alloc);
-        for read in files {
-            walk.add_file(module_of_file(read.file.as_str()));
-        }
-        for (file, read) in files.iter().enumerate() {
-            walk.read_file(file, &read.tokens);
-        }
         let mut names = Scopes {
             alloc,
             files,
             scopes: walk.scopes,
             items: Vec::new(alloc),
             imports: Vec::new(alloc),
-            stands: Vec::new(alloc),
             marked: BTreeMap::new(alloc),
             named: BTreeMap::new(alloc),
             used: BTreeMap::new(alloc),
@@ -136,6 +119,9 @@ impl<'a> Scopes<'a> {
             endpoints: Vec::new(alloc),
             failed: walk.failed,
         };
+        for (index, it) in declared.iter().enumerate() {
+            names.failed = names.marked.insert(it.item, index).is_err() || names.failed;
+        }
         names.find_modules();
         names.read_items(&walk.items, false);
         names.find_leads();
@@ -143,18 +129,17 @@ impl<'a> Scopes<'a> {
         names.read_items(&walk.items, true);
         names.find_leads();
         names.find_derives();
-        let mut from = 0;
-        for (index, it) in declared.iter().enumerate() {
-            from = names.mark(index, it, from);
-        }
         if names.failed {
             return Err(AllocError);
         }
         Ok(names)
     }
 
-    /// Notes the names of modules in others.
+    /// Names the modules that files are, and notes the names of modules in others.
     fn find_modules(&mut self) {
+        for (it, read) in self.scopes.iter_mut().zip(self.files) {
+            it.name = module_of_file(read.file.as_str());
+        }
         for it in &self.scopes {
             self.failed = put(&mut self.used, it.name) || self.failed;
             self.failed = put(&mut self.members, (it.outer, it.name)) || self.failed;
@@ -181,39 +166,16 @@ impl<'a> Scopes<'a> {
         self.name_of_file(self.scope(scope).file)
     }
 
-    /// Notes which item a marked declaration is, from a place on, and where it is. Gives the item's place, where the next may begin.
-    fn mark(&mut self, index: usize, it: &Declaration<'a>, from: usize) -> usize {
-        let mut stand = Stand::default();
-        let mut first = from;
-        for place in from..self.items.len() {
-            let Some(item) = self.items.get(place).copied() else {
-                break;
-            };
-            let is_near = item.line == it.line;
-            if stand.count > 0 && !is_near {
-                break;
-            }
-            let is_it = is_near
-                && item.name == it.name
-                && matches!(item.what, What::Unmarked)
-                && self.file_of(item.scope) == it.file.file.as_str();
-            if is_it && let Some(item) = self.items.get_mut(place) {
-                first = if stand.count == 0 { place } else { first };
-                stand.scope = item.scope;
-                stand.count = stand.count.saturating_add(1);
-                item.what = What::Marked(index);
-            }
-        }
-        let before = self.marked.insert((stand.scope, it.name), ());
-        stand.is_second = matches!(before, Ok(Some(())));
-        self.failed = before.is_err() || self.failed;
-        self.failed = self.stands.push(stand).is_err() || self.failed;
-        first
-    }
-
-    /// Where a marked declaration is.
-    pub fn stand(&self, index: usize) -> Stand {
-        self.stands.get(index).copied().unwrap_or_default()
+    /// The scope of a marked declaration, and whether another in it precedes it by the same name.
+    pub fn stand(&self, index: usize) -> (usize, bool) {
+        let mut items = self.items.iter();
+        let own = items.find(|it| matches!(it.what, What::Marked(own) if own == index));
+        own.map_or((0, false), |own| {
+            let is_second = self.items.iter().any(|it| it.scope == own.scope
+                && it.name == own.name
+                && matches!(it.what, What::Marked(other) if other < index));
+            (own.scope, is_second)
+        })
     }
 
     /// Adds a scope for words that are in no file, which sees what the files declare.

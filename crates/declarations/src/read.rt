@@ -7,7 +7,7 @@ use crate::builder::Builder;
 use crate::names::Scopes;
 use declaration_parser::declaration::Declaration;
 use declaration_parser::parser::Purpose;
-use declaration_parser::reading::declarations;
+use declaration_parser::reading::{AllDeclared, declarations};
 use declaration_parser::tokens::{Read, tokens_of};
 use std::alloc::{AllocError, Global};
 use std::slice;
@@ -60,8 +60,8 @@ pub struct Declared<'a> {
 
 impl<'a> Declared<'a> {
     fn new(alloc: Global, files: &'a [Read]) -> Result<Declared<'a>, AllocError> {
-        let (all, faults) = declarations(alloc, Purpose::Schemas, files)?;
-        let mut names = Scopes::new(alloc, files, &all)?;
+        let AllDeclared { all, walk, faults } = declarations(alloc, Purpose::Schemas, files)?;
+        let mut names = Scopes::new(alloc, files, walk, &all)?;
         let asked = names.add_outside();
         Ok(Declared {
             all,
@@ -79,6 +79,23 @@ fn tokens_in(alloc: Global, sources: &[Source]) -> Result<Vec<Read>, AllocError>
         files.push(read)?;
     }
     Ok(files)
+}
+
+/// The table of a type by its words, and its place there; without words of all declared types without parameters.
+fn table_of(
+    alloc: Global,
+    sources: &[Source],
+    words: Option<&str>,
+) -> Result<(CheckedSources, usize), Error>
+    ensures named { IfOk result (λ r. NamesItsNodes r.0.schema) }
+    ensures declared { IfOk result (λ r. HasItsTypes r.0.schema) }
+{
+    let files = tokens_in(alloc, sources)?;
+    let asked = tokens_of(alloc, "", words.unwrap_or(""))?;
+    let declared = Declared::new(alloc, &files)?;
+    let mut builder = Builder::new(alloc, &declared);
+    let place = builder.begin(words.map(|_| asked.tokens.as_slice()));
+    Ok((builder.finished()?, place))
 }
 
 /// Returns one table of the marked declarations of a text: those after a line `// message`, or with `Serialize` or
@@ -132,12 +149,8 @@ pub fn read_type(alloc: Global, sources: &[Source], words: &str) -> Result<(Sche
     ensures named { IfOk result (λ r. NamesItsNodes r.0) }
     ensures within { IfOk result (λ r. r.1 < length r.0.nodes.items) }
 {
-    let files = tokens_in(alloc, sources)?;
-    let read = tokens_of(alloc, "", words)?;
-    let declared = Declared::new(alloc, &files)?;
-    let mut builder = Builder::new(alloc, &declared);
-    let place = builder.make_asked(&read.tokens);
-    let schema = unless_wrong(builder.finished()?)?;
+    let (made, place) = table_of(alloc, sources, Some(words))?;
+    let schema = unless_wrong(made)?;
     if place >= schema.nodes.len() {
         return Err(Error::OutOfMemory);
     }
@@ -157,9 +170,6 @@ pub fn check_sources(alloc: Global, sources: &[Source]) -> Result<CheckedSources
     if sources.is_empty() {
         return Err(Error::Wrong(String::from_str(alloc, "no file of declarations is named\n")?));
     }
-    let files = tokens_in(alloc, sources)?;
-    let declared = Declared::new(alloc, &files)?;
-    let mut builder = Builder::new(alloc, &declared);
-    builder.owe_all();
-    builder.finished()
+    let (made, _) = table_of(alloc, sources, None)?;
+    Ok(made)
 }

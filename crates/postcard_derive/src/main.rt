@@ -26,7 +26,7 @@ use crate::refusals::refused;
 use crate::scope::Origins;
 use crate::text::Text;
 use declaration_parser::parser::Purpose;
-use declaration_parser::reading::declarations;
+use declaration_parser::reading::{AllDeclared, declarations};
 use declaration_parser::tokens::tokens_of;
 use help::answer;
 use std::alloc::{AllocError, Global};
@@ -53,7 +53,7 @@ fn run(rt: &HostRuntime, path: &str, with_schemas: bool) -> Result<u8, RunError>
     let file = tokens_of(alloc, "", text.as_str())?;
     let files = slice::from_ref(&file);
     let scope = Origins::of(alloc, &file.tokens)?;
-    let (all, faults) = declarations(alloc, Purpose::Implementations, files)?;
+    let AllDeclared { all, faults, .. } = declarations(alloc, Purpose::Implementations, files)?;
     let uses = uses_of(alloc, &scope, &all)?;
     let refused = refused(alloc, &scope, &uses, &all)?;
     if !faults.is_empty() || !refused.is_empty() {

@@ -1,6 +1,6 @@
 //! What the items of files declare, and what macros seem to.
 use super::{Import, Item, Kind, Scopes, What, put};
-use declaration_parser::attributes::{behind_first, first_word, front, line_at, name_at, up_to};
+use declaration_parser::attributes::{behind_first, first_word, front, name_at, up_to};
 use declaration_parser::items::{self, ItemKind};
 use declaration_parser::tokens::{Token, Word, is_among, is_lifetime};
 
@@ -39,7 +39,10 @@ impl<'a> Scopes<'a> {
         let import = Import::of(item.scope, item.is_public, item.has("cfg"));
         let kind = self.scope(item.scope).kind;
         let what = match item.kind {
-            ItemKind::Type => What::Unmarked,
+            ItemKind::Type => match self.marked.get(&item.place) {
+                Some(index) => What::Marked(*index),
+                None => What::Unmarked,
+            },
             ItemKind::Alias => alias_of(item.words),
             ItemKind::Static => What::RefusedConstant(
                 "` is a `static`, whose value isn't read: make it a `const`",
@@ -69,7 +72,6 @@ impl<'a> Scopes<'a> {
                 name,
                 what,
                 scope: import.scope,
-                line: line_at(words),
                 is_conditional: import.is_conditional,
             };
             self.failed = self.items.push(item).is_err() || self.failed;

@@ -86,7 +86,6 @@ impl<'a> Scopes<'a> {
         ensures { IsAnswerOf item.now result }
     {
         match item.what {
-            What::Marked(index) if self.stand(index).count != 1 => Found::Wrong(UNMARKED),
             What::Unmarked => Found::Wrong(UNMARKED),
             What::Refused(why) | What::RefusedConstant(why) => Found::Wrong(why),
             what => Found::In(what, item.scope),

@@ -9,5 +9,5 @@ loop-file-preserved c silent =
 
 pub returns : goal.returns
 returns c = record {
-  accounted = λ e. every_file c.args.files.now c.loop-file.file-index c.loop-file.reading.found.items (omega arith) (c.loop-file.invariant (c.refuse_nothing.ensures (c.in_ok-faults.ensures e)));
+  accounted = λ e. every_file c.args.files.now c.loop-file.file-index c.loop-file.reading.found.items (omega arith) (c.loop-file.invariant (c.note.ensures.silent (c.refuse_nothing.ensures (c.in_ok-faults.ensures e))));
 }
