@@ -1,5 +1,5 @@
 -- Going over tokens, a declaration or a skipped stretch at a time.
-use Rattle.std.specs.Prelude.{ℕ, ◌+◌, ◌<◌, ◌≤◌, length, take, drop, get_or, ◌||◌, ◌≡◌, false, List, [], ◌∷◌, ◌++◌, refl, flat_map, string_bytes}
+use Rattle.std.specs.Prelude.{ℕ, ◌+◌, ◌<◌, ◌≤◌, length, take, drop, get_or, ◌||◌, ◌≡◌, List, [], ◌∷◌, ◌++◌, refl, string_bytes}
 use Rattle.std.proofs.Common.{sym, ◌∙◌, ap, subst, append_assoc, append-nil}
 use Rattle.std.proofs.lemmas.Grind.{flat_map-append}
 use Rattle.std.proofs.lemmas.List.{take-append-drop, take_all, take_more}
@@ -8,7 +8,7 @@ use Rattle.declaration_parser.specs.declared.tokens.Read.{Read}
 use Rattle.declaration_parser.specs.declared.declaration.Declaration.{Declaration}
 use Rattle.declaration_parser.specs.declared.tokens.Token.{Token}
 use Rattle.declaration_parser.specs.Marked.{NoMark, is_marking, marks_some}
-use Rattle.declaration_parser.specs.Standing.{StandsFirst, AreDeclaredIn, AreGoneOver, Accounts, GoneOver, tokens_in}
+use Rattle.declaration_parser.specs.Standing.{AreDeclaredIn, AreGoneOver, Accounts, GoneOver, tokens_in}
 
 -- two stretches without marks have none together
 pub no_mark-append : (a b : List Token) → NoMark a → NoMark b → NoMark (a ++ b)
