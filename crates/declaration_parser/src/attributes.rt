@@ -41,7 +41,7 @@ pub fn behind_first(tokens: &[Token]) -> &[Token] {
 
 /// What follows the first, or the group that it opens.
 pub fn behind(tokens: &[Token]) -> &[Token] {
-    group(tokens).map_or(behind_first(tokens), |it| it.1)
+    group(tokens).unwrap_or((tokens, behind_first(tokens))).1
 }
 
 /// The content of the group that the first token opens, and what follows it; nothing if it opens none that is closed.
@@ -126,7 +126,7 @@ pub struct ConditionedAttribute<'a> {
     pub condition: &'a [Token],
 }
 
-/// Goes over attributes, of which those in a `cfg_attr` are by themselves. What has no words is none.
+/// Goes over attributes and marks, of which those in a `cfg_attr` are by themselves. What has no words is none.
 #[derive(Clone, Copy, Drop)]
 pub struct AttributeWalk<'a> {
     rest: &'a [Token],
@@ -158,8 +158,8 @@ impl<'a> Iterator for AttributeWalk<'a> {
         let mut words: &'a [Token] = &[];
         let mut condition = self.condition;
         if self.parts.is_empty() {
-            // what is no attribute is a comment that marks
-            (words, self.rest) = attribute(self.rest).unwrap_or((&[], behind_first(self.rest)));
+            let comment = self.rest.split_at(self.rest.len().min(1));
+            (words, self.rest) = attribute(self.rest).unwrap_or(comment);
             condition = &[];
             if first_word(words) == "cfg_attr" {
                 (self.condition, self.parts) = first_part(held(words));

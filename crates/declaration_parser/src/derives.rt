@@ -37,9 +37,9 @@ pub fn is_derived(words: &[Token], name: &str) -> bool {
         if is_derive && token.text.as_str() == name {
             return true;
         }
-        is_derive = match token.text.as_str() {
-            "derive" => true,
-            ")" | "]" | "}" => false,
+        is_derive = match token.word {
+            Word::Derive => true,
+            Word::Close => false,
             _ => is_derive,
         };
     }
@@ -57,9 +57,9 @@ pub fn renamed_derive(tokens: &[Token]) -> Option<&Token> {
             }
             [own, by, name]
                 if matches!(by.word, Word::As)
-                    && !matches!(name.word, Word::Serialize | Word::Deserialize)
+                    && !matches!(name.word, Word::OfSerde)
                     && (has_own(own.text.as_str())
-                        || (!is_other && matches!(own.word, Word::Serialize | Word::Deserialize)))
+                        || (!is_other && matches!(own.word, Word::OfSerde)))
                     && is_derived(tokens, name.text.as_str()) => return Some(name),
             _ => {}
         }

@@ -96,6 +96,14 @@ impl<'a> Faults<'a> {
         self.whole.is_empty()
     }
 
+    /// The lines. The others note whether there was memory for them.
+    pub fn apart_from(self, others: &mut Faults<'_>) -> String
+        ensures { SaysNothing others.new → SaysNothing others.old }
+    {
+        others.note(self.failed);
+        self.whole
+    }
+
     /// The lines, if there was memory for them.
     pub fn finished(self) -> Result<String, AllocError>
         ensures { IfOk result (λ s. string_bytes s ≡ [] → SaysNothing self.entry) }

@@ -1,8 +1,8 @@
 //! What precedes a declaration: attributes, and comments that mark.
-use crate::attributes::{AttributeWalk, first_part, first_word, held, same_words};
+use crate::attributes::{AttributeWalk, first_part, first_word, front, held, line_at, same_words};
 use crate::declaration::Marks;
 use crate::derives::derive_of;
-use crate::tokens::{Token, Word, is_among};
+use crate::tokens::{Token, Word};
 
 /// What marks add up to.
 #[derive(Clone, Copy, Default, Drop)]
@@ -48,15 +48,15 @@ impl<'a> Marking<'a> {
                 Some(first) if !same_words(first, condition) => self.has_others = true,
                 _ => self.condition = Some(condition),
             }
-            if !matches!(name.word, Word::Serialize | Word::Deserialize) {
+            if !matches!(name.word, Word::OfSerde) {
                 self.other = Some(name);
             }
         }
     }
 
     /// Adds what a comment marks, all if it has no words.
-    fn add_comment(&mut self, comment: &'a Token) {
-        let parts = comment.text.as_str().split_once(':');
+    fn add_comment(&mut self, comment: &'a [Token]) {
+        let parts = first_word(comment).split_once(':');
         let (_, words) = parts.unwrap_or(("", "Serialize, Deserialize"));
         for word in words.split(',') {
             let word = word.trim();
@@ -66,7 +66,7 @@ impl<'a> Marking<'a> {
                 self.sure.add(is_written);
                 self.is_derived = false;
             } else if self.wrong.is_none() {
-                self.wrong = Some((comment.line, word));
+                self.wrong = Some((line_at(comment), word));
             }
         }
     }
@@ -77,17 +77,13 @@ impl<'a> Marking<'a> {
             is_derived: true,
             ..Marking::default()
         };
-        for token in attributes {
-            if matches!(token.word, Word::Mark) {
-                marking.add_comment(token);
-            }
-        }
         for it in AttributeWalk::of(attributes) {
-            // more conditions may make a `cfg`
-            let is_condition = is_among(first_word(it.words), &["cfg", "cfg_attr"]);
-            marking.is_conditional = marking.is_conditional || is_condition;
-            if first_word(it.words) == "derive" {
-                marking.add_derived(held(it.words), it.condition);
+            match front(it.words) {
+                Word::Mark => marking.add_comment(it.words),
+                // more conditions may make a `cfg`
+                Word::Condition => marking.is_conditional = true,
+                Word::Derive => marking.add_derived(held(it.words), it.condition),
+                _ => {}
             }
         }
         if marking.condition.is_some() {

@@ -3,7 +3,7 @@ use crate::attributes::{
     AttributeWalk, attribute, behind, behind_first, first_word, front, group, name_at, passed_over,
     split_before, type_up_to, up_to,
 };
-use crate::tokens::{Token, Word, is_among, is_name};
+use crate::tokens::{Token, Word, is_among, is_listed, is_name};
 use std::alloc::Global;
 
 /// What ends the words of an item before its body.
@@ -213,8 +213,7 @@ impl<'a> Walk<'a> {
         {
             item.kind = match word {
                 "macro_rules" => ItemKind::Rules,
-                "#" => ItemKind::Hidden,
-                _ if is_quiet => ItemKind::Hidden,
+                _ if is_quiet || word == "#" => ItemKind::Hidden,
                 _ => ItemKind::Call,
             };
             (item.words, _) = split_before(words, rest);
@@ -224,37 +223,39 @@ impl<'a> Walk<'a> {
         if is_quiet {
             return behind_first(words);
         }
-        item.is_public = word == "pub";
+        item.is_public = matches!(front(words), Word::Public);
         self.read_item(item, behind_public(words))
     }
 
     /// Reads what an item begins with, and gives what follows: at its name.
     fn read_item(&mut self, it: &mut Item<'a>, words: &'a [Token]) -> &'a [Token] {
         let rest = behind_first(words);
-        let after = behind_first(rest);
         let named = name_at(rest).is_some();
-        match first_word(words) {
-            "mod" if named => return self.read_module(it, rest),
-            "fn" if named => self.read_body(Kind::Body, rest),
-            "impl" | "trait" => self.read_body(Kind::Impl, rest),
-            "{" => self.read_body(Kind::Body, words),
-            "struct" | "enum" | "union" if named => self.take(it, ItemKind::Type, rest),
-            "type" if named => self.take(it, ItemKind::Alias, rest),
-            "const" if named => self.take(it, ItemKind::Constant, rest),
-            "static" if first_word(rest) == "mut" => self.take(it, ItemKind::Static, after),
-            "static" if named => self.take(it, ItemKind::Static, rest),
-            "use" if first_word(rest) != "<" => self.take(it, ItemKind::Import, rest),
-            "extern" if first_word(rest) == "crate" => self.take(it, ItemKind::Crate, after),
+        let kind = match front(words) {
+            Word::Module if named => return self.read_module(it, rest),
+            Word::Function if named => return self.read_body(Kind::Body, words),
+            Word::Brace => return self.read_body(Kind::Body, words),
+            Word::Implementation => return self.read_body(Kind::Impl, words),
+            Word::Struct | Word::Enum | Word::Union if named => ItemKind::Type,
+            Word::Alias if named => ItemKind::Alias,
+            Word::Constant if named => ItemKind::Constant,
+            Word::Static if named => ItemKind::Static,
+            Word::Import if !matches!(front(rest), Word::Less) => ItemKind::Import,
+            Word::External if matches!(front(rest), Word::Leading) => ItemKind::Crate,
             // Attributes may follow a `pub` that begins none of these.
-            _ if it.is_public => return words,
-            _ => {}
-        }
+            _ => return if it.is_public { words } else { rest },
+        };
+        self.take(it, kind, rest);
         rest
     }
 
     /// Takes the words of an item from its name on, up to a type's body or a semicolon. What the value of a constant or a static
     /// holds may declare types for itself.
     fn take(&mut self, item: &mut Item<'a>, kind: ItemKind, words: &'a [Token]) {
+        let words = match (kind, front(words)) {
+            (ItemKind::Static | ItemKind::Crate, Word::Leading) => behind_first(words),
+            _ => words,
+        };
         let has_value = matches!(kind, ItemKind::Constant | ItemKind::Static);
         if has_value && !matches!(front(behind_first(words)), Word::Colon) {
             return;
@@ -270,13 +271,15 @@ impl<'a> Walk<'a> {
         }
     }
 
-    /// Reads a function, or what belongs to a type, up to its body or a semicolon. Lengths in braces may precede these.
-    fn read_body(&mut self, kind: Kind, words: &'a [Token]) {
+    /// Reads a function, or what belongs to a type, up to its body or a semicolon, and gives what follows its first word. Lengths
+    /// in braces may precede these.
+    fn read_body(&mut self, kind: Kind, words: &'a [Token]) -> &'a [Token] {
         let (_, body) = type_up_to(words, BODY);
         self.quiet = behind_first(body).len();
         if let Some((_, after)) = group(body) {
             self.scope = self.add_scope(kind, "", after.len());
         }
+        behind_first(words)
     }
 
     /// Reads a module, at its name, and gives what is in it or follows it.
@@ -305,14 +308,12 @@ impl<'a> Walk<'a> {
 
 /// What follows `pub`, with what it is limited to. A type in parentheses may follow it too, as in `pub (crate::Id)`.
 pub fn behind_public(tokens: &[Token]) -> &[Token] {
-    if first_word(tokens) != "pub" {
-        return tokens;
-    }
     let rest = behind_first(tokens);
-    match (front(rest), group(rest)) {
-        (Word::Paren, Some(([only], behind)))
-            if is_among(only.text.as_str(), &["crate", "super", "self"]) => behind,
-        (Word::Paren, Some((inside, behind))) if first_word(inside) == "in" => behind,
-        _ => rest,
+    match (front(tokens), front(rest), group(rest)) {
+        (Word::Public, Word::Paren, Some(([only], behind)))
+            if is_listed(only.text.as_str(), "crate super self") => behind,
+        (Word::Public, Word::Paren, Some((inside, behind))) if first_word(inside) == "in" => behind,
+        (Word::Public, _, _) => rest,
+        _ => tokens,
     }
 }

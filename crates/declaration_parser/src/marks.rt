@@ -9,20 +9,15 @@ pub fn is_mark(line: &str) -> bool
     line.as_bytes() == b"// message".as_slice() || line.as_bytes().starts_with(b"// message:")
 }
 
-/// The way in which a comment says that the field after it is sent, as `// with = "postcard::fixint::le"` does.
-pub fn way_of(comment: &str) -> Option<&str> {
-    let way = comment.strip_prefix("// with = ")?;
-    let (_, text) = way.split_once('"')?;
-    match text.split_once('"') {
-        Some((_, "")) if way.starts_with('"') => Some(way),
-        _ => None,
+/// What a comment says of how the field after it is sent: `=` and the way, as `// with = "postcard::fixint::le"` does; nothing and
+/// all its words, if it is only almost such a comment.
+pub fn way_of(comment: &str) -> Option<(&str, &str)> {
+    let way = comment.strip_prefix("// with = ").unwrap_or("");
+    if way.starts_with('"') && way.ends_with('"') && way.split('"').count() == 3 {
+        return Some(("=", way));
     }
-}
-
-/// The words of a comment that is almost one that says how a field is sent.
-pub fn almost_way(comment: &str) -> Option<&str> {
     let words = comment.trim_start_matches('/').trim_start();
     let behind_with = words.strip_prefix("with").unwrap_or("").trim_start();
     let names_way = words.contains("fixint::le") || words.contains("fixint::be");
-    (names_way || behind_with.starts_with('=')).then_some(words)
+    (names_way || behind_with.starts_with('=')).then_some(("", words))
 }

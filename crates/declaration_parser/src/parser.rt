@@ -136,7 +136,7 @@ impl<'a, 'b> Parser<'a, 'b> {
             of,
             layout: said.layout,
         };
-        if is_left_out { None } else { Some(field) }
+        (!is_left_out).then_some(field)
     }
 
     /// Turns to what is in the group at the start, and gives what follows that.
@@ -159,15 +159,18 @@ impl<'a, 'b> Parser<'a, 'b> {
 
     /// Takes fields in braces, in parentheses, or none.
     fn fields(&mut self) -> Fields<'a> {
-        let mut items = Vec::new(self.job.alloc);
-        let mut count: usize = 0;
         let form = match front(self.at.rest) {
             Word::Brace => Form::Named,
             Word::Paren => Form::Tuple,
             _ => Form::Unit,
         };
+        let mut fields = Fields {
+            form,
+            items: Vec::new(self.job.alloc),
+            count: 0,
+        };
         if matches!(form, Form::Unit) {
-            return Fields { form, items, count };
+            return fields;
         }
         let behind = self.enter();
         for place in 0..self.at.rest.len() {
@@ -175,13 +178,13 @@ impl<'a, 'b> Parser<'a, 'b> {
                 break;
             }
             if let Some(item) = self.item(place, matches!(form, Form::Named)) {
-                self.at.keep(&mut items, item);
+                self.at.keep(&mut fields.items, item);
             }
-            count = place.saturating_add(1);
+            fields.count = place.saturating_add(1);
             self.go_on();
         }
         self.at.turn_to(behind);
-        Fields { form, items, count }
+        fields
     }
 
     /// Takes the variants of an enum, which has one at least.
@@ -210,12 +213,10 @@ impl<'a, 'b> Parser<'a, 'b> {
         variants
     }
 
-    /// Takes the lifetimes and type parameters, and says which are lengths.
-    fn parameters(&mut self) -> (Vec<&'a str>, Vec<&'a str>) {
-        let mut parameters = Vec::new(self.job.alloc);
-        let mut lengths = Vec::new(self.job.alloc);
+    /// Takes the lifetimes and type parameters, and adds them to these, and those that are lengths to the others.
+    fn parameters(&mut self, parameters: &mut Vec<&'a str>, lengths: &mut Vec<&'a str>) {
         if !self.at.take("<") {
-            return (parameters, lengths);
+            return;
         }
         for _ in 0..self.at.rest.len() {
             if self.at.peek() == ">" {
@@ -229,16 +230,15 @@ impl<'a, 'b> Parser<'a, 'b> {
                 self.name_of(false)
             };
             (_, self.at.rest) = type_up_to(self.at.rest, &[",", ">"]);
-            self.at.keep(&mut parameters, name);
+            self.at.keep(parameters, name);
             if is_length {
-                self.at.keep(&mut lengths, name);
+                self.at.keep(lengths, name);
             }
             if !self.at.take(",") {
                 break;
             }
         }
         self.at.owe(">");
-        (parameters, lengths)
     }
 
     /// Takes `where` and gives its bounds, in which there may be lengths in braces, up to the fields or a semicolon.
@@ -251,21 +251,21 @@ impl<'a, 'b> Parser<'a, 'b> {
         bounds
     }
 
-    /// Takes what is declared, and gives the bounds that follow fields in parentheses.
-    fn body(&mut self, kind: Word) -> (Body<'a>, &'a [Token]) {
+    /// Takes what is declared, and the bounds that follow fields in parentheses.
+    fn body(&mut self, kind: Word, bounds: &mut &'a [Token]) -> Body<'a> {
         if matches!(kind, Word::Enum) {
-            return (Body::Enum(self.variants()), &[]);
+            return Body::Enum(self.variants());
         }
         let fields = self.fields();
-        if matches!(fields.form, Form::Named) {
-            return (Body::Struct(fields), &[]);
-        }
         if matches!(fields.form, Form::Tuple) && fields.count == 1 && fields.items.is_empty() {
             self.at.refuse("skip", ONLY_FIELD);
         }
-        let bounds = self.bounds();
-        self.at.owe(";");
-        (Body::Struct(fields), bounds)
+        if !matches!(fields.form, Form::Named) {
+            let after = self.bounds();
+            *bounds = if bounds.is_empty() { after } else { *bounds };
+            self.at.owe(";");
+        }
+        Body::Struct(fields)
     }
 
     /// Takes a declaration, after its attributes.
@@ -279,17 +279,18 @@ impl<'a, 'b> Parser<'a, 'b> {
         let line = self.at.line;
         // What is wrong hides what follows it, and those who use the type need its parameters.
         let (generics, _) = type_up_to(self.at.rest, &["where", "(", "{", ";"]);
-        let (parameters, lengths) = self.parameters();
+        let mut parameters = Vec::new(self.job.alloc);
+        let mut lengths = Vec::new(self.job.alloc);
+        self.parameters(&mut parameters, &mut lengths);
         self.at.line = line;
         let said = self.said(attributes);
         if let Some(derive) = self.marking.other {
             self.at.line = derive.line;
             self.at.refuse(derive.text.as_str(), OTHER_DERIVE);
-            self.at.line = line;
         }
         self.check_by_hand();
-        let before = self.bounds();
-        let (body, after) = self.body(kind);
+        let mut bounds = self.bounds();
+        let body = self.body(kind, &mut bounds);
         self.at.line = line;
         self.check_transparent(said, &body);
         Declaration {
@@ -302,7 +303,7 @@ impl<'a, 'b> Parser<'a, 'b> {
             parameters,
             lengths,
             generics,
-            bounds: if before.is_empty() { after } else { before },
+            bounds,
             body,
             marks: self.marking.marks,
             sure: self.marking.sure,

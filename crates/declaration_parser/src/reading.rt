@@ -97,10 +97,7 @@ impl<'a> Reading<'a> {
         declaration.item = item.place;
         declaration.attributes = attributes;
         declaration.words = words;
-        let Ok(wrong) = wrong.finished() else {
-            return self.faults.note(true);
-        };
-        declaration.wrong = wrong;
+        declaration.wrong = wrong.apart_from(&mut self.faults);
         self.faults.note(self.found.push(declaration).is_err());
     }
 
@@ -207,12 +204,12 @@ pub fn declarations(
     ensures accounted { IfOk result (λ r. string_bytes r.faults ≡ []
         → AreDeclaredIn r.all.items (tokens_in files.now)) }
 {
-    let by_hand = implemented_in(alloc, files)?;
     let mut walk = Walk::new(alloc, files.len());
     let mut reading = Reading {
         found: Vec::new(alloc),
         faults: Faults::new(alloc),
     };
+    let by_hand = implemented_in(alloc, files, &mut reading.faults);
     for file in files {
         let before = walk.items.len();
         walk.read_file(&file.tokens);

@@ -1,6 +1,6 @@
 //! The words and marks of a file.
 use crate::faults::Faults;
-use crate::marks::{almost_way, is_mark, way_of};
+use crate::marks::{is_mark, way_of};
 use crate::words::{ALMOST, ALMOST_WAY};
 use std::alloc::{AllocError, Global};
 use unicode_ident::is_xid_continue;
@@ -10,53 +10,73 @@ use unicode_normalization::to_nfc;
 const INSIDE: &str = "` stands in a comment or a text, where it marks nothing: take it out\n";
 
 /// The words that are compared, and which they are.
-const WORDS: &[(&str, Word)] = &[
-    ("$", Word::Dollar),
-    ("*", Word::Star),
-    (",", Word::Comma),
-    (":", Word::Colon),
-    ("<", Word::Less),
-    ("(", Word::Paren),
-    ("[", Word::Bracket),
-    ("{", Word::Brace),
-    (")", Word::Close),
-    ("]", Word::Close),
-    ("}", Word::Close),
-    ("as", Word::As),
-    ("const", Word::Constant),
-    ("enum", Word::Enum),
-    ("mod", Word::Module),
-    ("struct", Word::Struct),
-    ("type", Word::Alias),
-    ("union", Word::Union),
-    ("use", Word::Import),
-    ("Deserialize", Word::Deserialize),
-    ("Serialize", Word::Serialize),
+const WORDS: &[(&[&str], Word)] = &[
+    (&["!"], Word::Not),
+    (&["$"], Word::Dollar),
+    (&["*"], Word::Star),
+    (&[","], Word::Comma),
+    (&[":"], Word::Colon),
+    (&["<"], Word::Less),
+    (&["="], Word::Equals),
+    (&["("], Word::Paren),
+    (&["["], Word::Bracket),
+    (&["{"], Word::Brace),
+    (&[")", "]", "}"], Word::Close),
+    (&["as"], Word::As),
+    (&["cfg", "cfg_attr"], Word::Condition),
+    (&["const"], Word::Constant),
+    (&["crate", "mut"], Word::Leading),
+    (&["derive"], Word::Derive),
+    (&["enum"], Word::Enum),
+    (&["extern"], Word::External),
+    (&["fn"], Word::Function),
+    (&["impl", "trait"], Word::Implementation),
+    (&["mod"], Word::Module),
+    (&["pub"], Word::Public),
+    (&["serde"], Word::Serde),
+    (&["static"], Word::Static),
+    (&["struct"], Word::Struct),
+    (&["type"], Word::Alias),
+    (&["union"], Word::Union),
+    (&["use"], Word::Import),
+    (&["with"], Word::With),
+    (&["Deserialize", "Serialize"], Word::OfSerde),
 ];
 
-/// Which of the words that are compared a token is. `Close` closes what one of the three before it opens, and `Mark` is a comment
-/// that marks a declaration.
+/// Which of the words that are compared a token is. `Close` closes what one of the three before it opens, `Leading` may stand before
+/// a name, and `Mark` is a comment that marks a declaration.
 #[derive(Clone, Copy, PartialEq, Eq, Drop)]
 pub enum Word {
+    Not,
     Dollar,
     Star,
     Comma,
     Colon,
     Less,
+    Equals,
     Paren,
     Bracket,
     Brace,
     Close,
     As,
+    Condition,
     Constant,
+    Derive,
     Enum,
+    External,
+    Function,
+    Implementation,
+    Leading,
     Module,
+    Public,
+    Serde,
+    Static,
     Struct,
     Alias,
     Union,
     Import,
-    Deserialize,
-    Serialize,
+    With,
+    OfSerde,
     Mark,
     Other,
 }
@@ -136,6 +156,16 @@ pub fn tokens_of<'a>(alloc: Global, file: &'a str, text: &'a str) -> Result<Read
     })
 }
 
+/// Which of the words that are compared this is.
+fn word_of(text: &str) -> Word {
+    for (known, word) in WORDS {
+        if is_among(text, known) {
+            return *word;
+        }
+    }
+    Word::Other
+}
+
 /// Whether a character can be in a word or a number.
 pub fn is_of_word(character: char) -> bool {
     is_xid_continue(character)
@@ -158,9 +188,13 @@ pub fn is_listed(word: &str, list: &str) -> bool {
 
 /// What the first of these rows that lists a word says of it. A row is a list, a colon, and what is said.
 pub fn row_of(rows: &[&'static str], word: &str) -> Option<&'static str> {
-    let mut rows = rows.iter().filter_map(|row| row.split_once(": "));
-    let (_, said) = rows.find(|row| is_listed(word, row.0))?;
-    Some(said)
+    for row in rows {
+        let (words, said) = row.split_once(": ")?;
+        if is_listed(word, words) {
+            return Some(said);
+        }
+    }
+    None
 }
 
 /// The first letter of a word.
@@ -273,23 +307,21 @@ impl<'a> Tokens<'a> {
         let whole = self.rest.lines().next().unwrap_or("");
         self.rest = behind(self.rest, whole.len());
         let comment = whole.trim_end();
-        let way = way_of(comment);
-        if self.is_behind_code {
-            if is_mark(comment) {
-                self.faults.refuse(self.line, comment, ALMOST);
-            } else if way.is_some() {
+        match (self.is_behind_code, is_mark(comment), way_of(comment)) {
+            (false, true, _) => self.put(comment, Word::Mark, self.line),
+            (true, true, _) => self.faults.refuse(self.line, comment, ALMOST),
+            (false, _, Some((equals, words))) => {
+                for word in ["#", "[", "with", equals, words, "]"] {
+                    if !word.is_empty() {
+                        self.put(word, word_of(word), self.line);
+                    }
+                }
+            }
+            (true, _, Some((equals, _))) if !equals.is_empty() => {
                 self.faults.refuse(self.line, comment, ALMOST_WAY);
                 self.faults.put("\n");
             }
-        } else if is_mark(comment) {
-            self.put(comment, self.line);
-        } else if let Some(words) = almost_way(comment) {
-            let equals = if way.is_some() { "=" } else { "" };
-            for word in ["#", "[", "with", equals, way.unwrap_or(words), "]"] {
-                if !word.is_empty() {
-                    self.put(word, self.line);
-                }
-            }
+            _ => {}
         }
     }
 
@@ -316,7 +348,7 @@ impl<'a> Tokens<'a> {
         self.take_to(begun);
         let text = self.take_closed(behind_text(begun, wanted));
         self.take_to(behind(self.rest, wanted.unwrap_or(0)));
-        self.put(text, line);
+        self.put(text, Word::Other, line);
     }
 
     /// Reads a token up to this rest. To Rust its letters are one name however their dots and accents are written.
@@ -324,10 +356,10 @@ impl<'a> Tokens<'a> {
         let line = self.line;
         let text = self.take_to(rest);
         if text.is_ascii() {
-            return self.put(text, line);
+            return self.put(text, word_of(text), line);
         }
         match to_nfc(self.alloc, text) {
-            Ok(name) => self.put(name.as_str(), line),
+            Ok(name) => self.put(name.as_str(), Word::Other, line),
             Err(_) => self.faults.note(true),
         }
     }
@@ -346,26 +378,21 @@ impl<'a> Tokens<'a> {
     fn take_to(&mut self, rest: &'a str) -> &'a str {
         let text = front_of(self.rest, rest);
         self.rest = rest;
-        for (place, line) in text.split('\n').enumerate() {
-            if place > 0 {
-                self.line = self.line.saturating_add(1);
-                self.is_behind_code = false;
-            }
+        for line in text.split_inclusive('\n') {
             if is_mark(line.trim()) {
                 self.faults.refuse(self.line, line.trim(), INSIDE);
+            }
+            if line.ends_with('\n') {
+                self.line = self.line.saturating_add(1);
+                self.is_behind_code = false;
             }
         }
         text
     }
 
     /// Appends a token. One that ends a group says in the one that begins it how many tokens there are.
-    fn put(&mut self, text: &str, line: usize) {
+    fn put(&mut self, text: &str, word: Word, line: usize) {
         self.is_behind_code = true;
-        let word = match WORDS.iter().find(|row| row.0 == text) {
-            Some(row) => row.1,
-            None if is_mark(text) => Word::Mark,
-            None => Word::Other,
-        };
         let place = self.found.len();
         if matches!(word, Word::Paren | Word::Bracket | Word::Brace) {
             self.faults.note(self.open.push(place).is_err());

@@ -1,9 +1,10 @@
 //! Types that are written by hand where they aren't derived: on one side, or under a condition.
 use super::Parser;
-use crate::attributes::{behind_first, group, plain_name, type_up_to, up_to};
+use crate::attributes::{behind_first, held, plain_name, type_up_to, up_to};
+use crate::faults::Faults;
 use crate::tokens::{Read, Token, Word, is_among};
 use crate::words::BY_HAND;
-use std::alloc::{AllocError, Global};
+use std::alloc::Global;
 use std::collections::BTreeMap;
 
 /// The name of one of serde's traits, all its names, and those of the types of files that implement it by hand.
@@ -19,78 +20,77 @@ pub struct Implemented<'a> {
 impl<'a> Implemented<'a> {
     /// The types of these files that implement a trait of this name. An item may name what another one declares, so all are gone
     /// over while more is found.
-    fn of(alloc: Global, name: &'a str, files: &'a [Read]) -> Result<Self, AllocError> {
+    fn of(alloc: Global, name: &'a str, files: &'a [Read], faults: &mut Faults<'_>) -> Self {
         let mut found = Implemented {
             name,
-            names: vec![in alloc; name]?,
+            names: Vec::new(alloc),
             types: BTreeMap::new(alloc),
             is_by_macros: false,
         };
+        faults.note(found.names.push(name).is_err());
+        let mut count: usize = 1;
         for _ in 0..u32::MAX {
-            let before = (found.names.len(), found.types.len(), found.is_by_macros);
             for file in files {
-                for place in 0..file.tokens.len() {
-                    let (_, rest) = file.tokens.split_at(place);
-                    found.add_front(rest)?;
-                }
+                found.add_file(&file.tokens, faults);
             }
-            if before == (found.names.len(), found.types.len(), found.is_by_macros) {
+            let before = count;
+            let names = found.names.len().saturating_add(found.types.len());
+            count = names.saturating_add(usize::from(found.is_by_macros));
+            if before == count {
                 break;
             }
         }
-        Ok(found)
+        found
     }
 
-    /// Adds what the words at the start say: another name of the trait or of a type that was found, what a macro is handed, or an
-    /// `impl`.
-    fn add_front(&mut self, tokens: &'a [Token]) -> Result<(), AllocError> {
-        match tokens {
-            [own, by, name, ..] if matches!(by.word, Word::As) => {
-                if self.has(name) {
-                    self.types.insert(plain_name(own.text.as_str()), ())?;
-                }
-                if own.text.as_str() == self.name && !is_among(name.text.as_str(), &self.names) {
-                    self.names.push(name.text.as_str())?;
-                }
-                Ok(())
+    /// Adds the types that are found at each word of a file.
+    fn add_file(&mut self, tokens: &'a [Token], faults: &mut Faults<'_>) {
+        for place in 0..tokens.len() {
+            let (_, rest) = tokens.split_at(place);
+            for token in self.found_at(rest, faults) {
+                let name = plain_name(token.text.as_str());
+                faults.note(self.types.insert(name, ()).is_err());
             }
-            [name, mark, rest @ ..] if mark.text.as_str() == "!" => {
-                // one of another crate may implement it by its name
-                self.is_by_macros = self.is_by_macros || name.text.as_str().contains("serialize");
-                match group(rest) {
-                    Some((inside, _)) if self.is_by_macros => self.add(inside),
-                    _ => Ok(()),
-                }
-            }
-            [of, name, rest @ ..] if matches!(of.word, Word::Alias) && self.has(name) => {
-                let (words, _) = up_to(rest, &[";"]);
-                self.add(words)
-            }
-            [of, ..] if is_among(of.text.as_str(), &["impl", "trait"]) => self.add_impl(tokens),
-            _ => Ok(()),
         }
     }
 
-    /// Adds the names that the `impl` at the start is for, if it is of this trait: of a type, all of the path that leads to it.
-    fn add_impl(&mut self, tokens: &'a [Token]) -> Result<(), AllocError> {
+    /// The names of types that the words at the start say: another name of one that was found, what a macro is handed, or what an
+    /// `impl` is for. Another name of the trait is added.
+    fn found_at(&mut self, tokens: &'a [Token], faults: &mut Faults<'_>) -> &'a [Token] {
+        match tokens {
+            [own, by, name, ..] if matches!(by.word, Word::As) => {
+                let other = name.text.as_str();
+                if own.text.as_str() == self.name && !is_among(other, &self.names) {
+                    faults.note(self.names.push(other).is_err());
+                }
+                tokens.split_at(usize::from(self.has(name))).0
+            }
+            [name, mark, ..] if matches!(mark.word, Word::Not) => {
+                // one of another crate may implement it by its name
+                self.is_by_macros = self.is_by_macros || name.text.as_str().contains("serialize");
+                let call = if self.is_by_macros { tokens } else { &[] };
+                held(behind_first(call))
+            }
+            [of, name, rest @ ..] if of.word == Word::Alias && self.has(name) => up_to(
+                rest,
+                &[";"],
+            ).0,
+            [of, ..] if matches!(of.word, Word::Implementation) => self.implementing(tokens),
+            _ => &[],
+        }
+    }
+
+    /// The names that the `impl` at the start is for, if it is of this trait: of a type, all of the path that leads to it.
+    fn implementing(&mut self, tokens: &'a [Token]) -> &'a [Token] {
         let (head, _) = type_up_to(tokens, &["{", ";"]);
         let (head, of) = type_up_to(head, &["for"]);
         let (_, named) = type_up_to(head, &self.names);
         if named.is_empty() {
-            return Ok(());
+            return &[];
         }
         let is_by_macro = of.iter().any(|token| token.word == Word::Dollar);
         self.is_by_macros = self.is_by_macros || is_by_macro;
-        let (path, _) = up_to(behind_first(of), &["<", "where"]);
-        self.add(path)
-    }
-
-    /// Adds the names of types among these tokens.
-    fn add(&mut self, tokens: &'a [Token]) -> Result<(), AllocError> {
-        for token in tokens {
-            self.types.insert(plain_name(token.text.as_str()), ())?;
-        }
-        Ok(())
+        up_to(behind_first(of), &["<", "where"]).0
     }
 
     /// Whether a type of this name was found.
@@ -100,12 +100,17 @@ impl<'a> Implemented<'a> {
 }
 
 /// What files implement by hand of `Serialize`, and of `Deserialize`, so that each file is read once for all types.
-pub fn implemented_in(alloc: Global, files: &[Read]) -> Result<Vec<Implemented<'_>>, AllocError> {
+pub fn implemented_in<'a>(
+    alloc: Global,
+    files: &'a [Read],
+    faults: &mut Faults<'_>,
+) -> Vec<Implemented<'a>> {
     let mut all = Vec::new(alloc);
     for name in ["Serialize", "Deserialize"] {
-        all.push(Implemented::of(alloc, name, files)?)?;
+        let found = Implemented::of(alloc, name, files, faults);
+        faults.note(all.push(found).is_err());
     }
-    Ok(all)
+    all
 }
 
 impl Parser<'_, '_> {

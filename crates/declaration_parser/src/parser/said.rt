@@ -40,12 +40,16 @@ fn is_phantom(field: &Field<'_>) -> bool {
     last_word(path) == "PhantomData"
 }
 
-/// Whether an attribute of a declaration is of the language or a tool's, or the helper of a derive among these. A helper is one
-/// word, and a path is a macro's, which may rewrite the declaration.
-fn is_harmless(words: &[Token], all: &[Token]) -> bool {
+/// Whether an attribute is none of serde's, and if it is of a declaration, of the language or a tool's, or the helper of a derive
+/// among these. A helper is one word, and a path is a macro's, which may rewrite the declaration.
+fn is_harmless(words: &[Token], all: &[Token], is_item: bool) -> bool {
     let name = first_word(words);
+    if name.starts_with("serde") {
+        return last_word(words) == "serde_as" && is_listed(name, "serde_as serde_with");
+    }
     let is_path = matches!(front(behind_first(words)), Word::Colon);
-    is_listed(name, TOOLS) || (!is_path && (is_listed(name, OF_ITEMS) || is_derived(all, name)))
+    let is_helper = !is_path && (is_listed(name, OF_ITEMS) || is_derived(all, name));
+    !is_item || name.is_empty() || is_helper || is_listed(name, TOOLS)
 }
 
 impl<'a> Parser<'a, '_> {
@@ -57,16 +61,14 @@ impl<'a> Parser<'a, '_> {
         for it in AttributeWalk::of(attributes) {
             let name = first_word(it.words);
             self.at.line = line_at(it.words);
-            match name {
-                "" => {}
-                "serde" => self.read_serde(it, &mut said),
-                "serde_as" | "serde_with" if last_word(it.words) == "serde_as" => {}
+            match front(it.words) {
+                Word::Mark => {}
+                Word::Serde => self.read_serde(it, &mut said),
                 // that of a derive has parentheses
-                "with" if held(it.words).is_empty() => self.read_way(it.words, &mut said),
-                "cfg" | "cfg_attr" if !is_item => self.at.refuse(name, ON_SOME_DEVICES),
-                _ if name.starts_with("serde") || (is_item && !is_harmless(it.words, attributes)) =>
-                    self.at.refuse(name, UNKNOWN),
-                _ => {}
+                Word::With if held(it.words).is_empty() => self.read_way(it.words, &mut said),
+                Word::Condition if !is_item => self.at.refuse(name, ON_SOME_DEVICES),
+                _ if is_harmless(it.words, attributes, is_item) => {}
+                _ => self.at.refuse(name, UNKNOWN),
             }
         }
         self.at.line = line;
@@ -81,7 +83,7 @@ impl<'a> Parser<'a, '_> {
             }
             [_, _] => {}
             _ if self.marking.is_derived => self.at.refuse("with", WAY_OF_SERDE),
-            _ => self.read_changing("with", words, said),
+            _ => self.read_changing(words, said),
         }
     }
 
@@ -91,11 +93,11 @@ impl<'a> Parser<'a, '_> {
         for _ in 0..rest.len() {
             let (part, behind) = first_part(rest);
             // An attribute in an attribute is what a comment was.
-            let part = attribute(part).map_or(part, |it| it.1);
+            let (_, part) = attribute(part).unwrap_or((&[], part));
             let name = first_word(part);
             said.is_transparent = said.is_transparent || name == "transparent";
             if !name.is_empty() && !is_listed(name, NO_BYTES) {
-                self.read_changing(name, part, said);
+                self.read_changing(part, said);
                 if is_other {
                     self.at.refuse(name, OTHER_CONDITION);
                 }
@@ -105,28 +107,26 @@ impl<'a> Parser<'a, '_> {
     }
 
     /// Reads a word of serde's that may change the bytes, with what follows it.
-    fn read_changing(&mut self, name: &str, words: &'a [Token], said: &mut Said) {
+    fn read_changing(&mut self, words: &'a [Token], said: &mut Said) {
+        let name = first_word(words);
         let value = match words {
-            [_, equals, value] if equals.text.as_str() == "=" => value.text.as_str(),
+            [_, equals, value] if matches!(equals.word, Word::Equals) => value.text.as_str(),
             _ => "",
         };
         let is_field = self.at.field.is_some();
-        if let ("with", true, Some(layout)) = (name, is_field, layout_of(value)) {
-            said.layout = layout;
-            return;
-        }
-        match (name, value) {
-            ("skip", "") if is_field => {
-                said.not_written = true;
-                said.not_read = true;
+        let not_written = is_listed(name, "skip skip_serializing");
+        let not_read = is_listed(name, "skip skip_deserializing");
+        let is_needless = name == "skip_serializing_if" && !self.marking.marks.written;
+        match (front(words), layout_of(value)) {
+            (Word::With, Some(layout)) if is_field => said.layout = layout,
+            _ if is_field && value.is_empty() && (not_written || not_read) => {
+                said.not_written = said.not_written || not_written;
+                said.not_read = said.not_read || not_read;
             }
-            ("skip_serializing", "") if is_field => said.not_written = true,
-            ("skip_deserializing", "") if is_field => said.not_read = true,
-            ("skip_serializing_if", _) if is_field && !self.marking.marks.written => {}
-            _ => {
-                let why = row_of(OF_SERDE, name).unwrap_or(UNKNOWN);
-                self.at.refuse(name, why);
-            }
+            _ if is_field && is_needless => {}
+            _ => self
+                .at
+                .refuse(name, row_of(OF_SERDE, name).unwrap_or(UNKNOWN)),
         }
     }
 
@@ -143,16 +143,13 @@ impl<'a> Parser<'a, '_> {
     /// Whether a field is left out, on all sides that there are.
     pub(super) fn is_left_out(&mut self, said: Said) -> bool {
         let marks = self.marking.marks;
-        if (!marks.written || !said.not_written) && (!marks.read || !said.not_read) {
-            return false;
+        let is_left_out = (marks.written && said.not_written) || (marks.read && said.not_read);
+        match (is_left_out, said.not_written, said.not_read) {
+            (false, ..) => {}
+            (_, false, _) if marks.written => self.at.refuse("skip_deserializing", ONE_SIDE),
+            (_, _, false) if marks.read => self.at.refuse("skip_serializing", ONE_SIDE),
+            _ => self.refuse_in_code(true, "skip", LEFT_OUT),
         }
-        if marks.written && !said.not_written {
-            self.at.refuse("skip_deserializing", ONE_SIDE);
-        }
-        if marks.read && !said.not_read {
-            self.at.refuse("skip_serializing", ONE_SIDE);
-        }
-        self.refuse_in_code(true, "skip", LEFT_OUT);
-        true
+        is_left_out
     }
 }
