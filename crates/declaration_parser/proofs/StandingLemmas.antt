@@ -39,6 +39,19 @@ pub accounts_skipped : (found : List Declaration) (tokens : List Token) → NoMa
 accounts_skipped found tokens h over gone more rest k =
     subst (λ z. AreDeclaredIn (found ++ more) z) (sym (append_assoc over tokens rest)) (gone more (tokens ++ rest) (skip_front tokens more rest h k))
 
+-- a declaration is added
+pub accounts_declared : (found more : List Declaration) (d : Declaration) (attributes words : List Token) → more ≡ found ++ (d ∷ [])
+    → d.attributes.now ≡ attributes → d.words.now ≡ words → NoMark words → Accounts found more (attributes ++ words)
+accounts_declared found more d attributes words e f g h over gone later rest k =
+    let whole : (over ++ (d.attributes.now ++ d.words.now)) ++ rest ≡ over ++ (d.attributes.now ++ (d.words.now ++ rest)) =
+    append_assoc over (d.attributes.now ++ d.words.now) rest ∙ ap (λ z. over ++ z) (append_assoc d.attributes.now d.words.now rest) in
+    let unmarked : NoMark d.words.now = subst (λ z. NoMark z) (sym g) h in
+    let stand = gone (d ∷ later) (d.attributes.now ++ (d.words.now ++ rest)) (declare_front d later rest unmarked k) in
+    let all = subst (λ z. AreDeclaredIn z ((over ++ (d.attributes.now ++ d.words.now)) ++ rest)) (sym (append_assoc found (d ∷ []) later))
+    (subst (λ z. AreDeclaredIn (found ++ (d ∷ later)) z) (sym whole) stand) in
+    let named = subst (λ z. AreDeclaredIn (z ++ later) ((over ++ (d.attributes.now ++ d.words.now)) ++ rest)) (sym e) all in
+    subst (λ z. AreDeclaredIn (more ++ later) ((over ++ (z ++ words)) ++ rest)) f (subst (λ z. AreDeclaredIn (more ++ later) ((over ++ (d.attributes.now ++ z)) ++ rest)) g named)
+
 -- nothing is gone over
 pub gone_nowhere : (found : List Declaration) (tokens : List Token) → GoneOver found found tokens tokens
 gone_nowhere found tokens = record { front = []; whole = refl; accounts = λ over gone. subst (λ z. AreGoneOver found z) (sym (append-nil over)) gone }

@@ -37,11 +37,8 @@ pub fn is_derived(words: &[Token], name: &str) -> bool {
         if is_derive && token.text.as_str() == name {
             return true;
         }
-        is_derive = match token.word {
-            Word::Derive => true,
-            Word::Close => false,
-            _ => is_derive,
-        };
+        let goes_on = is_derive && !matches!(token.word, Word::Close);
+        is_derive = goes_on || matches!(token.word, Word::Derive);
     }
     false
 }
@@ -52,9 +49,7 @@ pub fn renamed_derive(tokens: &[Token]) -> Option<&Token> {
     let mut is_other = false;
     for words in tokens.windows(3) {
         match words {
-            [of, first, _] if matches!(of.word, Word::Import) => {
-                is_other = has_own(first.text.as_str());
-            }
+            [of, it, _] if matches!(of.word, Word::Import) => is_other = has_own(it.text.as_str()),
             [own, by, name]
                 if matches!(by.word, Word::As)
                     && !matches!(name.word, Word::OfSerde)

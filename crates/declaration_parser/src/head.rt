@@ -1,5 +1,5 @@
 //! What precedes a declaration: attributes, and comments that mark.
-use crate::attributes::{AttributeWalk, first_part, first_word, front, held, line_at, same_words};
+use crate::attributes::{AttributeWalk, first_part, front, held, same_words};
 use crate::declaration::Marks;
 use crate::derives::derive_of;
 use crate::tokens::{Token, Word};
@@ -55,8 +55,8 @@ impl<'a> Marking<'a> {
     }
 
     /// Adds what a comment marks, all if it has no words.
-    fn add_comment(&mut self, comment: &'a [Token]) {
-        let parts = first_word(comment).split_once(':');
+    fn add_comment(&mut self, comment: &'a Token) {
+        let parts = comment.text.as_str().split_once(':');
         let (_, words) = parts.unwrap_or(("", "Serialize, Deserialize"));
         for word in words.split(',') {
             let word = word.trim();
@@ -66,7 +66,7 @@ impl<'a> Marking<'a> {
                 self.sure.add(is_written);
                 self.is_derived = false;
             } else if self.wrong.is_none() {
-                self.wrong = Some((line_at(comment), word));
+                self.wrong = Some((comment.line, word));
             }
         }
     }
@@ -78,11 +78,11 @@ impl<'a> Marking<'a> {
             ..Marking::default()
         };
         for it in AttributeWalk::of(attributes) {
-            match front(it.words) {
-                Word::Mark => marking.add_comment(it.words),
+            match (front(it.words), it.words) {
+                (Word::Mark, [mark]) => marking.add_comment(mark),
                 // more conditions may make a `cfg`
-                Word::Condition => marking.is_conditional = true,
-                Word::Derive => marking.add_derived(held(it.words), it.condition),
+                (Word::Condition, _) => marking.is_conditional = true,
+                (Word::Derive, _) => marking.add_derived(held(it.words), it.condition),
                 _ => {}
             }
         }

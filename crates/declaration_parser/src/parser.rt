@@ -243,11 +243,10 @@ impl<'a, 'b> Parser<'a, 'b> {
 
     /// Takes `where` and gives its bounds, in which there may be lengths in braces, up to the fields or a semicolon.
     fn bounds(&mut self) -> &'a [Token] {
-        if !self.at.take("where") {
-            return &[];
+        let mut bounds: &'a [Token] = &[];
+        if self.at.take("where") {
+            (bounds, self.at.rest) = type_up_to(self.at.rest, &["{", ";"]);
         }
-        let (bounds, rest) = type_up_to(self.at.rest, &["{", ";"]);
-        self.at.rest = rest;
         bounds
     }
 

@@ -287,16 +287,12 @@ impl<'a> Tokens<'a> {
     fn read_next(&mut self) {
         let text = self.rest;
         match first_letter(text) {
-            Some(first) if first.is_whitespace() => {
-                self.take_to(behind_one(text));
-            }
+            Some(first) if first.is_whitespace() => _ = self.take_to(behind_one(text)),
             Some('"') => self.read_text(text, None),
             Some('\'') => self.read_token(behind_quoted(text)),
             Some(first) if is_of_word(first) => self.read_word(),
             _ if text.starts_with("//") => self.read_comment(),
-            _ if text.starts_with("/*") => {
-                self.take_closed(behind_comment(text));
-            }
+            _ if text.starts_with("/*") => _ = self.take_closed(behind_comment(text)),
             _ => self.read_token(behind_one(text)),
         }
     }

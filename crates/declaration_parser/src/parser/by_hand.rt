@@ -1,6 +1,8 @@
 //! Types that are written by hand where they aren't derived: on one side, or under a condition.
 use super::Parser;
-use crate::attributes::{behind_first, held, plain_name, type_up_to, up_to};
+use crate::attributes::{
+    behind_first, first_word, front, held, plain_name, split_before, type_up_to, up_to,
+};
 use crate::faults::Faults;
 use crate::tokens::{Read, Token, Word, is_among};
 use crate::words::BY_HAND;
@@ -57,25 +59,23 @@ impl<'a> Implemented<'a> {
     /// The names of types that the words at the start say: another name of one that was found, what a macro is handed, or what an
     /// `impl` is for. Another name of the trait is added.
     fn found_at(&mut self, tokens: &'a [Token], faults: &mut Faults<'_>) -> &'a [Token] {
-        match tokens {
-            [own, by, name, ..] if matches!(by.word, Word::As) => {
-                let other = name.text.as_str();
-                if own.text.as_str() == self.name && !is_among(other, &self.names) {
-                    faults.note(self.names.push(other).is_err());
+        let rest = behind_first(tokens);
+        match (front(tokens), front(rest)) {
+            (_, Word::As) => {
+                let name = first_word(behind_first(rest));
+                if first_word(tokens) == self.name && !is_among(name, &self.names) {
+                    faults.note(self.names.push(name).is_err());
                 }
-                tokens.split_at(usize::from(self.has(name))).0
+                let other = if self.has(name) { rest } else { tokens };
+                split_before(tokens, other).0
             }
-            [name, mark, ..] if matches!(mark.word, Word::Not) => {
+            (_, Word::Not) => {
                 // one of another crate may implement it by its name
-                self.is_by_macros = self.is_by_macros || name.text.as_str().contains("serialize");
-                let call = if self.is_by_macros { tokens } else { &[] };
-                held(behind_first(call))
+                self.is_by_macros = self.is_by_macros || first_word(tokens).contains("serialize");
+                if self.is_by_macros { held(rest) } else { &[] }
             }
-            [of, name, rest @ ..] if of.word == Word::Alias && self.has(name) => up_to(
-                rest,
-                &[";"],
-            ).0,
-            [of, ..] if matches!(of.word, Word::Implementation) => self.implementing(tokens),
+            (Word::Alias, _) if self.has(first_word(rest)) => up_to(rest, &[";"]).0,
+            (Word::Implementation, _) => self.implementing(tokens),
             _ => &[],
         }
     }
@@ -94,8 +94,8 @@ impl<'a> Implemented<'a> {
     }
 
     /// Whether a type of this name was found.
-    fn has(&self, token: &Token) -> bool {
-        self.types.contains_key(plain_name(token.text.as_str()))
+    fn has(&self, name: &str) -> bool {
+        self.types.contains_key(plain_name(name))
     }
 }
 

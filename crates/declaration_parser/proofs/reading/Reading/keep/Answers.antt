@@ -1,0 +1,25 @@
+use Rattle.std.proofs.Common.{refl, rules}
+use Rattle.declaration_parser.specs.declared.declaration.Declaration.{Declaration}
+use Rattle.declaration_parser.proofs.StandingLemmas.{accounts_declared}
+use Rattle.declaration_parser.proofs.reading.Reading.keep.Goals as goal
+
+pub returns-clause-stands : goal.returns-clause-stands
+returns-clause-stands c silent unmarked =
+    let it = c.args.declaration in
+    let kept : Declaration = record {
+      attributes = c.args.attributes;
+      words = c.args.words;
+      name = it.name;
+      file = it.file;
+      item = c.args.item.now.place;
+      line = it.line;
+      parameters = it.parameters;
+      lengths = it.lengths;
+      generics = it.generics;
+      bounds = it.bounds;
+      body = it.body;
+      marks = it.marks;
+      sure = it.sure;
+      wrong = c.apart_from.result;
+    } in
+    accounts_declared c.args.self.now.found.items _ kept _ _ (search rules) refl refl unmarked
