@@ -271,8 +271,7 @@ impl<'a> Walk<'a> {
         }
     }
 
-    /// Reads a function, or what belongs to a type, up to its body or a semicolon, and gives what follows its first word. Lengths
-    /// in braces may precede these.
+    /// Reads what has a body or a semicolon, which lengths in braces may precede, and gives what follows its first word.
     fn read_body(&mut self, kind: Kind, words: &'a [Token]) -> &'a [Token] {
         let (_, body) = type_up_to(words, BODY);
         self.quiet = behind_first(body).len();

@@ -47,15 +47,10 @@ pub struct Parser<'a, 'b> {
 
 impl<'a, 'b> Parser<'a, 'b> {
     /// A parser of the words of a declaration, after the attributes and comments that mark it so.
-    pub fn new(
-        job: Job<'a, 'b>,
-        marking: Marking<'a>,
-        attributes: &[Token],
-        words: &'a [Token],
-    ) -> Parser<'a, 'b> {
-        let mut at = Cursor::new(job.alloc, words);
+    pub fn new(job: Job<'a, 'b>, marking: Marking<'a>, head: &[Token], rest: &'a [Token]) -> Self {
+        let mut at = Cursor::new(job.alloc, rest);
         at.faults.turn_to(job.file.file.as_str());
-        at.line = attributes.last().map_or(0, |token| token.line);
+        at.line = head.last().map_or(0, |token| token.line);
         if let Some((line, word)) = marking.wrong {
             at.line = line;
             at.refuse(word, NO_MARK);
@@ -273,8 +268,7 @@ impl<'a, 'b> Parser<'a, 'b> {
         let kind = front(self.at.rest);
         let is_one = matches!(kind, Word::Struct | Word::Enum);
         self.at.want(is_one, "a struct or an enum is wanted");
-        let name = self.name_of(false);
-        self.at.name = name;
+        self.at.name = self.name_of(false);
         let line = self.at.line;
         // What is wrong hides what follows it, and those who use the type need its parameters.
         let (generics, _) = type_up_to(self.at.rest, &["where", "(", "{", ";"]);
@@ -295,7 +289,7 @@ impl<'a, 'b> Parser<'a, 'b> {
         Declaration {
             attributes,
             words: &[],
-            name,
+            name: self.at.name,
             file: self.job.file,
             item: 0,
             line,

@@ -11,7 +11,7 @@ use crate::faults::Faults;
 use crate::head::Marking;
 use crate::items::{Item, ItemKind, Walk};
 use crate::marks::is_mark;
-use crate::parser::by_hand::implemented_in;
+use crate::parser::by_hand::Implemented;
 use crate::parser::{Job, Parser, Purpose};
 use crate::tokens::{Read, Token};
 use crate::words::{ALMOST, IN_MACRO, IN_WORDS, RENAMES};
@@ -124,9 +124,8 @@ impl<'a> Reading<'a> {
         let (words, _) = after.split_at(length);
         let mut parser = Parser::new(job, marking, attributes, words);
         let declaration = parser.declaration(attributes);
-        let wrong = parser.at.faults;
         refuse_mark(words, IN_WORDS, &mut self.faults);
-        self.keep(item, declaration, attributes, words, wrong);
+        self.keep(item, declaration, attributes, words, parser.at.faults);
         length
     }
 
@@ -209,7 +208,7 @@ pub fn declarations(
         found: Vec::new(alloc),
         faults: Faults::new(alloc),
     };
-    let by_hand = implemented_in(alloc, files, &mut reading.faults);
+    let by_hand = Implemented::all(alloc, files, &mut reading.faults);
     for file in files {
         let before = walk.items.len();
         walk.read_file(&file.tokens);

@@ -118,10 +118,9 @@ struct Tokens<'a> {
 
 /// A text without a first line that says what runs it. An attribute of the file isn't one.
 fn behind_shebang(text: &str) -> &str {
+    let behind_line = text.trim_start_matches(|c: char| c != '\n');
     match text.strip_prefix("#!") {
-        Some(rest) if !rest.trim_start().starts_with('[') => {
-            rest.trim_start_matches(|c: char| c != '\n')
-        }
+        Some(rest) if !rest.trim_start().starts_with('[') => behind_line,
         _ => text,
     }
 }

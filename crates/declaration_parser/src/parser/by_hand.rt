@@ -1,8 +1,6 @@
 //! Types that are written by hand where they aren't derived: on one side, or under a condition.
 use super::Parser;
-use crate::attributes::{
-    behind_first, first_word, front, held, plain_name, split_before, type_up_to, up_to,
-};
+use crate::attributes::{behind_first, first_word, front, held, plain_name, type_up_to, up_to};
 use crate::faults::Faults;
 use crate::tokens::{Read, Token, Word, is_among};
 use crate::words::BY_HAND;
@@ -20,6 +18,16 @@ pub struct Implemented<'a> {
 }
 
 impl<'a> Implemented<'a> {
+    /// What files implement by hand of `Serialize`, and of `Deserialize`, so that each file is read once for all types.
+    pub fn all(alloc: Global, files: &'a [Read], faults: &mut Faults<'_>) -> Vec<Self> {
+        let mut all = Vec::new(alloc);
+        for name in ["Serialize", "Deserialize"] {
+            let found = Implemented::of(alloc, name, files, faults);
+            faults.note(all.push(found).is_err());
+        }
+        all
+    }
+
     /// The types of these files that implement a trait of this name. An item may name what another one declares, so all are gone
     /// over while more is found.
     fn of(alloc: Global, name: &'a str, files: &'a [Read], faults: &mut Faults<'_>) -> Self {
@@ -66,8 +74,8 @@ impl<'a> Implemented<'a> {
                 if first_word(tokens) == self.name && !is_among(name, &self.names) {
                     faults.note(self.names.push(name).is_err());
                 }
-                let other = if self.has(name) { rest } else { tokens };
-                split_before(tokens, other).0
+                let count = usize::from(self.has(name));
+                tokens.get(..count).unwrap_or(&[])
             }
             (_, Word::Not) => {
                 // one of another crate may implement it by its name
@@ -97,20 +105,6 @@ impl<'a> Implemented<'a> {
     fn has(&self, name: &str) -> bool {
         self.types.contains_key(plain_name(name))
     }
-}
-
-/// What files implement by hand of `Serialize`, and of `Deserialize`, so that each file is read once for all types.
-pub fn implemented_in<'a>(
-    alloc: Global,
-    files: &'a [Read],
-    faults: &mut Faults<'_>,
-) -> Vec<Implemented<'a>> {
-    let mut all = Vec::new(alloc);
-    for name in ["Serialize", "Deserialize"] {
-        let found = Implemented::of(alloc, name, files, faults);
-        faults.note(all.push(found).is_err());
-    }
-    all
 }
 
 impl Parser<'_, '_> {

@@ -34,10 +34,9 @@ fn layout_of(way: &str) -> Option<Layout> {
     }
 }
 
-/// Whether a field is none to a transparent type, as serde sees it: by the name of its type.
-fn is_phantom(field: &Field<'_>) -> bool {
-    let (path, _) = up_to(field.of, &["<"]);
-    last_word(path) == "PhantomData"
+/// Whether a field is one to a transparent type, as serde sees it: by the name of its type.
+fn is_sent(field: &&Field<'_>) -> bool {
+    last_word(up_to(field.of, &["<"]).0) != "PhantomData"
 }
 
 /// Whether an attribute is none of serde's, and if it is of a declaration, of the language or a tool's, or the helper of a derive
@@ -116,6 +115,7 @@ impl<'a> Parser<'a, '_> {
         let is_field = self.at.field.is_some();
         let not_written = is_listed(name, "skip skip_serializing");
         let not_read = is_listed(name, "skip skip_deserializing");
+        let why = row_of(OF_SERDE, name).unwrap_or(UNKNOWN);
         let is_needless = name == "skip_serializing_if" && !self.marking.marks.written;
         match (front(words), layout_of(value)) {
             (Word::With, Some(layout)) if is_field => said.layout = layout,
@@ -124,17 +124,14 @@ impl<'a> Parser<'a, '_> {
                 said.not_read = said.not_read || not_read;
             }
             _ if is_field && is_needless => {}
-            _ => self
-                .at
-                .refuse(name, row_of(OF_SERDE, name).unwrap_or(UNKNOWN)),
+            _ => self.at.refuse(name, why),
         }
     }
 
     /// Refuses a transparent type that has more fields than the one that serde sends.
     pub(super) fn check_transparent(&mut self, said: Said, body: &Body<'_>) {
         if let Body::Struct(fields) = body {
-            let sent = fields.items.iter().filter(|field| !is_phantom(field));
-            if said.is_transparent && sent.count() > 1 {
+            if said.is_transparent && fields.items.iter().filter(is_sent).count() > 1 {
                 self.at.refuse("transparent", TRANSPARENT);
             }
         }
