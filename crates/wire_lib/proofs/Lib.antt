@@ -1,6 +1,8 @@
 pub mod DamageLemmas
 pub mod DrawnLemmas
 pub mod LineLemmas
+pub mod LooksLemmas
+pub mod PrintedLemmas
 pub mod SeenLemmas
 pub mod SentLemmas
 pub mod SizesLemmas

@@ -2,9 +2,11 @@ pub mod Damages
 pub mod Drawn
 pub mod Fronts
 pub mod Kinds
+pub mod Looks
 pub mod Parsed
 pub mod Pictures
 pub mod Printable
+pub mod Printed
 pub mod Rates
 pub mod Raw
 pub mod Received
