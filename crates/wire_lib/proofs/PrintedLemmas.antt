@@ -1,7 +1,8 @@
 -- Tokens of JSON values that are appended one after another.
-use Rattle.std.proofs.Common.{◌≡◌, ℕ, suc, ◌+◌, ◌<◌, ◌≤◌, Bool, true, false, ◌&&◌, Option, Some, String, List, [], ◌∷◌, ◌++◌, flat_map, drop, length, get_or, Result, OnOk, refl, sym, ap, ◌∙◌, subst, append_assoc}
+use Rattle.std.proofs.Common.{◌≡◌, ℕ, suc, ◌+◌, ◌<◌, Bool, true, false, ◌&&◌, Option, Some, String, List, [], ◌∷◌, ◌++◌, flat_map, drop, length, get_or, Result, OnOk, refl, sym, ap, ◌∙◌, subst, append_assoc}
 use Rattle.std.proofs.lemmas.List.{append-nil, drop_more}
-use Rattle.std.proofs.Math.ListN.{drop_of_length-le}
+use Rattle.std.proofs.lemmas.Grind.{flat_map-append}
+use Rattle.std.specs.List.{AllZip}
 use Rattle.json.specs.Token.{Token, begin_object, end_object, begin_array, end_array, key}
 use Rattle.json.specs.Json.{Json, null, string, array, object, no_members, member}
 use Rattle.json.specs.Print.{print}
@@ -16,18 +17,13 @@ use Rattle.schema_table.specs.declared.schema.Schema.{Schema}
 use Rattle.schemas.specs.declared.value.Value.{Value, out-Value}
 use Rattle.schemas.specs.declared.value.Value.TheOpen.{Value-F}
 use Rattle.wire_lib.specs.Looks.{names_at, node_at, is_empty_named, is_map_named, pair_node, first_is_key, key_text}
-use Rattle.wire_lib.specs.Printed.{member_tokens, members_by, first_name, other_names, called, Each, Shows, ShowsArray, ShowsChosen, ShowsHeld, ShowsAll, ShowsList, ShowsMap, ShowsNamed, ShowsNode, ShowsObject, ShowsPair, ShowsParts, ShowsUnder, ShowsVariant, bytes_in, plain_json}
+use Rattle.wire_lib.specs.Printed.{member_tokens, members_by, first_name, other_names, called, Shows, ShowsArray, ShowsChosen, ShowsHeld, ShowsAll, ShowsList, ShowsMap, ShowsNamed, ShowsNode, ShowsObject, ShowsPair, ShowsParts, ShowsUnder, ShowsVariant, bytes_in, plain_json}
 use Rattle.wire_lib.proofs.ToldLemmas.{on_ok_as}
-
--- what each of two lists gives, and what both do
-both_map : {A B : Type 0} (f : A → List B) (xs ys : List A) → flat_map f (xs ++ ys) ≡ flat_map f xs ++ flat_map f ys
-both_map f [] ys = refl
-both_map f (x ∷ xs) ys = ap (λ t. f x ++ t) (both_map f xs ys) ∙ sym (append_assoc (f x) (flat_map f xs) (flat_map f ys))
 
 -- the tokens of what shows the first of some values were appended, and `left` are left
 abbrev pub Shown : {A B : Type 0} → (B → List Token) → (A → B → Type 0) → List Token → List Token → List A → List A → Type 0
 Shown {A} {B} f like old new all left =
-    (done : List B) × (new ≡ old ++ flat_map f done) × ((more : List B) → Each like left more → Each like all (done ++ more))
+    (done : List B) × (new ≡ old ++ flat_map f done) × ((more : List B) → AllZip like left more → AllZip like all (done ++ more))
 
 -- none yet
 pub shown_none : {A B : Type 0} (f : B → List Token) (like : A → B → Type 0) (old : List Token) (all : List A) → Shown f like old old all all
@@ -39,9 +35,9 @@ pub shown_more : {A B : Type 0} (f : B → List Token) (like : A → B → Type 
 shown_more f like old mid new all left xs x e h g = (
   h.0 ++ g.0 ∷ [],
   g.1 ∙ ap (λ t. t ++ f g.0) h.1 ∙ append_assoc old (flat_map f h.0) (f g.0)
-      ∙ ap (λ t. old ++ (flat_map f h.0 ++ t)) (sym (append-nil (f g.0))) ∙ ap (λ t. old ++ t) (sym (both_map f h.0 (g.0 ∷ []))),
+      ∙ ap (λ t. old ++ (flat_map f h.0 ++ t)) (sym (append-nil (f g.0))) ∙ ap (λ t. old ++ t) (sym (flat_map-append f h.0 (g.0 ∷ []))),
   λ more k.
-      subst (λ zs. Each like all zs) (sym (append_assoc h.0 (g.0 ∷ []) more)) (h.2 (g.0 ∷ more) (subst (λ zs. Each like zs (g.0 ∷ more)) (sym e) (g.2, k))),
+      subst (λ zs. AllZip like all zs) (sym (append_assoc h.0 (g.0 ∷ []) more)) (h.2 (g.0 ∷ more) (subst (λ zs. AllZip like zs (g.0 ∷ more)) (sym e) (g.2, k))),
 )
 
 -- what is left from an element on
@@ -49,8 +45,8 @@ pub left_at : {A : Type 0} (xs : List A) (i : ℕ) (x : A) → i < length xs →
 left_at xs i x l e = drop_more xs i x l ∙ ap (λ y. y ∷ drop (i + 1) xs) (sym e)
 
 -- all
-shown_all : {A B : Type 0} (f : B → List Token) (like : A → B → Type 0) (old new : List Token) (all left : List A) (h : Shown f like old new all left) → left ≡ [] → Each like all h.0
-shown_all f like old new all left h e = subst (λ zs. Each like all zs) (append-nil h.0) (h.2 [] (subst (λ zs. Each like zs []) (sym e) tt))
+shown_all : {A B : Type 0} (f : B → List Token) (like : A → B → Type 0) (old new : List Token) (all left : List A) (h : Shown f like old new all left) → left ≡ [] → AllZip like all h.0
+shown_all f like old new all left h e = subst (λ zs. AllZip like all zs) (append-nil h.0) (h.2 [] (subst (λ zs. AllZip like zs []) (sym e) tt))
 
 -- the tokens of elements, up to the bracket
 array_tokens : (js : List Json) → flat_map json_tokens js ++ end_array ∷ [] ≡ items_tokens (items_of js)
@@ -130,10 +126,6 @@ other_kind r kind other old new h f = on_ok_as r (λ e. (e.0, e.1, f e.0 e.2)) h
 -- a text that begins with nothing is the text of what was appended
 pub text_shown : (text before : List ℕ) (old new ts : List Token) → text ≡ before ++ print new → before ≡ [] → old ≡ [] → new ≡ old ++ ts → text ≡ print ts
 text_shown text before old new ts shown nothing none all = shown ∙ ap (λ b. b ++ print new) nothing ∙ ap print (all ∙ ap (λ t. t ++ ts) none)
-
--- none is left from the end on
-pub none_left : {A : Type 0} (xs : List A) (i : ℕ) → length xs ≤ i → drop i xs ≡ []
-none_left xs i l = drop_of_length-le xs l
 
 -- the first of some, with its name, and the others
 pub called_first : {A B : Type 0} (ns more : List (String A)) (xs : List B) (x : B) (ts : List B) → xs ≡ x ∷ ts → more ≡ other_names ns → called ns xs ≡ (first_name ns, x) ∷ called more ts

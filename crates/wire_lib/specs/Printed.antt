@@ -1,7 +1,7 @@
 -- The JSON of values without parts.
 use Rattle.std.specs.Prelude.{◌≡◌, ℕ, zero, suc, List, [], ◌∷◌, length, zip, Bool, true, false, ◌&&◌, Option, Some, None, OnOk, Result, ◌++◌, codes, String, string_bytes, decimal, encode_utf8}
 use Rattle.std.specs.Fmt.{signed_decimal}
-use Rattle.std.specs.List.{slice_get}
+use Rattle.std.specs.List.{AllZip, slice_get}
 use Rattle.hex.specs.Hex.{encode_lower}
 use Rattle.json.specs.Json.{Json, null, boolean, number, string, array, object, Items, no_items, item, Members, no_members, member}
 use Rattle.json.specs.Token.{Token, key}
@@ -106,19 +106,13 @@ abbrev pub members_by : List (List ℕ × Json) → Members
 members_by [] = no_members
 members_by (m ∷ ms) = member m.0 m.1 (members_by ms)
 
--- each is related to the one in its place, and there are as many
-abbrev pub Each : {A B : Type 0} → (A → B → Type 0) → List A → List B → Type 0
-Each like [] [] = Unit {0}
-Each like (x ∷ xs) (y ∷ ys) = like x y × Each like xs ys
-Each like _ _ = ⊥
-
 -- an array, with an element for each of these
 abbrev pub ShowsArray : {A : Type 0} → (A → Json → Type 0) → List A → Json → Type 0
-ShowsArray shows vs j = (js : List Json) × (j ≡ array (items_of js)) × Each shows vs js
+ShowsArray shows vs j = (js : List Json) × (j ≡ array (items_of js)) × AllZip shows vs js
 
 -- an object, with a member for each of these
 abbrev pub ShowsObject : {A : Type 0} → (A → List ℕ × Json → Type 0) → List A → Json → Type 0
-ShowsObject shows vs j = (ms : List (List ℕ × Json)) × (j ≡ object (members_by ms)) × Each shows vs ms
+ShowsObject shows vs j = (ms : List (List ℕ × Json)) × (j ≡ object (members_by ms)) × AllZip shows vs ms
 
 -- an object with one member of this name
 abbrev pub ShowsUnder : List ℕ → (Json → Type 0) → Json → Type 0

@@ -1,4 +1,5 @@
 use Rattle.std.proofs.Common.{rules, arith, refl, ap, [], ◌∷◌, zip, Some, None, ◌∙◌, ◌≡◌, ◌-◌, decimal}
+use Rattle.std.proofs.Math.ListN.{drop_of_length-le}
 use Rattle.std.specs.List.{slice_get}
 use Rattle.hex.specs.Hex.{encode_lower}
 use Rattle.json.specs.Json.{null, number, string}
@@ -9,7 +10,7 @@ use Rattle.schemas.specs.declared.value.Value.{out-Value, the_lemmas}
 use Rattle.schemas.specs.declared.value.Value.TheOpen.{Value-F}
 use Rattle.wire_lib.specs.Looks.{names_at, node_at, key_text, pair_node, variant_named}
 use Rattle.wire_lib.specs.Printed.{Shows, ShowsFirst, ShowsNamed, ShowsPart, ShowsVariant, called, first_name, member_tokens, plain_json, two_values}
-use Rattle.wire_lib.proofs.PrintedLemmas.{shown_more, left_at, none_left, array_done, object_done, under_done, member_of, member_done, one_value, other_kind, called_first, called_none, held_shown, variant_shown, shows_node, shows_deepest, plain_node, parts_named, object_list, digits_shown, chosen_under, chosen_alone}
+use Rattle.wire_lib.proofs.PrintedLemmas.{shown_more, left_at, array_done, object_done, under_done, member_of, member_done, one_value, other_kind, called_first, called_none, held_shown, variant_shown, shows_node, shows_deepest, plain_node, parts_named, object_list, digits_shown, chosen_under, chosen_alone}
 use Rattle.wire_lib.proofs.print.+print.Goals as goal
 
 pub put-returns-then-style-eq0-clause-json : goal.put-returns-then-style-eq0-clause-json
@@ -68,7 +69,7 @@ put_items-loop-item-preserved t c =
 
 pub put_items-returns-clause-json : goal.put_items-returns-clause-json
 put_items-returns-clause-json t c =
-    array_done c.end_array.result _ _ _ _ _ c.args.items.now _ c.in_ok-begin_array.ensures.ok c.loop-item.invariant.0 (none_left c.args.items.now c.loop-item.item-index c.loop-item-test.false) c.end_array.ensures.ok
+    array_done c.end_array.result _ _ _ _ _ c.args.items.now _ c.in_ok-begin_array.ensures.ok c.loop-item.invariant.0 (drop_of_length-le c.args.items.now c.loop-item-test.false) c.end_array.ensures.ok
 
 pub put_pairs-loop-item-preserved : goal.put_pairs-loop-item-preserved
 put_pairs-loop-item-preserved t c =
@@ -76,7 +77,7 @@ put_pairs-loop-item-preserved t c =
 
 pub put_pairs-returns-clause-json : goal.put_pairs-returns-clause-json
 put_pairs-returns-clause-json t c =
-    object_done c.end_object.result _ _ _ _ _ c.args.items.now _ c.in_ok-begin_object.ensures.ok c.loop-item.invariant.0 (none_left c.args.items.now c.loop-item.item-index c.loop-item-test.false) c.end_object.ensures.ok
+    object_done c.end_object.result _ _ _ _ _ c.args.items.now _ c.in_ok-begin_object.ensures.ok c.loop-item.invariant.0 (drop_of_length-le c.args.items.now c.loop-item-test.false) c.end_object.ensures.ok
 
 pub put_under-returns-clause-json : goal.put_under-returns-clause-json
 put_under-returns-clause-json t c =
