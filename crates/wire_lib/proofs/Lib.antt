@@ -2,6 +2,7 @@ pub mod DamageLemmas
 pub mod DrawnLemmas
 pub mod LineLemmas
 pub mod LooksLemmas
+pub mod ParsedLemmas
 pub mod PrintedLemmas
 pub mod SeenLemmas
 pub mod SentLemmas

@@ -1,4 +1,7 @@
 //! Floats by their bits, from JSON numbers and strings, and the strings for those that JSON has no number for.
+ghost use Rattle.std.specs.Prelude.{◌≡◌, IfSome};
+ghost use Rattle.schemas.specs.Integers.{type_of};
+
 use schemas::{Integer, IntegerType};
 use std::alloc::{AllocError, Global};
 use std::fmt::Write;
@@ -141,7 +144,9 @@ fn bits_of_double(text: &str) -> Option<u64> {
 /// Returns the bits of the float nearest to a JSON number, in the width of `of`: `U32` for `f32`, `U64` for `f64`.
 ///
 /// Returns `None` if the nearest float is an infinity, or for another width.
-pub fn float_of_number(of: IntegerType, text: &str) -> Option<Integer> {
+pub fn float_of_number(of: IntegerType, text: &str) -> Option<Integer>
+    ensures { IfSome result (λ i. type_of i ≡ of) }
+{
     match of {
         IntegerType::U32 => Some(Integer::U32(bits_of_number(text)?)),
         IntegerType::U64 => Some(Integer::U64(bits_of_double(text)?)),
@@ -150,7 +155,9 @@ pub fn float_of_number(of: IntegerType, text: &str) -> Option<Integer> {
 }
 
 /// Returns the bits of a float from its string, such as `NaN` or `-Infinity`; `None` if it is no such string.
-pub fn float_of_word(of: IntegerType, word: &str) -> Option<Integer> {
+pub fn float_of_word(of: IntegerType, word: &str) -> Option<Integer>
+    ensures { IfSome result (λ i. type_of i ≡ of) }
+{
     match of {
         IntegerType::U32 => Some(Integer::U32(bits_of_word(word)?)),
         IntegerType::U64 => Some(Integer::U64(bits_of_word_of_double(word)?)),

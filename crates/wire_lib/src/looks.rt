@@ -44,8 +44,8 @@ pub fn only_field(schema: &Schema, place: usize) -> Option<usize>
     }
 }
 
-/// The index of the type inside a newtype.
-fn inside(schema: &Schema, place: usize) -> Option<usize>
+/// Returns the index of the type inside a newtype.
+pub fn inside_newtype(schema: &Schema, place: usize) -> Option<usize>
     ensures { result ≡ inside_of schema.now place }
 {
     if !is_newtype(schema, place) {
@@ -69,7 +69,7 @@ pub fn may_be_null(schema: &Schema, place: usize) -> bool
 {
     let mut at = place;
     for _ in 0..schema.nodes.len() {
-        match inside(schema, at) {
+        match inside_newtype(schema, at) {
             Some(inner) => at = inner,
             None => return is_null(schema, at),
         }
@@ -126,7 +126,7 @@ fn is_key(schema: &Schema, place: usize) -> bool
 {
     let mut at = place;
     for _ in 0..schema.nodes.len() {
-        match inside(schema, at) {
+        match inside_newtype(schema, at) {
             Some(inner) => at = inner,
             None => return is_own_key(schema, at),
         }

@@ -1,10 +1,16 @@
 //! Values from JSON.
-ghost use Rattle.std.specs.Prelude.{IfOk};
-ghost use Rattle.wire_lib.specs.Parsed.{IsOfType};
+ghost use Rattle.std.specs.Prelude.{◌≡◌, ◌≤◌, [], ◌∷◌, IfOk, IfSome, length};
+ghost use Rattle.schema_table.specs.declared.node.Node.TheVariants as kind;
+ghost use Rattle.schemas.specs.declared.value.Value.{Group, List as Listed};
+ghost use Rattle.schemas.specs.Integers.{type_of};
+ghost use Rattle.schemas.specs.Schemas.{EachHas};
+ghost use Rattle.wire_lib.specs.Parsed.{IsGroupOf, IsOfEnum, IsOfLeaf, IsOfNode, IsOfStruct, IsOfType};
 
 use crate::floats::{float_of_number, float_of_word};
-use crate::looks::{PRESENT, has_text_keys, is_byte, is_empty, may_be_null};
-use crate::table::as_read;
+use crate::looks::{
+    PRESENT, has_text_keys, inside_newtype, is_byte, is_empty, may_be_null, names_of, node_of,
+    pair_of,
+};
 use crate::wrong::{ParseError, at_column, inside, inside_element, refusal};
 use json::{Error, Reader, Scratch, Value as Json};
 use schema_table::{Names, Schema};
@@ -20,7 +26,9 @@ const TOO_DEEP: &str = "the value is nested too deeply: `depth=` sets the limit"
 /// The error for an index that the table hasn't.
 const NO_TYPE: &str = "the schema has no such type";
 
-fn boolean(json: &Json<'_>) -> Parsed {
+fn boolean(json: &Json<'_>) -> Parsed
+    ensures { IfOk result (IsOfLeaf kind.Bool) }
+{
     match json {
         Json::Bool(b) => Ok(Value::Bool(*b)),
         _ => Err(refusal("expected true or false")),
@@ -28,7 +36,9 @@ fn boolean(json: &Json<'_>) -> Parsed {
 }
 
 /// A character from a string of one character.
-fn character(json: &Json<'_>) -> Parsed {
+fn character(json: &Json<'_>) -> Parsed
+    ensures { IfOk result (IsOfLeaf kind.Char) }
+{
     match json {
         Json::String(text) => char_of(text),
         _ => Err(refusal("expected a string of one character")),
@@ -36,7 +46,9 @@ fn character(json: &Json<'_>) -> Parsed {
 }
 
 /// The only character of a text.
-fn char_of(text: &str) -> Parsed {
+fn char_of(text: &str) -> Parsed
+    ensures { IfOk result (IsOfLeaf kind.Char) }
+{
     let mut characters = text.chars();
     match (characters.next(), characters.next()) {
         (Some(c), None) => Ok(Value::Char(c)),
@@ -44,15 +56,26 @@ fn char_of(text: &str) -> Parsed {
     }
 }
 
-fn text(alloc: Global, json: &Json<'_>) -> Parsed {
+/// A text.
+fn text_of(alloc: Global, held: &str) -> Parsed
+    ensures { IfOk result (IsOfLeaf kind.Text) }
+{
+    Ok(Value::Text(String::from_str(alloc, held)?))
+}
+
+fn text(alloc: Global, json: &Json<'_>) -> Parsed
+    ensures { IfOk result (IsOfLeaf kind.Text) }
+{
     match json {
-        Json::String(text) => Ok(Value::Text(String::from_str(alloc, text)?)),
+        Json::String(held) => text_of(alloc, held),
         _ => Err(refusal("expected a string")),
     }
 }
 
 /// A text of at most `most` bytes.
-fn text_up_to(alloc: Global, most: u64, held: &str) -> Parsed {
+fn text_up_to(alloc: Global, most: u64, held: &str) -> Parsed
+    ensures { IfOk result (IsOfLeaf (kind.TextUpTo most)) }
+{
     if held.len() as u64 > most {
         return Err(refusal("the string is too long"));
     }
@@ -60,7 +83,9 @@ fn text_up_to(alloc: Global, most: u64, held: &str) -> Parsed {
 }
 
 /// The same from JSON.
-fn short_text(alloc: Global, most: u64, json: &Json<'_>) -> Parsed {
+fn short_text(alloc: Global, most: u64, json: &Json<'_>) -> Parsed
+    ensures { IfOk result (IsOfLeaf (kind.TextUpTo most)) }
+{
     match json {
         Json::String(held) => text_up_to(alloc, most, held),
         _ => Err(refusal("expected a string")),
@@ -108,7 +133,9 @@ fn bytes_of(alloc: Global, json: &Json<'_>) -> Result<Vec<u8>, ParseError> {
     }
 }
 
-fn bytes(alloc: Global, json: &Json<'_>) -> Parsed {
+fn bytes(alloc: Global, json: &Json<'_>) -> Parsed
+    ensures { IfOk result (IsOfLeaf kind.Bytes) }
+{
     match bytes_of(alloc, json) {
         Ok(bytes) => Ok(Value::Bytes(bytes)),
         Err(error) => Err(error),
@@ -116,36 +143,40 @@ fn bytes(alloc: Global, json: &Json<'_>) -> Parsed {
 }
 
 /// An integer, if it is in the range of the type.
-fn integer_of(of: IntegerType, text: &str) -> Option<Integer> {
-    Some(match of {
-        IntegerType::U16 => Integer::U16(text.parse().ok()?),
-        IntegerType::U32 => Integer::U32(text.parse().ok()?),
-        IntegerType::U64 => Integer::U64(text.parse().ok()?),
-        IntegerType::U128 => Integer::U128(text.parse().ok()?),
-        IntegerType::I16 => Integer::I16(text.parse().ok()?),
-        IntegerType::I32 => Integer::I32(text.parse().ok()?),
-        IntegerType::I64 => Integer::I64(text.parse().ok()?),
-        IntegerType::I128 => Integer::I128(text.parse().ok()?),
-    })
+fn integer_of(of: IntegerType, text: &str) -> Option<Integer>
+    ensures { IfSome result (λ i. type_of i ≡ of) }
+{
+    match of {
+        IntegerType::U16 => text.parse().ok().map(Integer::U16),
+        IntegerType::U32 => text.parse().ok().map(Integer::U32),
+        IntegerType::U64 => text.parse().ok().map(Integer::U64),
+        IntegerType::U128 => text.parse().ok().map(Integer::U128),
+        IntegerType::I16 => text.parse().ok().map(Integer::I16),
+        IntegerType::I32 => text.parse().ok().map(Integer::I32),
+        IntegerType::I64 => text.parse().ok().map(Integer::I64),
+        IntegerType::I128 => text.parse().ok().map(Integer::I128),
+    }
 }
 
 /// A number, if it is in the range of the type.
-fn number_of(node: &Node, text: &str) -> Option<Value> {
-    Some(match node {
-        Node::U8 => Value::U8(text.parse().ok()?),
-        Node::U16 => Value::U16(text.parse().ok()?),
-        Node::U32 => Value::U32(text.parse().ok()?),
-        Node::U64 => Value::U64(text.parse().ok()?),
-        Node::U128 => Value::U128(text.parse().ok()?),
-        Node::I8 => Value::I8(text.parse().ok()?),
-        Node::I16 => Value::I16(text.parse().ok()?),
-        Node::I32 => Value::I32(text.parse().ok()?),
-        Node::I64 => Value::I64(text.parse().ok()?),
-        Node::I128 => Value::I128(text.parse().ok()?),
-        Node::LE(of) => Value::LE(integer_of(*of, text)?),
-        Node::BE(of) => Value::BE(integer_of(*of, text)?),
-        _ => return None,
-    })
+fn number_of(node: &Node, text: &str) -> Option<Value>
+    ensures { IfSome result (IsOfLeaf node.now) }
+{
+    match node {
+        Node::U8 => text.parse().ok().map(Value::U8),
+        Node::U16 => text.parse().ok().map(Value::U16),
+        Node::U32 => text.parse().ok().map(Value::U32),
+        Node::U64 => text.parse().ok().map(Value::U64),
+        Node::U128 => text.parse().ok().map(Value::U128),
+        Node::I8 => text.parse().ok().map(Value::I8),
+        Node::I16 => text.parse().ok().map(Value::I16),
+        Node::I32 => text.parse().ok().map(Value::I32),
+        Node::I64 => text.parse().ok().map(Value::I64),
+        Node::I128 => text.parse().ok().map(Value::I128),
+        Node::LE(of) => Some(Value::LE(integer_of(*of, text)?)),
+        Node::BE(of) => Some(Value::BE(integer_of(*of, text)?)),
+        _ => None,
+    }
 }
 
 /// The error for a number out of the range of the type.
@@ -181,7 +212,9 @@ fn is_of_fraction(c: char) -> bool {
     matches!(c, '.' | 'e' | 'E')
 }
 
-fn number(node: &Node, json: &Json<'_>) -> Parsed {
+fn number(node: &Node, json: &Json<'_>) -> Parsed
+    ensures { IfOk result (IsOfLeaf node.now) }
+{
     let Json::Number(text) = json else {
         return Err(refusal("expected a number"));
     };
@@ -195,7 +228,9 @@ fn number(node: &Node, json: &Json<'_>) -> Parsed {
 }
 
 /// The bits of a float: from a number, or from the string of one that isn't finite.
-fn float(of: IntegerType, json: &Json<'_>) -> Parsed {
+fn float(of: IntegerType, json: &Json<'_>) -> Parsed
+    ensures { IfOk result (IsOfLeaf (kind.LE of)) }
+{
     let bits = match json {
         Json::Number(text) => float_of_number(of, text),
         Json::String(word) => float_of_word(of, word),
@@ -228,7 +263,9 @@ fn present<'a, 'b>(
 }
 
 #[cycle(parse)]
-fn option(alloc: Global, schema: &Schema, place: usize, depth: u32, json: &Json<'_>) -> Parsed {
+fn option(alloc: Global, schema: &Schema, place: usize, depth: u32, json: &Json<'_>) -> Parsed
+    ensures { IfOk result (IsOfNode depth schema.now.nodes.items (kind.Option place)) }
+{
     if json.is_null() {
         return Ok(Value::Absent);
     }
@@ -245,7 +282,9 @@ fn items(
     place: usize,
     depth: u32,
     elements: &[Json<'_>],
-) -> Result<Vec<Value>, ParseError> {
+) -> Result<Vec<Value>, ParseError>
+    ensures { IfOk result (λ v. EachHas (IsOfType depth schema.now.nodes.items place) v.items) }
+{
     let mut items = Vec::new(alloc);
     for element in elements {
         match value(alloc, schema, place, depth, element) {
@@ -257,7 +296,9 @@ fn items(
 }
 
 /// Bytes as values.
-fn byte_values(alloc: Global, bytes: &[u8]) -> Result<Vec<Value>, ParseError> {
+fn byte_values(alloc: Global, bytes: &[u8]) -> Result<Vec<Value>, ParseError>
+    ensures { IfOk result (λ v. EachHas (IsOfLeaf kind.U8) v.items) }
+{
     let mut items = Vec::new(alloc);
     for byte in bytes {
         items.push(Value::U8(*byte))?;
@@ -273,7 +314,9 @@ fn elements(
     place: usize,
     depth: u32,
     json: &Json<'_>,
-) -> Result<Vec<Value>, ParseError> {
+) -> Result<Vec<Value>, ParseError>
+    ensures { IfOk result (λ v. EachHas (IsOfType depth schema.now.nodes.items place) v.items) }
+{
     match json {
         Json::Array(elements) => items(alloc, schema, place, depth, elements),
         Json::String(digits) if depth > 0 && is_byte(schema, place) => {
@@ -288,7 +331,9 @@ fn elements(
 }
 
 /// A boolean from a key.
-fn truth_of(key: &str) -> Parsed {
+fn truth_of(key: &str) -> Parsed
+    ensures { IfOk result (IsOfLeaf kind.Bool) }
+{
     match key {
         "true" => Ok(Value::Bool(true)),
         "false" => Ok(Value::Bool(false)),
@@ -297,7 +342,9 @@ fn truth_of(key: &str) -> Parsed {
 }
 
 /// A number from a key.
-fn number_key(node: &Node, key: &str) -> Parsed {
+fn number_key(node: &Node, key: &str) -> Parsed
+    ensures { IfOk result (IsOfLeaf node.now) }
+{
     match number_of(node, key) {
         Some(value) => Ok(value),
         None => Err(refusal(range_of(node))),
@@ -305,11 +352,13 @@ fn number_key(node: &Node, key: &str) -> Parsed {
 }
 
 /// A value from a key, newtypes and enums apart.
-fn plain_key(alloc: Global, node: &Node, key: &str) -> Parsed {
+fn plain_key(alloc: Global, node: &Node, key: &str) -> Parsed
+    ensures { IfOk result (IsOfLeaf node.now) }
+{
     match node {
         Node::Bool => truth_of(key),
         Node::Char => char_of(key),
-        Node::Text => Ok(Value::Text(String::from_str(alloc, key)?)),
+        Node::Text => text_of(alloc, key),
         Node::TextUpTo(most) => text_up_to(alloc, *most, key),
         _ => number_key(node, key),
     }
@@ -324,7 +373,9 @@ fn variant_key(
     payloads: &[usize],
     depth: u32,
     key: &str,
-) -> Parsed {
+) -> Parsed
+    ensures { IfOk result (IsOfEnum depth schema.now.nodes.items payloads.now) }
+{
     let Some(index) = index_of(names, key) else {
         return Err(refusal("the type has no such variant"));
     };
@@ -337,60 +388,48 @@ fn variant_key(
 
 /// The key of a map from a member's name.
 #[cycle(parse)]
-fn key_of(alloc: Global, schema: &Schema, place: usize, depth: u32, key: &str) -> Parsed {
+fn key_of(alloc: Global, schema: &Schema, place: usize, depth: u32, key: &str) -> Parsed
+    ensures { IfOk result (IsOfType depth schema.now.nodes.items place) }
+{
     if depth == 0 {
         return Err(refusal(TOO_DEEP));
     }
-    match (schema.nodes.get(place), schema.names.get(place)) {
-        (Some(Node::Struct(fields)), Some(Names::Newtype)) => {
-            let [only] = fields.as_slice() else {
-                return Err(refusal(NO_TYPE));
-            };
-            let held = key_of(alloc, schema, *only, depth - 1, key)?;
-            one_part(alloc, held)
-        }
-        (Some(Node::Enum(payloads)), Some(names)) => {
-            variant_key(alloc, schema, names, payloads, depth - 1, key)
-        }
-        (Some(node), _) => plain_key(alloc, node, key),
-        _ => Err(refusal(NO_TYPE)),
+    if let Some(only) = inside_newtype(schema, place) {
+        let held = key_of(alloc, schema, only, depth - 1, key)?;
+        return one_part(alloc, held);
+    }
+    let Some(node) = node_of(schema, place) else {
+        return Err(refusal(NO_TYPE));
+    };
+    let Some(names) = names_of(schema, place) else {
+        return Err(refusal(NO_TYPE));
+    };
+    match node {
+        Node::Enum(payloads) => variant_key(alloc, schema, names, payloads, depth - 1, key),
+        _ => plain_key(alloc, node, key),
     }
 }
 
 /// A struct of one field.
-fn one_part(alloc: Global, held: Value) -> Parsed {
+fn one_part(alloc: Global, held: Value) -> Parsed
+    ensures { IfOk result (IsGroupOf (held ∷ [])) }
+{
     let mut parts = Vec::new(alloc);
     parts.push(held)?;
     Ok(Value::Group(parts))
 }
 
 /// A pair.
-fn two_parts(alloc: Global, first: Value, second: Value) -> Parsed {
+fn two_parts(alloc: Global, first: Value, second: Value) -> Parsed
+    ensures { IfOk result (IsGroupOf (first ∷ second ∷ [])) }
+{
     let mut parts = Vec::new(alloc);
     parts.push(first)?;
     parts.push(second)?;
     Ok(Value::Group(parts))
 }
 
-/// A pair of a map from a member: its name and its value.
-#[cycle(parse)]
-fn pair(
-    alloc: Global,
-    schema: &Schema,
-    fields: &[usize],
-    depth: u32,
-    key: &str,
-    json: &Json<'_>,
-) -> Parsed {
-    let [first, second] = fields else {
-        return Err(refusal(NO_TYPE));
-    };
-    let key = key_of(alloc, schema, *first, depth, key)?;
-    let held = value(alloc, schema, *second, depth, json)?;
-    two_parts(alloc, key, held)
-}
-
-/// A pair of the type at index `place` from a member.
+/// A pair of the type at index `place` from a member: its name and its value.
 #[cycle(parse)]
 fn member(
     alloc: Global,
@@ -399,14 +438,18 @@ fn member(
     depth: u32,
     key: &str,
     json: &Json<'_>,
-) -> Parsed {
+) -> Parsed
+    ensures { IfOk result (IsOfType depth schema.now.nodes.items place) }
+{
     if depth == 0 {
         return Err(refusal(TOO_DEEP));
     }
-    match schema.nodes.get(place) {
-        Some(Node::Struct(fields)) => pair(alloc, schema, fields, depth - 1, key, json),
-        _ => Err(refusal(NO_TYPE)),
-    }
+    let Some((first, second)) = pair_of(schema, place) else {
+        return Err(refusal(NO_TYPE));
+    };
+    let key = key_of(alloc, schema, first, depth - 1, key)?;
+    let held = value(alloc, schema, second, depth - 1, json)?;
+    two_parts(alloc, key, held)
 }
 
 /// The pairs of a map from an object.
@@ -417,7 +460,9 @@ fn pairs(
     place: usize,
     depth: u32,
     members: &[(&str, Json<'_>)],
-) -> Result<Vec<Value>, ParseError> {
+) -> Result<Vec<Value>, ParseError>
+    ensures { IfOk result (λ v. EachHas (IsOfType depth schema.now.nodes.items place) v.items) }
+{
     let mut items = Vec::new(alloc);
     for (key, json) in members {
         match member(alloc, schema, place, depth, key, json) {
@@ -437,7 +482,9 @@ fn list(
     place: usize,
     depth: u32,
     json: &Json<'_>,
-) -> Result<Vec<Value>, ParseError> {
+) -> Result<Vec<Value>, ParseError>
+    ensures { IfOk result (λ v. EachHas (IsOfType depth schema.now.nodes.items place) v.items) }
+{
     match (names, json) {
         (Names::Map, Json::Object(members)) if has_text_keys(schema, place) => {
             pairs(alloc, schema, place, depth, members)
@@ -449,31 +496,19 @@ fn list(
 }
 
 /// A list of at most `most` elements.
-#[cycle(parse)]
-fn list_up_to(
-    alloc: Global,
-    schema: &Schema,
-    names: &Names,
-    (most, place): (u64, usize),
-    depth: u32,
-    json: &Json<'_>,
-) -> Parsed {
-    let items = list(alloc, schema, names, place, depth, json)?;
+fn list_up_to(most: u64, items: Vec<Value>) -> Parsed
+    ensures { IfOk result (λ v. (v ≡ Listed items) × (length items.items ≤ most)) }
+{
     if items.len() as u64 > most {
         return Err(refusal("the list has more elements than the type allows"));
     }
     Ok(Value::List(items))
 }
 
-#[cycle(parse)]
-fn array(
-    alloc: Global,
-    schema: &Schema,
-    (count, place): (u64, usize),
-    depth: u32,
-    json: &Json<'_>,
-) -> Parsed {
-    let items = elements(alloc, schema, place, depth, json)?;
+/// An array of `count` elements.
+fn array(count: u64, items: Vec<Value>) -> Parsed
+    ensures { IfOk result (λ v. (v ≡ Group items) × (length items.items ≡ count)) }
+{
     if items.len() as u64 != count {
         return Err(refusal("the array has another length than the type's"));
     }
@@ -590,15 +625,17 @@ fn group(
     fields: &[usize],
     depth: u32,
     json: &Json<'_>,
-) -> Parsed {
+) -> Parsed
+    ensures { IfOk result (IsOfStruct depth schema.now.nodes.items fields.now) }
+{
     if let Some(why) = misfit(names, fields.len(), json) {
         return Err(refusal(why));
     }
     let mut items = Vec::new(alloc);
-    for i in 0..fields.len() {
-        match field(alloc, schema, names, fields, i, depth, json) {
+    for place in fields {
+        match field(alloc, schema, names, items.len(), *place, depth, json) {
             Ok(item) => items.push(item)?,
-            Err(error) => return Err(inside_field(alloc, names, i, error)),
+            Err(error) => return Err(inside_field(alloc, names, items.len(), error)),
         }
     }
     check_members(alloc, names, json)?;
@@ -611,16 +648,15 @@ fn field(
     alloc: Global,
     schema: &Schema,
     names: &Names,
-    fields: &[usize],
     i: usize,
+    place: usize,
     depth: u32,
     json: &Json<'_>,
-) -> Parsed {
-    let Some(place) = fields.get(i) else {
-        return Err(refusal(NO_TYPE));
-    };
+) -> Parsed
+    ensures { IfOk result (IsOfType depth schema.now.nodes.items place) }
+{
     match part(names, i, json) {
-        Ok(held) => value(alloc, schema, *place, depth, held),
+        Ok(held) => value(alloc, schema, place, depth, held),
         Err(why) => Err(refusal(why)),
     }
 }
@@ -660,7 +696,9 @@ fn variant(
     payloads: &[usize],
     depth: u32,
     json: &Json<'_>,
-) -> Parsed {
+) -> Parsed
+    ensures { IfOk result (IsOfEnum depth schema.now.nodes.items payloads.now) }
+{
     let Some((name, held)) = choice(json) else {
         return Err(refusal("expected a variant"));
     };
@@ -684,7 +722,9 @@ fn payload(
     place: usize,
     depth: u32,
     held: Option<&Json<'_>>,
-) -> Parsed {
+) -> Parsed
+    ensures { IfOk result (IsOfType depth schema.now.nodes.items place) }
+{
     let is_empty = is_empty(schema, place);
     match held {
         None if is_empty => value(alloc, schema, place, depth, &Json::Null),
@@ -705,7 +745,9 @@ fn of_node(
     node: &Node,
     depth: u32,
     json: &Json<'_>,
-) -> Parsed {
+) -> Parsed
+    ensures { IfOk result (IsOfNode depth schema.now.nodes.items node.now) }
+{
     match node {
         Node::Bool => boolean(json),
         Node::Char => character(json),
@@ -715,9 +757,11 @@ fn of_node(
         Node::Option(inner) => option(alloc, schema, *inner, depth, json),
         Node::List(inner) => Ok(Value::List(list(alloc, schema, names, *inner, depth, json)?)),
         Node::ListUpTo(most, inner) => {
-            list_up_to(alloc, schema, names, (*most, *inner), depth, json)
+            list_up_to(*most, list(alloc, schema, names, *inner, depth, json)?)
         }
-        Node::Array(count, inner) => array(alloc, schema, (*count, *inner), depth, json),
+        Node::Array(count, inner) => {
+            array(*count, elements(alloc, schema, *inner, depth, json)?)
+        }
         Node::Struct(fields) => group(alloc, schema, names, fields, depth, json),
         Node::Enum(payloads) => variant(alloc, schema, names, payloads, depth, json),
         Node::LE(of) if matches!(names, Names::Float) => float(*of, json),
@@ -727,14 +771,19 @@ fn of_node(
 
 /// The value of the type at index `place`, with at most `depth` nested nodes.
 #[cycle(parse)]
-fn value(alloc: Global, schema: &Schema, place: usize, depth: u32, json: &Json<'_>) -> Parsed {
+fn value(alloc: Global, schema: &Schema, place: usize, depth: u32, json: &Json<'_>) -> Parsed
+    ensures { IfOk result (IsOfType depth schema.now.nodes.items place) }
+{
     if depth == 0 {
         return Err(refusal(TOO_DEEP));
     }
-    match (schema.nodes.get(place), schema.names.get(place)) {
-        (Some(node), Some(names)) => of_node(alloc, schema, names, node, depth - 1, json),
-        _ => Err(refusal(NO_TYPE)),
-    }
+    let Some(node) = node_of(schema, place) else {
+        return Err(refusal(NO_TYPE));
+    };
+    let Some(names) = names_of(schema, place) else {
+        return Err(refusal(NO_TYPE));
+    };
+    of_node(alloc, schema, names, node, depth - 1, json)
 }
 
 /// The value of an object whose only member is `value`.
@@ -755,7 +804,9 @@ fn value_of_line(
     place: usize,
     depth: u32,
     json: &Json<'_>,
-) -> Parsed {
+) -> Parsed
+    ensures { IfOk result (IsOfType depth schema.now.nodes.items place) }
+{
     let Some(held) = value_in(json) else {
         return value(alloc, schema, place, depth, json);
     };
@@ -816,7 +867,9 @@ fn no_json(alloc: Global, depth: u32, text: &str, offset: usize) -> ParseError {
 }
 
 /// The value that a text contains, as the text says it.
-fn value_of_text(alloc: Global, schema: &Schema, place: usize, depth: u32, text: &str) -> Parsed {
+fn value_of_text(alloc: Global, schema: &Schema, place: usize, depth: u32, text: &str) -> Parsed
+    ensures { IfOk result (IsOfType depth schema.now.nodes.items place) }
+{
     let mut scratch = Scratch::new(alloc);
     let mut reader = Reader::new(text, &mut scratch)?;
     match json_of(alloc, depth, &mut reader) {
@@ -842,8 +895,5 @@ pub fn parse(alloc: Global, schema: &Schema, place: usize, depth: u32, line: &[u
     let Ok(text) = from_utf8(line) else {
         return Err(refusal("the line isn't UTF-8"));
     };
-    match value_of_text(alloc, schema, place, depth, text) {
-        Ok(value) => as_read(alloc, schema, place, depth, &value),
-        Err(error) => Err(error),
-    }
+    value_of_text(alloc, schema, place, depth, text)
 }

@@ -1,24 +1,18 @@
 //! Decoding messages by a table of types, for `link`'s receivers.
-ghost use Rattle.std.specs.Prelude.{true, Some, IfOk};
+ghost use Rattle.std.specs.Prelude.{true, Some};
 ghost use Rattle.std.proofs.Common.{ap};
 ghost use Rattle.schemas.specs.Schemas.{SchemaTakes, SchemaReads};
 ghost use Rattle.schemas.specs.SchemaLaws.{schema_laws};
 ghost use Rattle.link.specs.Judged.{front_laws};
-ghost use Rattle.wire_lib.specs.Parsed.{IsOfType};
 ghost use Rattle.wire_lib.specs.Summed.{TakesSummed, ReadsSummed, summed_laws};
 
 use crate::summed::kept;
 use crate::words::DEEPEST;
-use crate::wrong::{ParseError, refusal};
 use link::{ExactReader, FrontReader};
-use postcard::{Error, to_allocvec};
-use schema_table::Schema;
-use schemas::{Node, Value, from_bytes, take_from_bytes};
+use postcard::Error;
+use schemas::{Node, Value, from_bytes};
 use std::alloc::Global;
 use std::cell::Cell;
-
-/// The error if a type doesn't read a value back.
-const NOT_OF_TYPE: &str = "the line isn't a value of the type";
 
 /// Reads the messages of a type of a table: a reader for [`Ordinary`](link::Ordinary) and [`Strict`](link::Strict).
 ///
@@ -73,28 +67,4 @@ impl FrontReader<Value> for TableReader<'_> {
 
 impl ExactReader<Value> for TableReader<'_> {
     ghost writes_back = { λ r t v h. ap Some h.0.1 };
-}
-
-// Each line costs one more encoding and one more decoding: some 6,800 of 46,400 instructions for the records of `bench/wire`.
-/// Returns the value as its type reads its encoding, to the last byte; so it is a value of that type.
-///
-/// # Errors
-/// `Wrong`: the type doesn't read it. `OutOfMemory`.
-pub(crate) fn as_read(
-    alloc: Global,
-    schema: &Schema,
-    place: usize,
-    depth: u32,
-    value: &Value,
-) -> Result<Value, ParseError>
-    ensures { IfOk result (λ v. IsOfType depth schema.now.nodes.items place v) }
-{
-    let Ok(message) = to_allocvec(alloc, value) else {
-        return Err(ParseError::OutOfMemory);
-    };
-    match take_from_bytes(alloc, &schema.nodes, place, depth, &message) {
-        Ok((read, rest)) if rest.is_empty() => Ok(read),
-        Err(Error::OutOfMemory) => Err(ParseError::OutOfMemory),
-        _ => Err(refusal(NOT_OF_TYPE)),
-    }
 }

@@ -1,4 +1,7 @@
-use Rattle.std.proofs.Common.{◌+◌, ◌*◌}
+use Rattle.std.proofs.Common.{◌+◌, ◌*◌, drop}
+use Rattle.schemas.specs.Schemas.{EachHas}
+use Rattle.wire_lib.specs.Parsed.{IsOfType}
+use Rattle.wire_lib.proofs.ParsedLemmas.{FieldsSo}
 use Rattle.wire_lib.proofs.parse.+parse.Given as goal
 
 abbrev pub decreases-value : goal.decreases-value
@@ -19,20 +22,11 @@ decreases-elements l = 6 * l.depth + 2
 abbrev pub decreases-list : goal.decreases-list
 decreases-list l = 6 * l.depth + 3
 
-abbrev pub decreases-list_up_to : goal.decreases-list_up_to
-decreases-list_up_to l = 6 * l.depth + 4
-
-abbrev pub decreases-array : goal.decreases-array
-decreases-array l = 6 * l.depth + 4
-
 abbrev pub decreases-variant_key : goal.decreases-variant_key
 decreases-variant_key l = 6 * l.depth + 1
 
 abbrev pub decreases-key_of : goal.decreases-key_of
 decreases-key_of l = 6 * l.depth
-
-abbrev pub decreases-pair : goal.decreases-pair
-decreases-pair l = 6 * l.depth + 1
 
 abbrev pub decreases-member : goal.decreases-member
 decreases-member l = 6 * l.depth
@@ -51,3 +45,12 @@ decreases-payload l = 6 * l.depth + 1
 
 abbrev pub decreases-variant : goal.decreases-variant
 decreases-variant l = 6 * l.depth + 2
+
+abbrev pub invariant-items-loop-element : goal.invariant-items-loop-element
+invariant-items-loop-element l = EachHas (IsOfType l.depth l.schema.nodes.items l.place) l.items.items
+
+abbrev pub invariant-pairs-loop-key : goal.invariant-pairs-loop-key
+invariant-pairs-loop-key l = EachHas (IsOfType l.depth l.schema.nodes.items l.place) l.items.items
+
+abbrev pub invariant-group-loop-place : goal.invariant-group-loop-place
+invariant-group-loop-place l = FieldsSo (IsOfType l.depth l.schema.nodes.items) l.fields (drop l.place-index l.fields) l.items.items

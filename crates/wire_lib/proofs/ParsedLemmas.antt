@@ -1,0 +1,278 @@
+-- When what was parsed is a value of its type.
+use Rattle.std.specs.Prelude.{◌≡◌, ℕ, zero, suc, ◌-◌, ◌^◌, ◌<◌, ◌≤◌, ◌≢◌, Bool, true, false, Option, Some, None, Result, Ok, Err, IfOk, if◌then◌else◌, List, [], ◌∷◌, ◌++◌, length, get_or, String, string_bytes, Box}
+use Rattle.std.specs.Global.{Global}
+use Rattle.std.specs.List.{slice_get}
+use Rattle.std.specs.Str.{IsUtf8}
+use Rattle.std.proofs.Common.{refl, sym, ap, ◌∙◌, subst, arith, rules, append_assoc, Vec}
+use Rattle.std.proofs.lemmas.List.{append-nil}
+use Rattle.postcard_tree.specs.Tree.{Tree, Trees, sequence, group, byte, part, end, bytes_of, count_of, number, text_of}
+use Rattle.postcard_tree.specs.Reading.{ReadsAll, ReadsByte, ReadsBytes, ReadsText, TakesAll, TakesArray, TakesByte, TakesOption, TakesSequence, TakesUpTo, TakesVariant, GroupOf}
+use Rattle.postcard_tree.specs.Fixed.{little_endian, big_endian, TakesFixed}
+use Rattle.postcard_tree.specs.FixedOnce.{length_little, length_big, octets_little, octets_big, takes_group}
+use Rattle.postcard_tree.specs.Kinds.{text_upto_taken}
+use Rattle.postcard_tree.specs.Once.{byte_taken, sequence_taken}
+use Rattle.schema_table.specs.declared.integer.IntegerType.{IntegerType}
+use Rattle.schema_table.specs.declared.node.Node.{Node}
+use Rattle.schema_table.specs.declared.node.Node.TheVariants as node
+use Rattle.schema_table.specs.declared.schema.Schema.{Schema}
+use Rattle.schemas.specs.declared.integer.Integer.{Integer}
+use Rattle.schemas.specs.declared.value.Value.{Value, out-Value, LE, BE, Text, Bytes, Absent, Present, List as Listed, Group, Variant, the_lemmas}
+use Rattle.schemas.specs.declared.value.Value.TheOpen.{Value-F}
+use Rattle.schemas.specs.Integers.{width_of, type_of, bits_in, little_group, big_group, little_tree_of, big_tree_of}
+use Rattle.schemas.specs.Values.{tree_of, trees_in}
+use Rattle.schemas.specs.Schemas.{SchemaTakes, SchemaHas, TakesFields, TakesNode, TakesPayload, NodeHas, AtTop, OfList, OfGroup, OfOption, OfVariant, EachHas, FieldsHave, PayloadHas}
+use Rattle.wire_lib.specs.Looks.{names_at, node_at, is_byte_node, is_newtype_named, only_type, only_field, inside_of, two_types, pair_node}
+use Rattle.wire_lib.specs.Parsed.{IsGroupOf, IsOfType, IsOfNode, IsOfStruct, IsOfEnum, IsOfLeaf}
+
+-- one level of a value
+
+tree-LE : (i : _) → tree_of (LE i) ≡ little_tree_of i
+tree-LE i = search (rules, the_lemmas)
+
+tree-BE : (i : _) → tree_of (BE i) ≡ big_tree_of i
+tree-BE i = search (rules, the_lemmas)
+
+tree-Text : (s : _) → tree_of (Text s) ≡ text_of (string_bytes s)
+tree-Text s = search (rules, the_lemmas)
+
+tree-Bytes : (v : _) → tree_of (Bytes v) ≡ text_of v.items
+tree-Bytes v = search (rules, the_lemmas)
+
+tree-Absent : tree_of Absent ≡ byte 0
+tree-Absent = search (rules, the_lemmas)
+
+tree-Present : (v : _) → tree_of (Present v) ≡ group (part (byte 1) (part (tree_of v.value) end))
+tree-Present v = search (rules, the_lemmas)
+
+tree-Listed : (v : _) → tree_of (Listed v) ≡ sequence (trees_in v.items)
+tree-Listed v = search (rules, the_lemmas)
+
+tree-Group : (v : _) → tree_of (Group v) ≡ group (trees_in v.items)
+tree-Group v = search (rules, the_lemmas)
+
+tree-Variant : (n : _) (v : _) → tree_of (Variant n v) ≡ group (part (number 32 n) (part (tree_of v.value) end))
+tree-Variant n v = search (rules, the_lemmas)
+
+top_by : (kind : Value-F Value → Type 0) (v : Value) (top : Value-F Value) → out-Value v ≡ top → kind top → AtTop kind v
+top_by kind v top e h = subst kind (sym e) h
+
+count_in : (vs : List Value) → count_of (trees_in vs) ≡ length vs
+count_in [] = refl
+count_in (v ∷ vs) = omega (arith, count_in vs)
+
+-- at its place
+at_node : (depth : ℕ) (nodes : List Node) (i : ℕ) (n : Node) (v : Value) → slice_get nodes i ≡ Some n → IsOfNode depth nodes n v → IsOfType (suc depth) nodes i v
+unfolding SchemaTakes SchemaHas
+at_node depth nodes i n v e h = rw e (h.0, refl, h.1)
+
+pub at_place : (depth : ℕ) (nodes : List Node) (i : ℕ) (n : Node) (v : Value) → depth ≢ 0 → slice_get nodes i ≡ Some n → IsOfNode (depth - 1) nodes n v → IsOfType depth nodes i v
+at_place zero nodes i n v d e h = absurd (d refl)
+at_place (suc depth) nodes i n v d e h = at_node depth nodes i n v e (subst (λ k. IsOfNode k nodes n v) (omega arith) h)
+
+-- if it succeeds
+pub ok_as : {A E : Type 0} {P Q : A → Type 0} (r : Result A E) → ((v : A) → P v → Q v) → IfOk r P → IfOk r Q
+ok_as (Ok v) f h = f v h
+ok_as (Err e) f h = tt
+
+pub leaf_ok : {E : Type 0} (depth : ℕ) (nodes : List Node) (n : Node) (r : Result Value E) → IfOk r (IsOfLeaf n) → IfOk r (IsOfNode depth nodes n)
+leaf_ok depth nodes n r h = ok_as r (λ v k. k depth nodes) h
+
+-- elements
+each_taken : (depth : ℕ) (nodes : List Node) (i : ℕ) (vs : List Value) → EachHas (IsOfType depth nodes i) vs → TakesAll (SchemaTakes depth nodes i) (trees_in vs)
+each_taken depth nodes i [] h = tt
+each_taken depth nodes i (v ∷ vs) h = (h.0.0, each_taken depth nodes i vs h.1)
+
+each_has : (depth : ℕ) (nodes : List Node) (i : ℕ) (vs : List Value) → EachHas (IsOfType depth nodes i) vs → EachHas (SchemaHas depth nodes i) vs
+each_has depth nodes i [] h = tt
+each_has depth nodes i (v ∷ vs) h = (h.0.2, each_has depth nodes i vs h.1)
+
+pub each_more : (P : Value → Type 0) (vs : List Value) (v : Value) → EachHas P vs → P v → EachHas P (vs ++ v ∷ [])
+each_more P [] v h k = (k, tt)
+each_more P (w ∷ vs) v h k = (h.0, each_more P vs v h.1 k)
+
+few : (v : Vec Value Global) → count_of (trees_in v.items) < 2 ^ 64
+few v = omega (arith, count_in v.items, v.ok.0, v.ok.1, v.small)
+
+counted_taken : (depth : ℕ) (nodes : List Node) (i : ℕ) (v : Vec Value Global) → EachHas (IsOfType depth nodes i) v.items → TakesSequence (SchemaTakes depth nodes i) (sequence (trees_in v.items))
+counted_taken depth nodes i v h = (few v, each_taken depth nodes i v.items h)
+
+pub of_list : (depth : ℕ) (nodes : List Node) (i : ℕ) (v : Vec Value Global) → EachHas (IsOfType depth nodes i) v.items → IsOfNode depth nodes (node.List i) (Listed v)
+of_list depth nodes i v h = (
+  subst (TakesSequence (SchemaTakes depth nodes i)) (sym (tree-Listed v)) (counted_taken depth nodes i v h),
+  top_by (OfList (EachHas (SchemaHas depth nodes i))) (Listed v) (Value-F.List v) (search (rules, the_lemmas)) (each_has depth nodes i v.items h),
+)
+
+pub of_list_up_to : (depth : ℕ) (nodes : List Node) (n i : ℕ) (v : Vec Value Global) → length v.items ≤ n → EachHas (IsOfType depth nodes i) v.items → IsOfNode depth nodes (node.ListUpTo n i) (Listed v)
+of_list_up_to depth nodes n i v l h = (
+  subst (TakesUpTo n (SchemaTakes depth nodes i)) (sym (tree-Listed v)) (counted_taken depth nodes i v h, omega (arith, l, count_in v.items)),
+  top_by (OfList (EachHas (SchemaHas depth nodes i))) (Listed v) (Value-F.List v) (search (rules, the_lemmas)) (each_has depth nodes i v.items h),
+)
+
+pub of_array : (depth : ℕ) (nodes : List Node) (n i : ℕ) (v : Vec Value Global) → length v.items ≡ n → EachHas (IsOfType depth nodes i) v.items → IsOfNode depth nodes (node.Array n i) (Group v)
+of_array depth nodes n i v l h = (
+  subst (TakesArray n (SchemaTakes depth nodes i)) (sym (tree-Group v)) (each_taken depth nodes i v.items h, count_in v.items ∙ l),
+  top_by (OfGroup (EachHas (SchemaHas depth nodes i))) (Group v) (Value-F.Group v) (search (rules, the_lemmas)) (each_has depth nodes i v.items h),
+)
+
+-- fields
+
+-- so far `vs`, and fields of these types are left
+abbrev pub FieldsSo : (ℕ → Value → Type 0) → List ℕ → List ℕ → List Value → Type 0
+FieldsSo has all left vs = (more : List Value) → FieldsHave has left more → FieldsHave has all (vs ++ more)
+
+pub fields_none : (has : ℕ → Value → Type 0) (all : List ℕ) (vs : List Value) → vs ≡ [] → FieldsSo has all all vs
+fields_none has all vs e more h = rw e h
+
+pub fields_more : (has : ℕ → Value → Type 0) (all left xs : List ℕ) (vs : List Value) (i : ℕ) (v : Value) → left ≡ i ∷ xs → FieldsSo has all left vs → has i v → FieldsSo has all xs (vs ++ v ∷ [])
+fields_more has all left xs vs i v e h k more m = subst (FieldsHave has all) (sym (append_assoc vs (v ∷ []) more)) (h (v ∷ more) (subst (λ zs. FieldsHave has zs (v ∷ more)) (sym e) (k, m)))
+
+pub fields_all : (has : ℕ → Value → Type 0) (all left : List ℕ) (vs : List Value) → left ≡ [] → FieldsSo has all left vs → FieldsHave has all vs
+fields_all has all left vs e h = subst (FieldsHave has all) (append-nil vs) (h [] (subst (λ zs. FieldsHave has zs []) (sym e) tt))
+
+fields_taken : (depth : ℕ) (nodes : List Node) (is : List ℕ) (vs : List Value) → FieldsHave (IsOfType depth nodes) is vs → TakesFields (SchemaTakes depth nodes) is (trees_in vs)
+fields_taken depth nodes [] [] h = tt
+fields_taken depth nodes [] (v ∷ vs) h = absurd h
+fields_taken depth nodes (i ∷ is) [] h = absurd h
+fields_taken depth nodes (i ∷ is) (v ∷ vs) h = (h.0.0, fields_taken depth nodes is vs h.1)
+
+fields_have : (depth : ℕ) (nodes : List Node) (is : List ℕ) (vs : List Value) → FieldsHave (IsOfType depth nodes) is vs → FieldsHave (SchemaHas depth nodes) is vs
+fields_have depth nodes [] [] h = tt
+fields_have depth nodes [] (v ∷ vs) h = absurd h
+fields_have depth nodes (i ∷ is) [] h = absurd h
+fields_have depth nodes (i ∷ is) (v ∷ vs) h = (h.0.2, fields_have depth nodes is vs h.1)
+
+pub of_struct : (depth : ℕ) (nodes : List Node) (is : List ℕ) (v : Vec Value Global) → FieldsHave (IsOfType depth nodes) is v.items → IsOfStruct depth nodes is (Group v)
+of_struct depth nodes is v h = (
+  subst (GroupOf (TakesFields (SchemaTakes depth nodes) is)) (sym (tree-Group v)) (fields_taken depth nodes is v.items h),
+  top_by (OfGroup (FieldsHave (SchemaHas depth nodes) is)) (Group v) (Value-F.Group v) (search (rules, the_lemmas)) (fields_have depth nodes is v.items h),
+)
+
+-- options
+
+pub of_absent : (depth : ℕ) (nodes : List Node) (i : ℕ) → IsOfNode depth nodes (node.Option i) Absent
+of_absent depth nodes i = (subst (TakesOption (SchemaTakes depth nodes i)) (sym tree-Absent) refl, top_by (OfOption (SchemaHas depth nodes i)) Absent Value-F.Absent (search (rules, the_lemmas)) tt)
+
+pub of_present : (depth : ℕ) (nodes : List Node) (i : ℕ) (v : Box Value Global) → IsOfType depth nodes i v.value → IsOfNode depth nodes (node.Option i) (Present v)
+of_present depth nodes i v h = (subst (TakesOption (SchemaTakes depth nodes i)) (sym (tree-Present v)) (refl, h.0), top_by (OfOption (SchemaHas depth nodes i)) (Present v) (Value-F.Present v) (search (rules, the_lemmas)) h.2)
+
+-- variants
+
+payload_taken : (takes : ℕ → Tree → Type 0) (is : List ℕ) (n : ℕ) (t : Tree) → n < length is → takes (get_or is n 0) t → TakesPayload takes is n t
+payload_taken takes [] n t l h = absurd (omega (arith, l))
+payload_taken takes (i ∷ is) zero t l h = h
+payload_taken takes (i ∷ is) (suc n) t l h = payload_taken takes is n t (omega (arith, l)) h
+
+payload_has : (has : ℕ → Value → Type 0) (is : List ℕ) (n : ℕ) (v : Value) → n < length is → has (get_or is n 0) v → PayloadHas has is n v
+payload_has has [] n v l h = absurd (omega (arith, l))
+payload_has has (i ∷ is) zero v l h = h
+payload_has has (i ∷ is) (suc n) v l h = payload_has has is n v (omega (arith, l)) h
+
+pub of_variant : (depth : ℕ) (nodes : List Node) (is : List ℕ) (n : ℕ) (v : Box Value Global) → n < length is → n < 2 ^ 32 → IsOfType depth nodes (get_or is n 0) v.value → IsOfEnum depth nodes is (Variant n v)
+of_variant depth nodes is n v l m h = (
+  subst (TakesVariant (TakesPayload (SchemaTakes depth nodes) is)) (sym (tree-Variant n v)) (refl, m, payload_taken (SchemaTakes depth nodes) is n (tree_of v.value) l h.0),
+  top_by (OfVariant (PayloadHas (SchemaHas depth nodes) is)) (Variant n v) (Value-F.Variant n v) (search (rules, the_lemmas)) (payload_has (SchemaHas depth nodes) is n v.value l h.2),
+)
+
+-- values of a node that has no types inside
+
+leaf_by : (n : Node) (v : Value) (top : Value-F Value) (t : Tree) → out-Value v ≡ top → tree_of v ≡ t
+    → ((depth : ℕ) (nodes : List Node) → TakesNode (SchemaTakes depth nodes) n t) → ((depth : ℕ) (nodes : List Node) → NodeHas (SchemaHas depth nodes) n top) → IsOfLeaf n v
+leaf_by n v top t e f takes has depth nodes = (subst (TakesNode (SchemaTakes depth nodes) n) (sym f) (takes depth nodes), subst (NodeHas (SchemaHas depth nodes) n) (sym e) (has depth nodes))
+
+little_fits : (k n : ℕ) → TakesFixed k (little_group k n)
+unfolding little_group
+little_fits k n = takes_group k (little_endian k n) (length_little k n) (octets_little k n)
+
+big_fits : (k n : ℕ) → TakesFixed k (big_group k n)
+unfolding big_group
+big_fits k n = takes_group k (big_endian k n) (length_big k n) (octets_big k n)
+
+pub little_leaf : (k : IntegerType) (i : Integer) → type_of i ≡ k → IsOfLeaf (node.LE k) (LE i)
+little_leaf k i e = subst (λ z. IsOfLeaf (node.LE z) (LE i)) e
+    (leaf_by (node.LE (type_of i)) (LE i) (Value-F.LE i) (little_tree_of i) (search (rules, the_lemmas)) (tree-LE i) (λ d ns. little_fits (width_of (type_of i)) (bits_in i)) (λ d ns. refl))
+
+pub big_leaf : (k : IntegerType) (i : Integer) → type_of i ≡ k → IsOfLeaf (node.BE k) (BE i)
+big_leaf k i e = subst (λ z. IsOfLeaf (node.BE z) (BE i)) e
+    (leaf_by (node.BE (type_of i)) (BE i) (Value-F.BE i) (big_tree_of i) (search (rules, the_lemmas)) (tree-BE i) (λ d ns. big_fits (width_of (type_of i)) (bits_in i)) (λ d ns. refl))
+
+each_read : (s : List ℕ) → ReadsAll ReadsByte (bytes_of s) s
+each_read [] = tt
+each_read (b ∷ s) = (refl, each_read s)
+
+each_counted : (s : List ℕ) → count_of (bytes_of s) ≡ length s
+each_counted [] = refl
+each_counted (b ∷ s) = omega (arith, each_counted s)
+
+bytes_read : (v : Vec ℕ Global) → ReadsBytes (text_of v.items) v.items
+bytes_read v = (omega (arith, each_counted v.items, v.ok.0, v.ok.1, v.small), each_read v.items)
+
+text_read : (s : String Global) → IsUtf8 (string_bytes s) → ReadsText (text_of (string_bytes s)) (string_bytes s)
+text_read s u = (bytes_read s.bytes, u)
+
+pub text_leaf : (s : String Global) → IsUtf8 (string_bytes s) → IsOfLeaf node.Text (Text s)
+text_leaf s u = leaf_by node.Text (Text s) (Value-F.Text s) (text_of (string_bytes s)) (search (rules, the_lemmas)) (tree-Text s) (λ d ns. (string_bytes s, bytes_read s.bytes, u)) (λ d ns. tt)
+
+pub short_text_leaf : (n : ℕ) (s : String Global) → IsUtf8 (string_bytes s) → length (string_bytes s) ≤ n → IsOfLeaf (node.TextUpTo n) (Text s)
+short_text_leaf n s u m = leaf_by (node.TextUpTo n) (Text s) (Value-F.Text s) (text_of (string_bytes s)) (search (rules, the_lemmas)) (tree-Text s)
+    (λ d ns. text_upto_taken n (text_of (string_bytes s)) (string_bytes s) (text_read s u, m)) (λ d ns. tt)
+
+pub bytes_leaf : (v : Vec ℕ Global) → IsOfLeaf node.Bytes (Bytes v)
+bytes_leaf v = leaf_by node.Bytes (Bytes v) (Value-F.Bytes v) (text_of v.items) (search (rules, the_lemmas)) (tree-Bytes v)
+    (λ d ns. sequence_taken TakesByte ReadsByte byte_taken (text_of v.items) v.items (bytes_read v)) (λ d ns. tt)
+
+-- bytes as values
+
+pub byte_node : (o : Option Node) → is_byte_node o ≡ true → o ≡ Some node.U8
+byte_node (Some node.U8) h = refl
+byte_node None h = absurd (cc h)
+byte_node (Some _) h = absurd (cc h)
+
+pub each_byte : (depth : ℕ) (nodes : List Node) (i : ℕ) (vs : List Value) → depth ≢ 0 → slice_get nodes i ≡ Some node.U8 → EachHas (IsOfLeaf node.U8) vs → EachHas (IsOfType depth nodes i) vs
+each_byte depth nodes i [] d e h = tt
+each_byte depth nodes i (v ∷ vs) d e h = (at_place depth nodes i node.U8 v d e (h.0 (depth - 1) nodes), each_byte depth nodes i vs d e h.1)
+
+-- newtypes and pairs
+
+-- the node of a struct with these fields
+abbrev pub IsStruct : List ℕ → Option Node → Type 0
+IsStruct is o = (w : Vec ℕ Global) × (o ≡ Some (node.Struct w)) × (w.items ≡ is)
+
+one_type : (is : List ℕ) (i : ℕ) → only_type is ≡ Some i → is ≡ i ∷ []
+one_type [] i h = absurd (cc h)
+one_type (k ∷ []) i h = cc
+one_type (k ∷ l ∷ is) i h = absurd (cc h)
+
+only_struct : (o : Option Node) (i : ℕ) → only_field o ≡ Some i → IsStruct (i ∷ []) o
+only_struct (Some (node.Struct w)) i h = (w, refl, one_type w.items i h)
+only_struct None i h = absurd (cc h)
+only_struct (Some _) i h = absurd (cc h)
+
+inside_struct : (b : Bool) (o : Option Node) (i : ℕ) → (if b then only_field o else None) ≡ Some i → IsStruct (i ∷ []) o
+inside_struct true o i h = only_struct o i h
+inside_struct false o i h = absurd (cc h)
+
+two_struct : (is : List ℕ) (p : ℕ × ℕ) → two_types is ≡ Some p → is ≡ p.0 ∷ p.1 ∷ []
+two_struct [] p h = absurd (cc h)
+two_struct (i ∷ []) p h = absurd (cc h)
+two_struct (i ∷ k ∷ []) p h = let e : (i, k) ≡ p = cc in ap (λ q. q.0 ∷ q.1 ∷ []) e
+two_struct (i ∷ k ∷ l ∷ is) p h = absurd (cc h)
+
+pair_struct : (o : Option Node) (p : ℕ × ℕ) → pair_node o ≡ Some p → IsStruct (p.0 ∷ p.1 ∷ []) o
+pair_struct (Some (node.Struct w)) p h = (w, refl, two_struct w.items p h)
+pair_struct None p h = absurd (cc h)
+pair_struct (Some _) p h = absurd (cc h)
+
+of_group : (depth : ℕ) (nodes : List Node) (i : ℕ) (is : List ℕ) (vs : List Value) (v : Value) → depth ≢ 0 → IsStruct is (slice_get nodes i) → FieldsHave (IsOfType (depth - 1) nodes) is vs → IsGroupOf vs v
+    → IsOfType depth nodes i v
+of_group depth nodes i is vs v d s h g =
+    let has = IsOfType (depth - 1) nodes in
+    subst (IsOfType depth nodes i) (sym g.1)
+    (at_place depth nodes i (node.Struct s.0) (Group g.0) d s.1
+    (of_struct (depth - 1) nodes s.0.items g.0 (subst (λ z. FieldsHave has z g.0.items) (sym s.2) (subst (FieldsHave has is) (sym g.2) h))))
+
+pub of_newtype : (schema : Schema) (depth : ℕ) (i k : ℕ) (v w : Value) → depth ≢ 0 → inside_of schema i ≡ Some k → IsOfType (depth - 1) schema.nodes.items k v → IsGroupOf (v ∷ []) w → IsOfType depth schema.nodes.items i w
+of_newtype schema depth i k v w d e h g = of_group depth schema.nodes.items i (k ∷ []) (v ∷ []) w d (inside_struct (is_newtype_named (names_at schema i)) (node_at schema i) k e) (h, tt) g
+
+pub of_pair : (schema : Schema) (depth : ℕ) (i : ℕ) (p : ℕ × ℕ) (v w x : Value) → depth ≢ 0 → pair_node (node_at schema i) ≡ Some p → IsOfType (depth - 1) schema.nodes.items p.0 v → IsOfType (depth - 1) schema.nodes.items p.1 w
+    → IsGroupOf (v ∷ w ∷ []) x → IsOfType depth schema.nodes.items i x
+of_pair schema depth i p v w x d e h k g = of_group depth schema.nodes.items i (p.0 ∷ p.1 ∷ []) (v ∷ w ∷ []) x d (pair_struct (node_at schema i) p e) (h, (k, tt)) g

@@ -1,0 +1,6 @@
+use Rattle.std.proofs.Common.{rules, arith, refl}
+use Rattle.std.proofs.lemmas.Grind.{common_steps}
+use Rattle.wire_lib.proofs.parse.two_parts.Goals as goal
+
+pub returns : goal.returns
+returns c = (c.push-2.new.self, refl, grind (arith, common_steps))
