@@ -1,10 +1,11 @@
 -- When what was parsed is a value of its type.
-use Rattle.std.specs.Prelude.{◌≡◌, ℕ, zero, suc, ◌-◌, ◌^◌, ◌<◌, ◌≤◌, ◌≢◌, Bool, true, false, Option, Some, None, Result, Ok, Err, IfOk, if◌then◌else◌, List, [], ◌∷◌, ◌++◌, length, get_or, String, string_bytes, Box}
+use Rattle.std.specs.Prelude.{◌≡◌, ℕ, zero, suc, ◌+◌, ◌-◌, ◌^◌, ◌<◌, ◌≤◌, ◌≢◌, Bool, true, false, Option, Some, None, Result, Ok, Err, IfOk, if◌then◌else◌, List, [], ◌∷◌, ◌++◌, length, get_or, String, string_bytes, Box}
 use Rattle.std.specs.Global.{Global}
 use Rattle.std.specs.List.{slice_get}
 use Rattle.std.specs.Str.{IsUtf8}
 use Rattle.std.proofs.Common.{refl, sym, ap, ◌∙◌, subst, arith, rules, append_assoc, Vec}
 use Rattle.std.proofs.lemmas.List.{append-nil}
+use Rattle.std.proofs.lemmas.Option.{slice_get_read}
 use Rattle.postcard_tree.specs.Tree.{Tree, Trees, sequence, group, byte, part, end, bytes_of, count_of, number, text_of}
 use Rattle.postcard_tree.specs.Reading.{ReadsAll, ReadsByte, ReadsBytes, ReadsText, TakesAll, TakesArray, TakesByte, TakesOption, TakesSequence, TakesUpTo, TakesVariant, GroupOf}
 use Rattle.postcard_tree.specs.Fixed.{little_endian, big_endian, TakesFixed}
@@ -14,14 +15,19 @@ use Rattle.postcard_tree.specs.Once.{byte_taken, sequence_taken}
 use Rattle.schema_table.specs.declared.integer.IntegerType.{IntegerType}
 use Rattle.schema_table.specs.declared.node.Node.{Node}
 use Rattle.schema_table.specs.declared.node.Node.TheVariants as node
+use Rattle.schema_table.specs.declared.schema.Names.{Names}
+use Rattle.schema_table.specs.declared.schema.Names.TheVariants as names
 use Rattle.schema_table.specs.declared.schema.Schema.{Schema}
 use Rattle.schemas.specs.declared.integer.Integer.{Integer}
-use Rattle.schemas.specs.declared.value.Value.{Value, out-Value, LE, BE, Text, Bytes, Absent, Present, List as Listed, Group, Variant, the_lemmas}
+use Rattle.schemas.specs.declared.value.Value.{Value, out-Value, U8, LE, BE, Text, Bytes, Absent, Present, List as Listed, Group, Variant, the_lemmas}
 use Rattle.schemas.specs.declared.value.Value.TheOpen.{Value-F}
 use Rattle.schemas.specs.Integers.{width_of, type_of, bits_in, little_group, big_group, little_tree_of, big_tree_of}
 use Rattle.schemas.specs.Values.{tree_of, trees_in}
-use Rattle.schemas.specs.Schemas.{SchemaTakes, SchemaHas, TakesFields, TakesNode, TakesPayload, NodeHas, AtTop, OfList, OfGroup, OfOption, OfVariant, EachHas, FieldsHave, PayloadHas}
-use Rattle.wire_lib.specs.Looks.{names_at, node_at, is_byte_node, is_newtype_named, only_type, only_field, inside_of, two_types, pair_node}
+use Rattle.schemas.specs.Schemas.{SchemaTakes, SchemaHas, TakesFields, TakesNode, TakesPayload, NodeHas, AtTop, OfChar, OfText, OfList, OfGroup, OfOption, OfVariant, EachHas, FieldsHave, PayloadHas}
+use Rattle.json.specs.Json.{Json, null, boolean, number, string, array, object, Items, no_items, item, Members, no_members, member}
+use Rattle.wire_lib.specs.Looks.{variant_named, names_at, node_at, is_byte_node, is_newtype_named, only_type, only_field, inside_of, two_types, pair_node, only_part, only_value}
+use Rattle.wire_lib.specs.Meant.{Means, MeansNode, MeansEnum, MeansStruct, KeyMeans, KeyMeansBy, KeyMeansNode, chosen, AreBytes, AreBytesOf, MeansByte, MeansBytes, MeansItems, MeansMembers, MeansField, MeansFields, IsInteger, MeansNumber, MeansPlain, KeyMeansPlain}
+use Rattle.wire_lib.specs.Printed.{two_in, two_values}
 use Rattle.wire_lib.specs.Parsed.{IsGroupOf, IsOfType, IsOfNode, IsOfStruct, IsOfEnum, IsOfLeaf}
 
 -- one level of a value
@@ -53,7 +59,7 @@ tree-Group v = search (rules, the_lemmas)
 tree-Variant : (n : _) (v : _) → tree_of (Variant n v) ≡ group (part (number 32 n) (part (tree_of v.value) end))
 tree-Variant n v = search (rules, the_lemmas)
 
-top_by : (kind : Value-F Value → Type 0) (v : Value) (top : Value-F Value) → out-Value v ≡ top → kind top → AtTop kind v
+pub top_by : (kind : Value-F Value → Type 0) (v : Value) (top : Value-F Value) → out-Value v ≡ top → kind top → AtTop kind v
 top_by kind v top e h = subst kind (sym e) h
 
 count_in : (vs : List Value) → count_of (trees_in vs) ≡ length vs
@@ -73,6 +79,10 @@ at_place (suc depth) nodes i n v d e h = at_node depth nodes i n v e (subst (λ 
 pub ok_as : {A E : Type 0} {P Q : A → Type 0} (r : Result A E) → ((v : A) → P v → Q v) → IfOk r P → IfOk r Q
 ok_as (Ok v) f h = f v h
 ok_as (Err e) f h = tt
+
+pub ok_both : {A E : Type 0} {P Q R : A → Type 0} (r : Result A E) → ((v : A) → P v → Q v → R v) → IfOk r P → IfOk r Q → IfOk r R
+ok_both (Ok v) f h k = f v h k
+ok_both (Err e) f h k = tt
 
 pub leaf_ok : {E : Type 0} (depth : ℕ) (nodes : List Node) (n : Node) (r : Result Value E) → IfOk r (IsOfLeaf n) → IfOk r (IsOfNode depth nodes n)
 leaf_ok depth nodes n r h = ok_as r (λ v k. k depth nodes) h
@@ -276,3 +286,187 @@ of_newtype schema depth i k v w d e h g = of_group depth schema.nodes.items i (k
 pub of_pair : (schema : Schema) (depth : ℕ) (i : ℕ) (p : ℕ × ℕ) (v w x : Value) → depth ≢ 0 → pair_node (node_at schema i) ≡ Some p → IsOfType (depth - 1) schema.nodes.items p.0 v → IsOfType (depth - 1) schema.nodes.items p.1 w
     → IsGroupOf (v ∷ w ∷ []) x → IsOfType depth schema.nodes.items i x
 of_pair schema depth i p v w x d e h k g = of_group depth schema.nodes.items i (p.0 ∷ p.1 ∷ []) (v ∷ w ∷ []) x d (pair_struct (node_at schema i) p e) (h, (k, tt)) g
+
+-- what they mean
+
+pub little_means : (s : List ℕ) (i : Integer) → IsInteger s i → AtTop (MeansNumber s) (LE i)
+little_means s i h = top_by (MeansNumber s) (LE i) (Value-F.LE i) (search (rules, the_lemmas)) h
+
+pub big_means : (s : List ℕ) (i : Integer) → IsInteger s i → AtTop (MeansNumber s) (BE i)
+big_means s i h = top_by (MeansNumber s) (BE i) (Value-F.BE i) (search (rules, the_lemmas)) h
+
+pub text_means : (s : List ℕ) (t : String Global) → string_bytes t ≡ s → AtTop (MeansPlain (string s)) (Text t)
+text_means s t h = top_by (MeansPlain (string s)) (Text t) (Value-F.Text t) (search (rules, the_lemmas)) h
+
+pub bytes_mean : (j : Json) (v : Vec ℕ Global) → AreBytesOf j v.items → AtTop (MeansPlain j) (Bytes v)
+bytes_mean j v h = top_by (MeansPlain j) (Bytes v) (Value-F.Bytes v) (search (rules, the_lemmas)) (by_kind j h)
+  where
+    by_kind : (k : Json) → AreBytesOf k v.items → MeansPlain k (Value-F.Bytes v)
+    by_kind (array js) l = l
+    by_kind (string r) l = l
+    by_kind null l = l
+    by_kind (boolean b) l = l
+    by_kind (number r) l = l
+    by_kind (object ms) l = l
+
+-- the bytes of these elements so far, and these elements are left
+abbrev pub BytesSo : Items → Items → List ℕ → Type 0
+BytesSo all left bs = (more : List ℕ) → MeansBytes left more → MeansBytes all (bs ++ more)
+
+pub bytes_none : (all : Items) (bs : List ℕ) → bs ≡ [] → BytesSo all all bs
+bytes_none all bs e more h = rw e h
+
+pub bytes_more : (all left js : Items) (bs : List ℕ) (j : Json) (b : ℕ) → left ≡ item j js → BytesSo all left bs → MeansByte j b → BytesSo all js (bs ++ b ∷ [])
+bytes_more all left js bs j b e h k more m = subst (MeansBytes all) (sym (append_assoc bs (b ∷ []) more)) (h (b ∷ more) (subst (λ z. MeansBytes z (b ∷ more)) (sym e) (k, m)))
+
+pub bytes_all : (all left : Items) (bs : List ℕ) → left ≡ no_items → BytesSo all left bs → MeansBytes all bs
+bytes_all all left bs e h = subst (MeansBytes all) (append-nil bs) (h [] (subst (λ z. MeansBytes z []) (sym e) tt))
+
+-- the values of these bytes so far
+abbrev pub ValuesSo : List ℕ → List ℕ → List Value → Type 0
+ValuesSo all left vs = (more : List Value) → AreBytes left more → AreBytes all (vs ++ more)
+
+pub values_none : (all : List ℕ) (vs : List Value) → vs ≡ [] → ValuesSo all all vs
+values_none all vs e more h = rw e h
+
+pub values_more : (all left bs : List ℕ) (vs : List Value) (b : ℕ) → left ≡ b ∷ bs → ValuesSo all left vs → ValuesSo all bs (vs ++ U8 b ∷ [])
+values_more all left bs vs b e h more m = subst (AreBytes all) (sym (append_assoc vs (U8 b ∷ []) more)) (h (U8 b ∷ more) (subst (λ z. AreBytes z (U8 b ∷ more)) (sym e) (search (rules, the_lemmas), m)))
+
+pub values_all : (all left : List ℕ) (vs : List Value) → left ≡ [] → ValuesSo all left vs → AreBytes all vs
+values_all all left vs e h = subst (AreBytes all) (append-nil vs) (h [] (subst (λ z. AreBytes z []) (sym e) tt))
+
+-- keys
+
+char_named : (s : List ℕ) (top : Value-F Value) → OfChar top → MeansPlain (string s) top → KeyMeansPlain s top
+char_named s (Value-F.Char c) a h = h
+char_named s _ a h = absurd a
+
+text_named : (s : List ℕ) (top : Value-F Value) → OfText top → MeansPlain (string s) top → KeyMeansPlain s top
+text_named s (Value-F.Text t) a h = h
+text_named s _ a h = absurd a
+
+pub char_key : {E : Type 0} (s : List ℕ) (r : Result Value E) → IfOk r (IsOfLeaf node.Char) → IfOk r (AtTop (MeansPlain (string s))) → IfOk r (AtTop (KeyMeansPlain s))
+char_key s r h k = ok_both r (λ v a b. char_named s (out-Value v) (a 0 []).1 b) h k
+
+pub text_key : {E : Type 0} (s : List ℕ) (n : Node) (r : Result Value E) → ((top : Value-F Value) → NodeHas (SchemaHas 0 []) n top → OfText top) → IfOk r (IsOfLeaf n) → IfOk r (AtTop (MeansPlain (string s)))
+    → IfOk r (AtTop (KeyMeansPlain s))
+text_key s n r f h k = ok_both r (λ v a b. text_named s (out-Value v) (f (out-Value v) (a 0 []).1) b) h k
+
+-- elements, members and fields: so far these, and those are left
+
+abbrev pub ItemsSo : (Json → Value → Type 0) → Items → Items → List Value → Type 0
+ItemsSo means all left vs = (more : List Value) → MeansItems means left more → MeansItems means all (vs ++ more)
+
+pub items_none : (means : Json → Value → Type 0) (all : Items) (vs : List Value) → vs ≡ [] → ItemsSo means all all vs
+items_none means all vs e more h = rw e h
+
+pub items_more : (means : Json → Value → Type 0) (all left js : Items) (vs : List Value) (j : Json) (v : Value) → left ≡ item j js → ItemsSo means all left vs → means j v → ItemsSo means all js (vs ++ v ∷ [])
+items_more means all left js vs j v e h k more m = subst (MeansItems means all) (sym (append_assoc vs (v ∷ []) more)) (h (v ∷ more) (subst (λ z. MeansItems means z (v ∷ more)) (sym e) (k, m)))
+
+pub items_all : (means : Json → Value → Type 0) (all left : Items) (vs : List Value) → left ≡ no_items → ItemsSo means all left vs → MeansItems means all vs
+items_all means all left vs e h = subst (MeansItems means all) (append-nil vs) (h [] (subst (λ z. MeansItems means z []) (sym e) tt))
+
+abbrev pub MembersSo : (List ℕ → Json → Value → Type 0) → Members → Members → List Value → Type 0
+MembersSo pair all left vs = (more : List Value) → MeansMembers pair left more → MeansMembers pair all (vs ++ more)
+
+pub members_none : (pair : List ℕ → Json → Value → Type 0) (all : Members) (vs : List Value) → vs ≡ [] → MembersSo pair all all vs
+members_none pair all vs e more h = rw e h
+
+pub members_more : (pair : List ℕ → Json → Value → Type 0) (all left ms : Members) (vs : List Value) (s : List ℕ) (j : Json) (v : Value) → left ≡ member s j ms → MembersSo pair all left vs → pair s j v
+    → MembersSo pair all ms (vs ++ v ∷ [])
+members_more pair all left ms vs s j v e h k more m =
+    subst (MeansMembers pair all) (sym (append_assoc vs (v ∷ []) more)) (h (v ∷ more) (subst (λ z. MeansMembers pair z (v ∷ more)) (sym e) (k, m)))
+
+pub members_all : (pair : List ℕ → Json → Value → Type 0) (all left : Members) (vs : List Value) → left ≡ no_members → MembersSo pair all left vs → MeansMembers pair all vs
+members_all pair all left vs e h = subst (MeansMembers pair all) (append-nil vs) (h [] (subst (λ z. MeansMembers pair z []) (sym e) tt))
+
+abbrev pub PartsSo : Names → Json → (ℕ → Json → Value → Type 0) → ℕ → List ℕ → List ℕ → List Value → Type 0
+PartsSo named j means n all left vs = (more : List Value) → MeansFields named j means n left more → MeansFields named j means 0 all (vs ++ more)
+
+pub parts_none : (named : Names) (j : Json) (means : ℕ → Json → Value → Type 0) (all : List ℕ) (vs : List Value) → vs ≡ [] → PartsSo named j means 0 all all vs
+parts_none named j means all vs e more h = rw e h
+
+pub parts_more : (named : Names) (j : Json) (means : ℕ → Json → Value → Type 0) (n : ℕ) (all left is : List ℕ) (vs : List Value) (i : ℕ) (v : Value) → left ≡ i ∷ is → PartsSo named j means n all left vs
+    → MeansField named j (means i) n v → PartsSo named j means (n + 1) all is (vs ++ v ∷ [])
+parts_more named j means n all left is vs i v e h k more m =
+    subst (MeansFields named j means 0 all) (sym (append_assoc vs (v ∷ []) more)) (h (v ∷ more) (subst (λ z. MeansFields named j means n z (v ∷ more)) (sym e) (k, m)))
+
+pub parts_all : (named : Names) (j : Json) (means : ℕ → Json → Value → Type 0) (n : ℕ) (all left : List ℕ) (vs : List Value) → left ≡ [] → PartsSo named j means n all left vs → MeansFields named j means 0 all vs
+parts_all named j means n all left vs e h = subst (MeansFields named j means 0 all) (append-nil vs) (h [] (subst (λ z. MeansFields named j means n z []) (sym e) tt))
+
+-- variants
+
+pub named_at : (named : Names) (v : Vec (String Global) Global) (n : ℕ) (s : String Global) (w : List ℕ) → named ≡ names.Variants v → slice_get v.items n ≡ Some s → string_bytes s ≡ w → variant_named (Some named) n ≡ Some w
+named_at named v n s w e f g = rw e (rw f (ap Some g))
+
+pub variant_means : (named : Option Names) (is : List ℕ) (means : ℕ → Json → Value → Type 0) (j : Json) (n : ℕ) (v : Box Value Global) (s : List ℕ) (k : Json) → chosen j ≡ Some (s, k) → variant_named named n ≡ Some s → n < length is
+    → means (get_or is n 0) k v.value → AtTop (MeansEnum named is means (chosen j)) (Variant n v)
+variant_means named is means j n v s k e f l h =
+    top_by (MeansEnum named is means (chosen j)) (Variant n v) (Value-F.Variant n v) (search (rules, the_lemmas)) (rw e (f, (get_or is n 0, slice_get_read is (length is) n (get_or is n 0) refl l (get_or_same is n 0 l), h)))
+  where
+    get_or_same : (xs : List ℕ) (m x : ℕ) → m < length xs → get_or xs m x ≡ get_or xs m (get_or xs m x)
+    get_or_same [] m x i = absurd (omega (arith, i))
+    get_or_same (y ∷ ys) zero x i = refl
+    get_or_same (y ∷ ys) (suc m) x i = get_or_same ys m x (omega (arith, i))
+
+-- values of nodes
+
+means_node : (schema : Schema) (depth i : ℕ) (n : Node) (m : Names) (j : Json) (v : Value) → node_at schema i ≡ Some n → names_at schema i ≡ Some m
+    → AtTop (MeansNode schema (Some m) (Means schema depth) (Some n) j) v → Means schema (suc depth) i None j v
+unfolding Means
+means_node schema depth i n m j v e f h =
+    subst (λ o. MeansNode schema (names_at schema i) (Means schema depth) o j (out-Value v)) (sym e) (subst (λ x. MeansNode schema x (Means schema depth) (Some n) j (out-Value v)) (sym f) h)
+
+pub means_at : (schema : Schema) (depth i : ℕ) (n : Node) (m : Names) (j : Json) (v : Value) → depth ≢ 0 → node_at schema i ≡ Some n → names_at schema i ≡ Some m
+    → AtTop (MeansNode schema (Some m) (Means schema (depth - 1)) (Some n) j) v → Means schema depth i None j v
+means_at schema zero i n m j v d e f h = absurd (d refl)
+means_at schema (suc depth) i n m j v d e f h = means_node schema depth i n m j v e f (subst (λ k. AtTop (MeansNode schema (Some m) (Means schema k) (Some n) j) v) (omega arith) h)
+
+pub list_means : (means : List Value → Type 0) (w : Vec Value Global) (v : Value) → v ≡ Listed w → means w.items → AtTop (OfList means) v
+list_means means w v e h = subst (AtTop (OfList means)) (sym e) (top_by (OfList means) (Listed w) (Value-F.List w) (search (rules, the_lemmas)) h)
+
+pub struct_means : (m : Names) (is : List ℕ) (means : ℕ → Json → Value → Type 0) (j : Json) (w : Vec Value Global) → MeansFields m j means 0 is w.items → AtTop (OfGroup (MeansStruct (Some m) is means j)) (Group w)
+struct_means m is means j w h = top_by (OfGroup (MeansStruct (Some m) is means j)) (Group w) (Value-F.Group w) (search (rules, the_lemmas)) h
+
+-- members
+
+two_out : (v w x : Value) → IsGroupOf (v ∷ w ∷ []) x → two_values (out-Value x) ≡ Some (v, w)
+two_out v w x g =
+    let e : out-Value (Group g.0) ≡ Value-F.Group g.0 = search (rules, the_lemmas) in
+    ap (λ y. two_values (out-Value y)) g.1 ∙ (ap two_values e ∙ ap two_in g.2)
+
+member_node : (schema : Schema) (depth i : ℕ) (p : ℕ × ℕ) (s : List ℕ) (j : Json) (v w x : Value) → pair_node (node_at schema i) ≡ Some p → two_values (out-Value x) ≡ Some (v, w) → KeyMeans schema depth p.0 s v
+    → Means schema depth p.1 None j w → Means schema (suc depth) i (Some s) j x
+unfolding Means
+member_node schema depth i p s j v w x e f h k = rw e (rw f (h, k))
+
+pub member_means : (schema : Schema) (depth i : ℕ) (p : ℕ × ℕ) (s : List ℕ) (j : Json) (v w x : Value) → depth ≢ 0 → pair_node (node_at schema i) ≡ Some p → KeyMeans schema (depth - 1) p.0 s v
+    → Means schema (depth - 1) p.1 None j w → IsGroupOf (v ∷ w ∷ []) x → Means schema depth i (Some s) j x
+member_means schema zero i p s j v w x d e h k g = absurd (d refl)
+member_means schema (suc depth) i p s j v w x d e h k g =
+    let same : suc depth - 1 ≡ depth = omega arith in
+    member_node schema depth i p s j v w x e (two_out v w x g) (subst (λ y. KeyMeans schema y p.0 s v) same h) (subst (λ y. Means schema y p.1 None j w) same k)
+
+one_out : (w v : Value) → IsGroupOf (w ∷ []) v → only_part (out-Value v) ≡ Some w
+one_out w v g =
+    let e : out-Value (Group g.0) ≡ Value-F.Group g.0 = search (rules, the_lemmas) in
+    ap (λ y. only_part (out-Value y)) g.1 ∙ (ap only_part e ∙ ap only_value g.2)
+
+key_node : (schema : Schema) (depth i : ℕ) (o : Option ℕ) (s : List ℕ) (v : Value) → inside_of schema i ≡ o
+    → KeyMeansBy o (λ k w. KeyMeans schema depth k s w) (λ w. KeyMeansNode (names_at schema i) (node_at schema i) s (out-Value w)) v → KeyMeans schema (suc depth) i s v
+unfolding KeyMeans
+key_node schema depth i o s v e h = rw e h
+
+pub key_inside : (schema : Schema) (depth i k : ℕ) (s : List ℕ) (w v : Value) → depth ≢ 0 → inside_of schema i ≡ Some k → KeyMeans schema (depth - 1) k s w → IsGroupOf (w ∷ []) v → KeyMeans schema depth i s v
+key_inside schema zero i k s w v d e h g = absurd (d refl)
+key_inside schema (suc depth) i k s w v d e h g = key_node schema depth i (Some k) s v e (w, one_out w v g, subst (λ y. KeyMeans schema y k s w) (omega arith) h)
+
+pub key_at_node : (schema : Schema) (depth i : ℕ) (n : Node) (m : Names) (s : List ℕ) (v : Value) → depth ≢ 0 → inside_of schema i ≡ None → node_at schema i ≡ Some n → names_at schema i ≡ Some m
+    → AtTop (KeyMeansNode (Some m) (Some n) s) v → KeyMeans schema depth i s v
+key_at_node schema zero i n m s v d o e f h = absurd (d refl)
+key_at_node schema (suc depth) i n m s v d o e f h =
+    key_node schema depth i None s v o (subst (λ y. KeyMeansNode (names_at schema i) y s (out-Value v)) (sym e) (subst (λ x. KeyMeansNode x (Some n) s (out-Value v)) (sym f) h))
+
+pub plain_node_key : (named : Option Names) (n : Node) (s : List ℕ) (top : Value-F Value) → ((is : Vec ℕ Global) → n ≢ node.Enum is) → KeyMeansPlain s top → KeyMeansNode named (Some n) s top
+plain_node_key named (node.Enum is) s top f h = absurd (f is refl)
+plain_node_key named _ s top f h = h

@@ -3,6 +3,7 @@ pub mod Drawn
 pub mod Fronts
 pub mod Kinds
 pub mod Looks
+pub mod Meant
 pub mod Parsed
 pub mod Pictures
 pub mod Printable

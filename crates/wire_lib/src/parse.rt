@@ -1,9 +1,13 @@
 //! Values from JSON.
-ghost use Rattle.std.specs.Prelude.{◌≡◌, ◌≤◌, [], ◌∷◌, IfOk, IfSome, length};
+ghost use Rattle.std.specs.Prelude.{◌≡◌, ◌+◌, ◌*◌, ◌≤◌, [], ◌∷◌, IfOk, IfSome, None, Some, codes, length};
+ghost use Rattle.json.specs.Json.{value as json_value, member, no_members, object, string};
+ghost use Rattle.json.specs.Value.{items_view, members_view, value_view};
 ghost use Rattle.schema_table.specs.declared.node.Node.TheVariants as kind;
 ghost use Rattle.schemas.specs.declared.value.Value.{Group, List as Listed};
 ghost use Rattle.schemas.specs.Integers.{type_of};
-ghost use Rattle.schemas.specs.Schemas.{EachHas};
+ghost use Rattle.schemas.specs.Schemas.{AtTop, EachHas, OfGroup};
+ghost use Rattle.wire_lib.specs.Looks.{null_within, variant_named};
+ghost use Rattle.wire_lib.specs.Meant.{AreBytes, AreBytesOf, IsHex, IsInteger, IsNamed, KeyMeans, KeyMeansPlain, Means, MeansByte, MeansBytes, MeansElements, MeansEnum, MeansField, MeansItems, MeansLine, MeansList, MeansMembers, MeansNode, MeansNumber, MeansOption, MeansPlain, MeansPresent, MeansStruct, MeansText, chosen, field_json, held_json};
 ghost use Rattle.wire_lib.specs.Parsed.{IsGroupOf, IsOfEnum, IsOfLeaf, IsOfNode, IsOfStruct, IsOfType};
 
 use crate::floats::{float_of_number, float_of_word};
@@ -12,6 +16,7 @@ use crate::looks::{
     pair_of,
 };
 use crate::wrong::{ParseError, at_column, inside, inside_element, refusal};
+use hex::FromHexError;
 use json::{Error, Reader, Scratch, Value as Json};
 use schema_table::{Names, Schema};
 use schemas::{Integer, IntegerType, Node, Value};
@@ -27,7 +32,8 @@ const TOO_DEEP: &str = "the value is nested too deeply: `depth=` sets the limit"
 const NO_TYPE: &str = "the schema has no such type";
 
 fn boolean(json: &Json<'_>) -> Parsed
-    ensures { IfOk result (IsOfLeaf kind.Bool) }
+    ensures of_type { IfOk result (IsOfLeaf kind.Bool) }
+    ensures means { IfOk result (AtTop (MeansPlain (value_view json.now))) }
 {
     match json {
         Json::Bool(b) => Ok(Value::Bool(*b)),
@@ -37,7 +43,8 @@ fn boolean(json: &Json<'_>) -> Parsed
 
 /// A character from a string of one character.
 fn character(json: &Json<'_>) -> Parsed
-    ensures { IfOk result (IsOfLeaf kind.Char) }
+    ensures of_type { IfOk result (IsOfLeaf kind.Char) }
+    ensures means { IfOk result (AtTop (MeansPlain (value_view json.now))) }
 {
     match json {
         Json::String(text) => char_of(text),
@@ -47,7 +54,8 @@ fn character(json: &Json<'_>) -> Parsed
 
 /// The only character of a text.
 fn char_of(text: &str) -> Parsed
-    ensures { IfOk result (IsOfLeaf kind.Char) }
+    ensures of_type { IfOk result (IsOfLeaf kind.Char) }
+    ensures means { IfOk result (AtTop (MeansPlain (string text.now))) }
 {
     let mut characters = text.chars();
     match (characters.next(), characters.next()) {
@@ -58,13 +66,15 @@ fn char_of(text: &str) -> Parsed
 
 /// A text.
 fn text_of(alloc: Global, held: &str) -> Parsed
-    ensures { IfOk result (IsOfLeaf kind.Text) }
+    ensures of_type { IfOk result (IsOfLeaf kind.Text) }
+    ensures means { IfOk result (AtTop (MeansPlain (string held.now))) }
 {
     Ok(Value::Text(String::from_str(alloc, held)?))
 }
 
 fn text(alloc: Global, json: &Json<'_>) -> Parsed
-    ensures { IfOk result (IsOfLeaf kind.Text) }
+    ensures of_type { IfOk result (IsOfLeaf kind.Text) }
+    ensures means { IfOk result (AtTop (MeansPlain (value_view json.now))) }
 {
     match json {
         Json::String(held) => text_of(alloc, held),
@@ -74,7 +84,8 @@ fn text(alloc: Global, json: &Json<'_>) -> Parsed
 
 /// A text of at most `most` bytes.
 fn text_up_to(alloc: Global, most: u64, held: &str) -> Parsed
-    ensures { IfOk result (IsOfLeaf (kind.TextUpTo most)) }
+    ensures of_type { IfOk result (IsOfLeaf (kind.TextUpTo most)) }
+    ensures means { IfOk result (AtTop (MeansPlain (string held.now))) }
 {
     if held.len() as u64 > most {
         return Err(refusal("the string is too long"));
@@ -84,7 +95,8 @@ fn text_up_to(alloc: Global, most: u64, held: &str) -> Parsed
 
 /// The same from JSON.
 fn short_text(alloc: Global, most: u64, json: &Json<'_>) -> Parsed
-    ensures { IfOk result (IsOfLeaf (kind.TextUpTo most)) }
+    ensures of_type { IfOk result (IsOfLeaf (kind.TextUpTo most)) }
+    ensures means { IfOk result (AtTop (MeansPlain (value_view json.now))) }
 {
     match json {
         Json::String(held) => text_up_to(alloc, most, held),
@@ -93,7 +105,9 @@ fn short_text(alloc: Global, most: u64, json: &Json<'_>) -> Parsed
 }
 
 /// A byte from a number.
-fn byte(json: &Json<'_>) -> Result<u8, ParseError> {
+fn byte(json: &Json<'_>) -> Result<u8, ParseError>
+    ensures { IfOk result (MeansByte (value_view json.now)) }
+{
     match json {
         Json::Number(text) => match text.parse::<u8>() {
             Ok(byte) => Ok(byte),
@@ -104,7 +118,9 @@ fn byte(json: &Json<'_>) -> Result<u8, ParseError> {
 }
 
 /// Bytes from an array of numbers.
-fn bytes_of_numbers(alloc: Global, elements: &[Json<'_>]) -> Result<Vec<u8>, ParseError> {
+fn bytes_of_numbers(alloc: Global, elements: &[Json<'_>]) -> Result<Vec<u8>, ParseError>
+    ensures { IfOk result (λ v. MeansBytes (items_view elements.now) v.items) }
+{
     let mut bytes = Vec::new(alloc);
     for element in elements {
         match byte(element) {
@@ -116,16 +132,20 @@ fn bytes_of_numbers(alloc: Global, elements: &[Json<'_>]) -> Result<Vec<u8>, Par
 }
 
 /// Bytes from hexadecimal digits.
-fn bytes_of_digits(alloc: Global, digits: &str) -> Result<Vec<u8>, ParseError> {
-    let mut bytes = Vec::from_elem(alloc, 0, digits.len() / 2)?;
-    match hex::decode_to_slice(digits.as_bytes(), &mut bytes) {
-        Ok(()) => Ok(bytes),
+fn bytes_of_digits(alloc: Global, digits: &str) -> Result<Vec<u8>, ParseError>
+    ensures { IfOk result (λ v. IsHex digits.now v.items) }
+{
+    match hex::decode(alloc, digits) {
+        Ok(bytes) => Ok(bytes),
+        Err(FromHexError::OutOfMemory) => Err(ParseError::OutOfMemory),
         Err(_) => Err(refusal("the string isn't hexadecimal")),
     }
 }
 
 /// Bytes from an array of numbers or from hexadecimal digits.
-fn bytes_of(alloc: Global, json: &Json<'_>) -> Result<Vec<u8>, ParseError> {
+fn bytes_of(alloc: Global, json: &Json<'_>) -> Result<Vec<u8>, ParseError>
+    ensures { IfOk result (λ v. AreBytesOf (value_view json.now) v.items) }
+{
     match json {
         Json::Array(elements) => bytes_of_numbers(alloc, elements),
         Json::String(digits) => bytes_of_digits(alloc, digits),
@@ -134,7 +154,8 @@ fn bytes_of(alloc: Global, json: &Json<'_>) -> Result<Vec<u8>, ParseError> {
 }
 
 fn bytes(alloc: Global, json: &Json<'_>) -> Parsed
-    ensures { IfOk result (IsOfLeaf kind.Bytes) }
+    ensures of_type { IfOk result (IsOfLeaf kind.Bytes) }
+    ensures means { IfOk result (AtTop (MeansPlain (value_view json.now))) }
 {
     match bytes_of(alloc, json) {
         Ok(bytes) => Ok(Value::Bytes(bytes)),
@@ -144,7 +165,8 @@ fn bytes(alloc: Global, json: &Json<'_>) -> Parsed
 
 /// An integer, if it is in the range of the type.
 fn integer_of(of: IntegerType, text: &str) -> Option<Integer>
-    ensures { IfSome result (λ i. type_of i ≡ of) }
+    ensures of_type { IfSome result (λ i. type_of i ≡ of) }
+    ensures means { IfSome result (IsInteger text.now) }
 {
     match of {
         IntegerType::U16 => text.parse().ok().map(Integer::U16),
@@ -160,7 +182,8 @@ fn integer_of(of: IntegerType, text: &str) -> Option<Integer>
 
 /// A number, if it is in the range of the type.
 fn number_of(node: &Node, text: &str) -> Option<Value>
-    ensures { IfSome result (IsOfLeaf node.now) }
+    ensures of_type { IfSome result (IsOfLeaf node.now) }
+    ensures means { IfSome result (AtTop (MeansNumber text.now)) }
 {
     match node {
         Node::U8 => text.parse().ok().map(Value::U8),
@@ -213,7 +236,8 @@ fn is_of_fraction(c: char) -> bool {
 }
 
 fn number(node: &Node, json: &Json<'_>) -> Parsed
-    ensures { IfOk result (IsOfLeaf node.now) }
+    ensures of_type { IfOk result (IsOfLeaf node.now) }
+    ensures means { IfOk result (AtTop (MeansPlain (value_view json.now))) }
 {
     let Json::Number(text) = json else {
         return Err(refusal("expected a number"));
@@ -244,18 +268,34 @@ fn float(of: IntegerType, json: &Json<'_>) -> Parsed
     }
 }
 
+/// The only member of an object.
+fn only_member<'a, 'b>(json: &'b Json<'a>) -> Option<(&'a str, &'b Json<'a>)>
+    ensures { IfSome result (λ m. value_view json.now ≡ object (member m.0.now (value_view m.1.now)
+        no_members)) }
+{
+    let Json::Object(members) = json else {
+        return None;
+    };
+    match members.as_slice() {
+        [(name, held)] => Some((name, held)),
+        _ => None,
+    }
+}
+
 /// The JSON of a present optional value, which isn't `null`.
 fn present<'a, 'b>(
     schema: &Schema,
     place: usize,
     json: &'b Json<'a>,
-) -> Result<&'b Json<'a>, ParseError> {
+) -> Result<&'b Json<'a>, ParseError>
+    ensures { IfOk result (λ held. MeansPresent
+        (null_within (length schema.now.nodes.items) schema.now place) (λ j. j ≡ value_view held.now) (value_view json.now)) }
+{
     if !may_be_null(schema, place) {
         return Ok(json);
     }
-    if let Json::Object(members) = json
-        && let [(name, held)] = members.as_slice()
-        && *name == PRESENT
+    if let Some((name, held)) = only_member(json)
+        && name == PRESENT
     {
         return Ok(held);
     }
@@ -264,7 +304,8 @@ fn present<'a, 'b>(
 
 #[cycle(parse)]
 fn option(alloc: Global, schema: &Schema, place: usize, depth: u32, json: &Json<'_>) -> Parsed
-    ensures { IfOk result (IsOfNode depth schema.now.nodes.items (kind.Option place)) }
+    ensures of_type { IfOk result (IsOfNode depth schema.now.nodes.items (kind.Option place)) }
+    ensures means { IfOk result (AtTop (MeansOption schema.now place (Means schema.now depth place None) (value_view json.now))) }
 {
     if json.is_null() {
         return Ok(Value::Absent);
@@ -283,7 +324,8 @@ fn items(
     depth: u32,
     elements: &[Json<'_>],
 ) -> Result<Vec<Value>, ParseError>
-    ensures { IfOk result (λ v. EachHas (IsOfType depth schema.now.nodes.items place) v.items) }
+    ensures of_type { IfOk result (λ v. EachHas (IsOfType depth schema.now.nodes.items place) v.items) }
+    ensures means { IfOk result (λ v. MeansItems (Means schema.now depth place None) (items_view elements.now) v.items) }
 {
     let mut items = Vec::new(alloc);
     for element in elements {
@@ -297,7 +339,8 @@ fn items(
 
 /// Bytes as values.
 fn byte_values(alloc: Global, bytes: &[u8]) -> Result<Vec<Value>, ParseError>
-    ensures { IfOk result (λ v. EachHas (IsOfLeaf kind.U8) v.items) }
+    ensures of_type { IfOk result (λ v. EachHas (IsOfLeaf kind.U8) v.items) }
+    ensures means { IfOk result (λ v. AreBytes bytes.now v.items) }
 {
     let mut items = Vec::new(alloc);
     for byte in bytes {
@@ -315,7 +358,8 @@ fn elements(
     depth: u32,
     json: &Json<'_>,
 ) -> Result<Vec<Value>, ParseError>
-    ensures { IfOk result (λ v. EachHas (IsOfType depth schema.now.nodes.items place) v.items) }
+    ensures of_type { IfOk result (λ v. EachHas (IsOfType depth schema.now.nodes.items place) v.items) }
+    ensures means { IfOk result (λ v. MeansElements (Means schema.now depth place None) (value_view json.now) v.items) }
 {
     match json {
         Json::Array(elements) => items(alloc, schema, place, depth, elements),
@@ -332,7 +376,8 @@ fn elements(
 
 /// A boolean from a key.
 fn truth_of(key: &str) -> Parsed
-    ensures { IfOk result (IsOfLeaf kind.Bool) }
+    ensures of_type { IfOk result (IsOfLeaf kind.Bool) }
+    ensures means { IfOk result (AtTop (KeyMeansPlain key.now)) }
 {
     match key {
         "true" => Ok(Value::Bool(true)),
@@ -343,7 +388,8 @@ fn truth_of(key: &str) -> Parsed
 
 /// A number from a key.
 fn number_key(node: &Node, key: &str) -> Parsed
-    ensures { IfOk result (IsOfLeaf node.now) }
+    ensures of_type { IfOk result (IsOfLeaf node.now) }
+    ensures means { IfOk result (AtTop (MeansNumber key.now)) }
 {
     match number_of(node, key) {
         Some(value) => Ok(value),
@@ -353,7 +399,8 @@ fn number_key(node: &Node, key: &str) -> Parsed
 
 /// A value from a key, newtypes and enums apart.
 fn plain_key(alloc: Global, node: &Node, key: &str) -> Parsed
-    ensures { IfOk result (IsOfLeaf node.now) }
+    ensures of_type { IfOk result (IsOfLeaf node.now) }
+    ensures means { IfOk result (AtTop (KeyMeansPlain key.now)) }
 {
     match node {
         Node::Bool => truth_of(key),
@@ -374,7 +421,8 @@ fn variant_key(
     depth: u32,
     key: &str,
 ) -> Parsed
-    ensures { IfOk result (IsOfEnum depth schema.now.nodes.items payloads.now) }
+    ensures of_type { IfOk result (IsOfEnum depth schema.now.nodes.items payloads.now) }
+    ensures means { IfOk result (AtTop (IsNamed (Some names.now) key.now)) }
 {
     let Some(index) = index_of(names, key) else {
         return Err(refusal("the type has no such variant"));
@@ -389,7 +437,8 @@ fn variant_key(
 /// The key of a map from a member's name.
 #[cycle(parse)]
 fn key_of(alloc: Global, schema: &Schema, place: usize, depth: u32, key: &str) -> Parsed
-    ensures { IfOk result (IsOfType depth schema.now.nodes.items place) }
+    ensures of_type { IfOk result (IsOfType depth schema.now.nodes.items place) }
+    ensures means { IfOk result (KeyMeans schema.now depth place key.now) }
 {
     if depth == 0 {
         return Err(refusal(TOO_DEEP));
@@ -439,7 +488,8 @@ fn member(
     key: &str,
     json: &Json<'_>,
 ) -> Parsed
-    ensures { IfOk result (IsOfType depth schema.now.nodes.items place) }
+    ensures of_type { IfOk result (IsOfType depth schema.now.nodes.items place) }
+    ensures means { IfOk result (Means schema.now depth place (Some key.now) (value_view json.now)) }
 {
     if depth == 0 {
         return Err(refusal(TOO_DEEP));
@@ -461,7 +511,8 @@ fn pairs(
     depth: u32,
     members: &[(&str, Json<'_>)],
 ) -> Result<Vec<Value>, ParseError>
-    ensures { IfOk result (λ v. EachHas (IsOfType depth schema.now.nodes.items place) v.items) }
+    ensures of_type { IfOk result (λ v. EachHas (IsOfType depth schema.now.nodes.items place) v.items) }
+    ensures means { IfOk result (λ v. MeansMembers (λ s. Means schema.now depth place (Some s)) (members_view members.now) v.items) }
 {
     let mut items = Vec::new(alloc);
     for (key, json) in members {
@@ -483,7 +534,8 @@ fn list(
     depth: u32,
     json: &Json<'_>,
 ) -> Result<Vec<Value>, ParseError>
-    ensures { IfOk result (λ v. EachHas (IsOfType depth schema.now.nodes.items place) v.items) }
+    ensures of_type { IfOk result (λ v. EachHas (IsOfType depth schema.now.nodes.items place) v.items) }
+    ensures means { IfOk result (λ v. MeansList (Means schema.now depth place None) (λ s. Means schema.now depth place (Some s)) (value_view json.now) v.items) }
 {
     match (names, json) {
         (Names::Map, Json::Object(members)) if has_text_keys(schema, place) => {
@@ -515,23 +567,16 @@ fn array(count: u64, items: Vec<Value>) -> Parsed
     Ok(Value::Group(items))
 }
 
-/// The value of the first member with this name.
-fn named<'a, 'b>(members: &'b [(&'a str, Json<'a>)], name: &str) -> Option<&'b Json<'a>> {
-    for (key, json) in members {
-        if *key == name {
-            return Some(json);
-        }
-    }
-    None
-}
-
 /// The JSON of field `i`.
-fn part<'a, 'b>(names: &Names, i: usize, json: &'b Json<'a>) -> Result<&'b Json<'a>, &'static str> {
-    match (names, json) {
-        (Names::Newtype, _) => Ok(json),
-        (Names::Tuple, Json::Array(elements)) => elements.get(i).ok_or(NO_TYPE),
-        (Names::Fields(names), Json::Object(members)) => match names.get(i) {
-            Some(name) => named(members, name.as_str()).ok_or("a field is missing"),
+fn part<'a, 'b>(names: &Names, i: usize, json: &'b Json<'a>) -> Result<&'b Json<'a>, &'static str>
+    ensures { IfOk result (λ held. field_json names.now i (value_view json.now)
+        ≡ Some (value_view held.now)) }
+{
+    match names {
+        Names::Newtype => Ok(json),
+        Names::Tuple => json.at(i).ok_or(NO_TYPE),
+        Names::Fields(names) => match names.get(i) {
+            Some(name) => json.get(name.as_str()).ok_or("a field is missing"),
             None => Err(NO_TYPE),
         },
         _ => Err(NO_TYPE),
@@ -582,6 +627,16 @@ fn has_name(names: &[String], wanted: &str) -> bool {
     false
 }
 
+/// Whether a member has this name.
+fn has_member(members: &[(&str, Json<'_>)], wanted: &str) -> bool {
+    for (name, _) in members {
+        if *name == wanted {
+            return true;
+        }
+    }
+    false
+}
+
 /// The first name that appears twice.
 fn doubled<'a>(members: &[(&'a str, Json<'a>)]) -> Option<&'a str> {
     let mut rest = members;
@@ -589,7 +644,7 @@ fn doubled<'a>(members: &[(&'a str, Json<'a>)]) -> Option<&'a str> {
         let [(name, _), behind @ ..] = rest else {
             return None;
         };
-        if named(behind, name).is_some() {
+        if has_member(behind, name) {
             return Some(name);
         }
         rest = behind;
@@ -626,7 +681,8 @@ fn group(
     depth: u32,
     json: &Json<'_>,
 ) -> Parsed
-    ensures { IfOk result (IsOfStruct depth schema.now.nodes.items fields.now) }
+    ensures of_type { IfOk result (IsOfStruct depth schema.now.nodes.items fields.now) }
+    ensures means { IfOk result (AtTop (OfGroup (MeansStruct (Some names.now) fields.now (λ i. Means schema.now depth i None) (value_view json.now)))) }
 {
     if let Some(why) = misfit(names, fields.len(), json) {
         return Err(refusal(why));
@@ -653,7 +709,8 @@ fn field(
     depth: u32,
     json: &Json<'_>,
 ) -> Parsed
-    ensures { IfOk result (IsOfType depth schema.now.nodes.items place) }
+    ensures of_type { IfOk result (IsOfType depth schema.now.nodes.items place) }
+    ensures means { IfOk result (MeansField names.now (value_view json.now) (Means schema.now depth place None) i) }
 {
     match part(names, i, json) {
         Ok(held) => value(alloc, schema, place, depth, held),
@@ -662,19 +719,22 @@ fn field(
 }
 
 /// The name of a variant, and the JSON of its payload, if there is any.
-fn choice<'a, 'b>(json: &'b Json<'a>) -> Option<(&'a str, Option<&'b Json<'a>>)> {
-    match json {
-        Json::String(name) => Some((name, None)),
-        Json::Object(members) => match members.as_slice() {
-            [(name, held)] => Some((name, Some(held))),
-            _ => None,
-        },
-        _ => None,
+fn choice<'a, 'b>(json: &'b Json<'a>) -> Option<(&'a str, Option<&'b Json<'a>>)>
+    ensures { IfSome result (λ c. chosen (value_view json.now) ≡ Some (c.0.now, held_json c.1)) }
+{
+    if let Json::String(name) = json {
+        return Some((name, None));
+    }
+    match only_member(json) {
+        Some((name, held)) => Some((name, Some(held))),
+        None => None,
     }
 }
 
 /// The index of the variant with this name.
-fn index_of(names: &Names, wanted: &str) -> Option<u32> {
+fn index_of(names: &Names, wanted: &str) -> Option<u32>
+    ensures { IfSome result (λ n. variant_named (Some names.now) n ≡ Some wanted.now) }
+{
     let Names::Variants(names) = names else {
         return None;
     };
@@ -697,7 +757,8 @@ fn variant(
     depth: u32,
     json: &Json<'_>,
 ) -> Parsed
-    ensures { IfOk result (IsOfEnum depth schema.now.nodes.items payloads.now) }
+    ensures of_type { IfOk result (IsOfEnum depth schema.now.nodes.items payloads.now) }
+    ensures means { IfOk result (AtTop (MeansEnum (Some names.now) payloads.now (λ i. Means schema.now depth i None) (chosen (value_view json.now)))) }
 {
     let Some((name, held)) = choice(json) else {
         return Err(refusal("expected a variant"));
@@ -723,7 +784,8 @@ fn payload(
     depth: u32,
     held: Option<&Json<'_>>,
 ) -> Parsed
-    ensures { IfOk result (IsOfType depth schema.now.nodes.items place) }
+    ensures of_type { IfOk result (IsOfType depth schema.now.nodes.items place) }
+    ensures means { IfOk result (Means schema.now depth place None (held_json held.entry)) }
 {
     let is_empty = is_empty(schema, place);
     match held {
@@ -746,7 +808,8 @@ fn of_node(
     depth: u32,
     json: &Json<'_>,
 ) -> Parsed
-    ensures { IfOk result (IsOfNode depth schema.now.nodes.items node.now) }
+    ensures of_type { IfOk result (IsOfNode depth schema.now.nodes.items node.now) }
+    ensures means { IfOk result (AtTop (MeansNode schema.now (Some names.now) (Means schema.now depth) (Some node.now) (value_view json.now))) }
 {
     match node {
         Node::Bool => boolean(json),
@@ -772,7 +835,8 @@ fn of_node(
 /// The value of the type at index `place`, with at most `depth` nested nodes.
 #[cycle(parse)]
 fn value(alloc: Global, schema: &Schema, place: usize, depth: u32, json: &Json<'_>) -> Parsed
-    ensures { IfOk result (IsOfType depth schema.now.nodes.items place) }
+    ensures of_type { IfOk result (IsOfType depth schema.now.nodes.items place) }
+    ensures means { IfOk result (Means schema.now depth place None (value_view json.now)) }
 {
     if depth == 0 {
         return Err(refusal(TOO_DEEP));
@@ -787,12 +851,12 @@ fn value(alloc: Global, schema: &Schema, place: usize, depth: u32, json: &Json<'
 }
 
 /// The value of an object whose only member is `value`.
-fn value_in<'a, 'b>(json: &'b Json<'a>) -> Option<&'b Json<'a>> {
-    match json {
-        Json::Object(members) => match members.as_slice() {
-            [(name, held)] if *name == "value" => Some(held),
-            _ => None,
-        },
+fn value_in<'a, 'b>(json: &'b Json<'a>) -> Option<&'b Json<'a>>
+    ensures { IfSome result (λ held. value_view json.now ≡ object (member (codes "value")
+        (value_view held.now) no_members)) }
+{
+    match only_member(json) {
+        Some((name, held)) if name == "value" => Some(held),
         _ => None,
     }
 }
@@ -805,7 +869,8 @@ fn value_of_line(
     depth: u32,
     json: &Json<'_>,
 ) -> Parsed
-    ensures { IfOk result (IsOfType depth schema.now.nodes.items place) }
+    ensures of_type { IfOk result (IsOfType depth schema.now.nodes.items place) }
+    ensures means { IfOk result (MeansLine (Means schema.now depth place None) (value_view json.now)) }
 {
     let Some(held) = value_in(json) else {
         return value(alloc, schema, place, depth, json);
@@ -820,7 +885,9 @@ fn value_of_line(
 }
 
 /// How deep the JSON of a value with at most `depth` nested nodes can nest: each node has up to two brackets, and the line one.
-fn json_depth(depth: u32) -> usize {
+fn json_depth(depth: u32) -> usize
+    ensures { result ≡ 2 * depth + 2 }
+{
     (depth as usize).saturating_mul(2).saturating_add(2)
 }
 
@@ -829,7 +896,10 @@ fn json_of<'a>(
     alloc: Global,
     depth: u32,
     reader: &mut Reader<'a>,
-) -> Result<Option<Json<'a>>, ParseError> {
+) -> Result<Option<Json<'a>>, ParseError>
+    ensures { IfOk result (λ o. IfSome o (λ json. json_value (2 * depth + 2) reader.old
+        ≡ Some (value_view json, []))) }
+{
     match Json::read(alloc, reader, json_depth(depth)) {
         Ok(json) if reader.next().is_none() => Ok(Some(json)),
         Err(Error::OutOfMemory) => Err(ParseError::OutOfMemory),
@@ -868,7 +938,8 @@ fn no_json(alloc: Global, depth: u32, text: &str, offset: usize) -> ParseError {
 
 /// The value that a text contains, as the text says it.
 fn value_of_text(alloc: Global, schema: &Schema, place: usize, depth: u32, text: &str) -> Parsed
-    ensures { IfOk result (IsOfType depth schema.now.nodes.items place) }
+    ensures of_type { IfOk result (IsOfType depth schema.now.nodes.items place) }
+    ensures means { IfOk result (MeansText schema.now depth place text.now) }
 {
     let mut scratch = Scratch::new(alloc);
     let mut reader = Reader::new(text, &mut scratch)?;
@@ -890,7 +961,8 @@ fn value_of_text(alloc: Global, schema: &Schema, place: usize, depth: u32, text:
 ///   field, or another number of elements. It has the path to the fault.
 /// - `OutOfMemory`.
 pub fn parse(alloc: Global, schema: &Schema, place: usize, depth: u32, line: &[u8]) -> Parsed
-    ensures { IfOk result (λ v. IsOfType depth schema.now.nodes.items place v) }
+    ensures of_type { IfOk result (IsOfType depth schema.now.nodes.items place) }
+    ensures means { IfOk result (MeansText schema.now depth place line.now) }
 {
     let Ok(text) = from_utf8(line) else {
         return Err(refusal("the line isn't UTF-8"));

@@ -1,5 +1,6 @@
-use Rattle.wire_lib.proofs.ParsedLemmas.{bytes_leaf}
+use Rattle.json.specs.Value.{value_view}
+use Rattle.wire_lib.proofs.ParsedLemmas.{bytes_leaf, bytes_mean}
 use Rattle.wire_lib.proofs.parse.bytes.Goals as goal
 
 pub returns-in-Ok : goal.returns-in-Ok
-returns-in-Ok c = bytes_leaf c.in-Ok.bytes
+returns-in-Ok c = record { of_type = bytes_leaf c.in-Ok.bytes; means = bytes_mean (value_view c.args.json.now) c.in-Ok.bytes c.in-Ok.ensures }

@@ -1,7 +1,10 @@
 use Rattle.std.specs.Str.{IsUtf8}
 use Rattle.std.proofs.Common.{sym, subst}
-use Rattle.wire_lib.proofs.ParsedLemmas.{text_leaf}
+use Rattle.wire_lib.proofs.ParsedLemmas.{text_leaf, text_means}
 use Rattle.wire_lib.proofs.parse.text_of.Goals as goal
 
 pub returns : goal.returns
-returns c = text_leaf c.in_ok-from_str.field-0 (subst IsUtf8 (sym c.in_ok-from_str.ensures.ok) c.utf8.held)
+returns c =
+    let t = c.in_ok-from_str.field-0 in
+    let e = c.in_ok-from_str.ensures.ok in
+    record { of_type = text_leaf t (subst IsUtf8 (sym e) c.utf8.held); means = text_means c.args.held.now t e }
