@@ -3,7 +3,7 @@ ghost use Rattle.std.specs.Prelude.{◌≡◌, ◌<◌, ◌++◌, ◌&&◌, [], 
 ghost use Rattle.std.specs.Fmt.{signed_decimal};
 ghost use Rattle.std.specs.List.{slice_get};
 ghost use Rattle.hex.specs.Hex.{encode_lower};
-ghost use Rattle.json.specs.Json.{Json, null, number, string, array};
+ghost use Rattle.json.specs.Json.{Json, null, boolean, number, string, array};
 ghost use Rattle.json.specs.Print.{print as text_of};
 ghost use Rattle.json.specs.Token.{key};
 ghost use Rattle.json.specs.Tree.{json_tokens};
@@ -24,6 +24,7 @@ use std::alloc::{AllocError, Global};
 /// Printing fails only if out of memory: what isn't of the type is printed by the value alone.
 type Printed = Result<(), AllocError>;
 
+// Passed by reference: each call would copy it.
 /// The table, whether bytes are printed as hexadecimal text, and how many more nested nodes are allowed.
 #[derive(Clone, Copy, Drop)]
 struct Style<'a> {
@@ -46,6 +47,7 @@ fn put_digits(out: &mut Writer, digits: &str) -> Printed
 }
 
 /// Appends a number.
+#[inline(never)]
 fn put_u128(out: &mut Writer, n: u128) -> Printed
     ensures json { AppendsJson result out.old out.new (digits_json (decimal n)) }
     ensures before { out.new.before ≡ out.old.before }
@@ -55,6 +57,7 @@ fn put_u128(out: &mut Writer, n: u128) -> Printed
 }
 
 /// Appends a number that may be negative.
+#[inline(never)]
 fn put_i128(out: &mut Writer, n: i128) -> Printed
     ensures json { AppendsJson result out.old out.new (digits_json (signed_decimal n)) }
     ensures before { out.new.before ≡ out.old.before }
@@ -131,7 +134,7 @@ fn put_double(out: &mut Writer, alloc: Global, bits: u64) -> Printed
 }
 
 /// Appends a float from its bits.
-fn put_float(out: &mut Writer, style: Style<'_>, value: &Value) -> Printed
+fn put_float(out: &mut Writer, style: &Style<'_>, value: &Value) -> Printed
     ensures json { AppendsSome result out.old out.new }
     ensures before { out.new.before ≡ out.old.before }
 {
@@ -142,7 +145,26 @@ fn put_float(out: &mut Writer, style: Style<'_>, value: &Value) -> Printed
     }
 }
 
+/// Appends `null`.
+#[inline(never)]
+fn put_null(out: &mut Writer) -> Printed
+    ensures json { AppendsJson result out.old out.new null }
+    ensures before { out.new.before ≡ out.old.before }
+{
+    out.null()
+}
+
+/// Appends `true` or `false`.
+#[inline(never)]
+fn put_boolean(out: &mut Writer, b: bool) -> Printed
+    ensures json { AppendsJson result out.old out.new (boolean b) }
+    ensures before { out.new.before ≡ out.old.before }
+{
+    out.boolean(b)
+}
+
 /// Appends a text.
+#[inline(never)]
 fn put_text(out: &mut Writer, text: &str) -> Printed
     ensures json { AppendsJson result out.old out.new (string text.now) }
     ensures before { out.new.before ≡ out.old.before }
@@ -151,6 +173,7 @@ fn put_text(out: &mut Writer, text: &str) -> Printed
 }
 
 /// Appends a character as a text.
+#[inline(never)]
 fn put_char(out: &mut Writer, alloc: Global, c: char) -> Printed
     ensures json { AppendsJson result out.old out.new (string (encode_utf8 c)) }
     ensures before { out.new.before ≡ out.old.before }
@@ -182,8 +205,9 @@ fn put_hex(out: &mut Writer, alloc: Global, bytes: &[u8]) -> Printed
 }
 
 /// Appends bytes.
-fn put_bytes(out: &mut Writer, style: Style<'_>, bytes: &[u8]) -> Printed
-    ensures json { AppendsJson result out.old out.new (bytes_json style.entry.hex bytes.now) }
+#[inline(never)]
+fn put_bytes(out: &mut Writer, style: &Style<'_>, bytes: &[u8]) -> Printed
+    ensures json { AppendsJson result out.old out.new (bytes_json style.now.hex bytes.now) }
     ensures before { out.new.before ≡ out.old.before }
 {
     if style.hex {
@@ -192,14 +216,16 @@ fn put_bytes(out: &mut Writer, style: Style<'_>, bytes: &[u8]) -> Printed
     put_numbers(out, bytes)
 }
 
+// Most values are small numbers. Functions that need more registers or stack than `put_u64` aren't inlined here, since each number
+// would pay for them.
 /// Appends a value without parts; `null` for one with parts.
-fn put_plain(out: &mut Writer, style: Style<'_>, value: &Value) -> Printed
-    ensures json { AppendsJson result out.old out.new (plain_json style.entry.hex
+fn put_plain(out: &mut Writer, style: &Style<'_>, value: &Value) -> Printed
+    ensures json { AppendsJson result out.old out.new (plain_json style.now.hex
         (out-Value value.now)) }
     ensures before { out.new.before ≡ out.old.before }
 {
     match value {
-        Value::Bool(b) => out.boolean(*b),
+        Value::Bool(b) => put_boolean(out, *b),
         Value::U8(n) => put_u64(out, u64::from(*n)),
         Value::U16(n) => put_u64(out, u64::from(*n)),
         Value::U32(n) => put_u64(out, u64::from(*n)),
@@ -214,14 +240,14 @@ fn put_plain(out: &mut Writer, style: Style<'_>, value: &Value) -> Printed
         Value::Char(c) => put_char(out, style.alloc, *c),
         Value::Text(text) => put_text(out, text.as_str()),
         Value::Bytes(bytes) => put_bytes(out, style, bytes),
-        _ => out.null(),
+        _ => put_null(out),
     }
 }
 
 /// Appends an integer that is sent as its bytes, or a float.
-fn put_fixed(out: &mut Writer, style: Style<'_>, place: usize, value: &Value) -> Printed
+fn put_fixed(out: &mut Writer, style: &Style<'_>, place: usize, value: &Value) -> Printed
     ensures json { AppendsOne result out.old out.new
-        (ShowsInteger (is_float_named (names_at style.entry.schema.now place)) style.entry.hex
+        (ShowsInteger (is_float_named (names_at style.now.schema.now place)) style.now.hex
         (out-Value value.now)) }
     ensures before { out.new.before ≡ out.old.before }
 {
@@ -233,26 +259,26 @@ fn put_fixed(out: &mut Writer, style: Style<'_>, place: usize, value: &Value) ->
 
 /// Appends a value of the type at index `place`; parts nested too deeply become `null`.
 #[cycle(print)]
-fn put(out: &mut Writer, style: Style<'_>, place: usize, value: &Value) -> Printed
+fn put(out: &mut Writer, style: &Style<'_>, place: usize, value: &Value) -> Printed
     ensures json { AppendsOne result out.old out.new
-        (Shows style.entry.hex style.entry.schema.now style.entry.depth place value.now) }
+        (Shows style.now.hex style.now.schema.now style.now.depth place value.now) }
     ensures before { out.new.before ≡ out.old.before }
 {
     if style.depth == 0 {
-        return out.null();
+        return put_null(out);
     }
     let depth = style.depth - 1;
-    let style = Style { depth, ..style };
+    let below = Style { depth, ..*style };
     let Some(node) = node_of(style.schema, place) else {
         return put_plain(out, style, value);
     };
     match node {
-        Node::Option(inner) => put_option(out, style, *inner, value),
-        Node::List(inner) => put_list(out, style, place, *inner, value),
-        Node::ListUpTo(_, inner) => put_list(out, style, place, *inner, value),
-        Node::Array(_, inner) => put_array(out, style, *inner, value),
-        Node::Struct(fields) => put_struct(out, style, place, fields, value),
-        Node::Enum(payloads) => put_enum(out, style, place, payloads, value),
+        Node::Option(inner) => put_option(out, &below, *inner, value),
+        Node::List(inner) => put_list(out, &below, place, *inner, value),
+        Node::ListUpTo(_, inner) => put_list(out, &below, place, *inner, value),
+        Node::Array(_, inner) => put_array(out, &below, *inner, value),
+        Node::Struct(fields) => put_struct(out, &below, place, fields, value),
+        Node::Enum(payloads) => put_enum(out, &below, place, payloads, value),
         Node::LE(_) => put_fixed(out, style, place, value),
         _ => put_plain(out, style, value),
     }
@@ -260,10 +286,10 @@ fn put(out: &mut Writer, style: Style<'_>, place: usize, value: &Value) -> Print
 
 /// Appends an optional value.
 #[cycle(print)]
-fn put_option(out: &mut Writer, style: Style<'_>, inner: usize, value: &Value) -> Printed
+fn put_option(out: &mut Writer, style: &Style<'_>, inner: usize, value: &Value) -> Printed
     ensures json { AppendsOne result out.old out.new
-        (ShowsOption style.entry.schema.now inner
-        (Shows style.entry.hex style.entry.schema.now style.entry.depth inner)
+        (ShowsOption style.now.schema.now inner
+        (Shows style.now.hex style.now.schema.now style.now.depth inner)
         (out-Value value.now)) }
     ensures before { out.new.before ≡ out.old.before }
 {
@@ -278,10 +304,16 @@ fn put_option(out: &mut Writer, style: Style<'_>, inner: usize, value: &Value) -
 
 /// Appends a value as the only member of an object.
 #[cycle(print)]
-fn put_under(out: &mut Writer, style: Style<'_>, name: &str, place: usize, value: &Value) -> Printed
+fn put_under(
+    out: &mut Writer,
+    style: &Style<'_>,
+    name: &str,
+    place: usize,
+    value: &Value,
+) -> Printed
     ensures json { AppendsOne result out.old out.new
         (ShowsUnder name.now
-        (Shows style.entry.hex style.entry.schema.now style.entry.depth place value.now)) }
+        (Shows style.now.hex style.now.schema.now style.now.depth place value.now)) }
     ensures before { out.new.before ≡ out.old.before }
 {
     out.begin_object()?;
@@ -294,14 +326,14 @@ fn put_under(out: &mut Writer, style: Style<'_>, name: &str, place: usize, value
 #[cycle(print)]
 fn put_list(
     out: &mut Writer,
-    style: Style<'_>,
+    style: &Style<'_>,
     place: usize,
     inner: usize,
     value: &Value,
 ) -> Printed
     ensures json { AppendsOne result out.old out.new
-        (ShowsList style.entry.hex style.entry.schema.now place inner
-        (Shows style.entry.hex style.entry.schema.now style.entry.depth)
+        (ShowsList style.now.hex style.now.schema.now place inner
+        (Shows style.now.hex style.now.schema.now style.now.depth)
         (out-Value value.now)) }
     ensures before { out.new.before ≡ out.old.before }
 {
@@ -316,10 +348,10 @@ fn put_list(
 
 /// Appends an array.
 #[cycle(print)]
-fn put_array(out: &mut Writer, style: Style<'_>, inner: usize, value: &Value) -> Printed
+fn put_array(out: &mut Writer, style: &Style<'_>, inner: usize, value: &Value) -> Printed
     ensures json { AppendsOne result out.old out.new
-        (ShowsFixed style.entry.hex style.entry.schema.now inner
-        (Shows style.entry.hex style.entry.schema.now style.entry.depth inner)
+        (ShowsFixed style.now.hex style.now.schema.now inner
+        (Shows style.now.hex style.now.schema.now style.now.depth inner)
         (out-Value value.now)) }
     ensures before { out.new.before ≡ out.old.before }
 {
@@ -330,18 +362,18 @@ fn put_array(out: &mut Writer, style: Style<'_>, inner: usize, value: &Value) ->
 }
 
 /// Whether values of the type at index `place` are hexadecimal digits.
-fn are_digits(style: Style<'_>, place: usize) -> bool
-    ensures { result ≡ (style.entry.hex && is_byte_node (node_at style.entry.schema.now place)) }
+fn are_digits(style: &Style<'_>, place: usize) -> bool
+    ensures { result ≡ (style.now.hex && is_byte_node (node_at style.now.schema.now place)) }
 {
     style.hex && is_byte(style.schema, place)
 }
 
 /// Appends values of one type as an array, or bytes as a text.
 #[cycle(print)]
-fn put_elements(out: &mut Writer, style: Style<'_>, inner: usize, items: &[Value]) -> Printed
+fn put_elements(out: &mut Writer, style: &Style<'_>, inner: usize, items: &[Value]) -> Printed
     ensures json { AppendsOne result out.old out.new
-        (ShowsElements style.entry.hex (node_at style.entry.schema.now inner)
-        (Shows style.entry.hex style.entry.schema.now style.entry.depth inner) items.now) }
+        (ShowsElements style.now.hex (node_at style.now.schema.now inner)
+        (Shows style.now.hex style.now.schema.now style.now.depth inner) items.now) }
     ensures before { out.new.before ≡ out.old.before }
 {
     if are_digits(style, inner) {
@@ -366,10 +398,10 @@ fn bytes_of(alloc: Global, items: &[Value]) -> Result<Vec<u8>, AllocError>
 
 /// Appends values of one type as an array.
 #[cycle(print)]
-fn put_items(out: &mut Writer, style: Style<'_>, inner: usize, items: &[Value]) -> Printed
+fn put_items(out: &mut Writer, style: &Style<'_>, inner: usize, items: &[Value]) -> Printed
     ensures json { AppendsOne result out.old out.new
         (ShowsArray
-        (Shows style.entry.hex style.entry.schema.now style.entry.depth inner) items.now) }
+        (Shows style.now.hex style.now.schema.now style.now.depth inner) items.now) }
     ensures before { out.new.before ≡ out.old.before }
 {
     out.begin_array()?;
@@ -381,10 +413,10 @@ fn put_items(out: &mut Writer, style: Style<'_>, inner: usize, items: &[Value]) 
 
 /// Appends pairs as an object.
 #[cycle(print)]
-fn put_pairs(out: &mut Writer, style: Style<'_>, pair: usize, items: &[Value]) -> Printed
+fn put_pairs(out: &mut Writer, style: &Style<'_>, pair: usize, items: &[Value]) -> Printed
     ensures json { AppendsOne result out.old out.new
-        (ShowsObject (ShowsPair style.entry.schema.now pair
-        (Shows style.entry.hex style.entry.schema.now style.entry.depth)) items.now) }
+        (ShowsObject (ShowsPair style.now.schema.now pair
+        (Shows style.now.hex style.now.schema.now style.now.depth)) items.now) }
     ensures before { out.new.before ≡ out.old.before }
 {
     out.begin_object()?;
@@ -521,8 +553,8 @@ fn inside_newtypes<'a>(schema: &Schema, place: usize, value: &'a Value) -> (usiz
 }
 
 /// Appends a key of the type at index `place`: its text, its digits, or the name of a variant.
-fn put_key(out: &mut Writer, style: Style<'_>, place: usize, value: &Value) -> Printed
-    ensures key { AppendsKey result out.old out.new (key_text style.entry.schema.now place value.now) }
+fn put_key(out: &mut Writer, style: &Style<'_>, place: usize, value: &Value) -> Printed
+    ensures key { AppendsKey result out.old out.new (key_text style.now.schema.now place value.now) }
     ensures before { out.new.before ≡ out.old.before }
 {
     let (at, held) = inside_newtypes(style.schema, place, value);
@@ -552,10 +584,10 @@ fn two_of(value: &Value) -> Option<(&Value, &Value)>
 
 /// Appends a pair as a member; an empty one for what isn't a pair.
 #[cycle(print)]
-fn put_pair(out: &mut Writer, style: Style<'_>, pair: usize, item: &Value) -> Printed
+fn put_pair(out: &mut Writer, style: &Style<'_>, pair: usize, item: &Value) -> Printed
     ensures member { AppendsMember result out.old out.new
-        (ShowsPair style.entry.schema.now pair
-        (Shows style.entry.hex style.entry.schema.now style.entry.depth) item.now) }
+        (ShowsPair style.now.schema.now pair
+        (Shows style.now.hex style.now.schema.now style.now.depth) item.now) }
     ensures before { out.new.before ≡ out.old.before }
 {
     let Some((key, inner)) = pair_of(style.schema, pair) else {
@@ -581,14 +613,14 @@ fn put_no_pair(out: &mut Writer) -> Printed
 #[cycle(print)]
 fn put_struct(
     out: &mut Writer,
-    style: Style<'_>,
+    style: &Style<'_>,
     place: usize,
     fields: &[usize],
     value: &Value,
 ) -> Printed
     ensures json { AppendsOne result out.old out.new
-        (ShowsStruct (names_at style.entry.schema.now place) fields.now
-        (Shows style.entry.hex style.entry.schema.now style.entry.depth)
+        (ShowsStruct (names_at style.now.schema.now place) fields.now
+        (Shows style.now.hex style.now.schema.now style.now.depth)
         (out-Value value.now)) }
     ensures before { out.new.before ≡ out.old.before }
 {
@@ -602,14 +634,14 @@ fn put_struct(
 #[cycle(print)]
 fn put_named(
     out: &mut Writer,
-    style: Style<'_>,
+    style: &Style<'_>,
     place: usize,
     fields: &[usize],
     items: &[Value],
 ) -> Printed
     ensures json { AppendsOne result out.old out.new
-        (ShowsNamed (names_at style.entry.schema.now place) fields.now
-        (Shows style.entry.hex style.entry.schema.now style.entry.depth) items.now) }
+        (ShowsNamed (names_at style.now.schema.now place) fields.now
+        (Shows style.now.hex style.now.schema.now style.now.depth) items.now) }
     ensures before { out.new.before ≡ out.old.before }
 {
     let Some(names) = names_of(style.schema, place) else {
@@ -645,10 +677,10 @@ fn first_part<'a>(types: &'a [usize], parts: &'a [Value]) -> Option<FirstPart<'a
 
 /// Appends the value of a struct's only field; if a checksum follows, the value before it.
 #[cycle(print)]
-fn put_newtype(out: &mut Writer, style: Style<'_>, fields: &[usize], items: &[Value]) -> Printed
+fn put_newtype(out: &mut Writer, style: &Style<'_>, fields: &[usize], items: &[Value]) -> Printed
     ensures json { AppendsOne result out.old out.new
         (ShowsFirst (ShowsPart
-        (Shows style.entry.hex style.entry.schema.now style.entry.depth)) (zip fields.now items.now)) }
+        (Shows style.now.hex style.now.schema.now style.now.depth)) (zip fields.now items.now)) }
     ensures before { out.new.before ≡ out.old.before }
 {
     match first_part(fields, items) {
@@ -659,10 +691,10 @@ fn put_newtype(out: &mut Writer, style: Style<'_>, fields: &[usize], items: &[Va
 
 /// Appends values of these types as an array.
 #[cycle(print)]
-fn put_tuple(out: &mut Writer, style: Style<'_>, fields: &[usize], items: &[Value]) -> Printed
+fn put_tuple(out: &mut Writer, style: &Style<'_>, fields: &[usize], items: &[Value]) -> Printed
     ensures json { AppendsOne result out.old out.new
         (ShowsParts
-        (Shows style.entry.hex style.entry.schema.now style.entry.depth) fields.now items.now) }
+        (Shows style.now.hex style.now.schema.now style.now.depth) fields.now items.now) }
     ensures before { out.new.before ≡ out.old.before }
 {
     out.begin_array()?;
@@ -689,14 +721,14 @@ fn next_name(names: &[String]) -> (&str, &[String])
 #[cycle(print)]
 fn put_members(
     out: &mut Writer,
-    style: Style<'_>,
+    style: &Style<'_>,
     names: &[String],
     fields: &[usize],
     items: &[Value],
 ) -> Printed
     ensures json { AppendsOne result out.old out.new
         (ShowsFields
-        (Shows style.entry.hex style.entry.schema.now style.entry.depth) names.now fields.now items.now) }
+        (Shows style.now.hex style.now.schema.now style.now.depth) names.now fields.now items.now) }
     ensures before { out.new.before ≡ out.old.before }
 {
     out.begin_object()?;
@@ -722,14 +754,14 @@ fn payload_of(payloads: &[usize], index: u32) -> Option<usize>
 #[cycle(print)]
 fn put_enum(
     out: &mut Writer,
-    style: Style<'_>,
+    style: &Style<'_>,
     place: usize,
     payloads: &[usize],
     value: &Value,
 ) -> Printed
     ensures json { AppendsOne result out.old out.new
-        (ShowsEnum style.entry.schema.now place payloads.now
-        (Shows style.entry.hex style.entry.schema.now style.entry.depth)
+        (ShowsEnum style.now.schema.now place payloads.now
+        (Shows style.now.hex style.now.schema.now style.now.depth)
         (out-Value value.now)) }
     ensures before { out.new.before ≡ out.old.before }
 {
@@ -743,16 +775,16 @@ fn put_enum(
 #[cycle(print)]
 fn put_variant(
     out: &mut Writer,
-    style: Style<'_>,
+    style: &Style<'_>,
     place: usize,
     payloads: &[usize],
     index: u32,
     held: &Value,
 ) -> Printed
     ensures json { AppendsOne result out.old out.new
-        (ShowsVariant style.entry.schema.now (variant_named (names_at style.entry.schema.now place) index)
+        (ShowsVariant style.now.schema.now (variant_named (names_at style.now.schema.now place) index)
         (slice_get payloads.now index) index
-        (Shows style.entry.hex style.entry.schema.now style.entry.depth) held.now) }
+        (Shows style.now.hex style.now.schema.now style.now.depth) held.now) }
     ensures before { out.new.before ≡ out.old.before }
 {
     let Some(name) = variant_name(style.schema, place, index) else {
@@ -799,7 +831,7 @@ pub fn print_into(
         hex: look.hex,
         depth: look.depth,
     };
-    put(out, style, place, value)
+    put(out, &style, place, value)
 }
 
 /// Returns the JSON of a value of the type at index `place`, in one line without a line feed.

@@ -5,49 +5,49 @@ use Rattle.wire_lib.proofs.PrintedLemmas.{Shown}
 use Rattle.wire_lib.proofs.print.+print.Given as goal
 
 abbrev pub decreases-put : goal.decreases-put
-decreases-put l = 4 * l.style.depth
+decreases-put l = 4 * l.style.now.depth
 
 abbrev pub decreases-put_option : goal.decreases-put_option
-decreases-put_option l = 4 * l.style.depth + 2
+decreases-put_option l = 4 * l.style.now.depth + 2
 
 abbrev pub decreases-put_under : goal.decreases-put_under
-decreases-put_under l = 4 * l.style.depth + 1
+decreases-put_under l = 4 * l.style.now.depth + 1
 
 abbrev pub decreases-put_list : goal.decreases-put_list
-decreases-put_list l = 4 * l.style.depth + 3
+decreases-put_list l = 4 * l.style.now.depth + 3
 
 abbrev pub decreases-put_items : goal.decreases-put_items
-decreases-put_items l = 4 * l.style.depth + 1
+decreases-put_items l = 4 * l.style.now.depth + 1
 
 abbrev pub decreases-put_elements : goal.decreases-put_elements
-decreases-put_elements l = 4 * l.style.depth + 2
+decreases-put_elements l = 4 * l.style.now.depth + 2
 
 abbrev pub decreases-put_pairs : goal.decreases-put_pairs
-decreases-put_pairs l = 4 * l.style.depth + 2
+decreases-put_pairs l = 4 * l.style.now.depth + 2
 
 abbrev pub decreases-put_pair : goal.decreases-put_pair
-decreases-put_pair l = 4 * l.style.depth + 1
+decreases-put_pair l = 4 * l.style.now.depth + 1
 
 abbrev pub decreases-put_struct : goal.decreases-put_struct
-decreases-put_struct l = 4 * l.style.depth + 3
+decreases-put_struct l = 4 * l.style.now.depth + 3
 
 abbrev pub decreases-put_tuple : goal.decreases-put_tuple
-decreases-put_tuple l = 4 * l.style.depth + 1
+decreases-put_tuple l = 4 * l.style.now.depth + 1
 
 abbrev pub decreases-put_members : goal.decreases-put_members
-decreases-put_members l = 4 * l.style.depth + 1
+decreases-put_members l = 4 * l.style.now.depth + 1
 
 abbrev pub decreases-put_variant : goal.decreases-put_variant
-decreases-put_variant l = 4 * l.style.depth + 2
+decreases-put_variant l = 4 * l.style.now.depth + 2
 
 abbrev pub decreases-put_newtype : goal.decreases-put_newtype
-decreases-put_newtype l = 4 * l.style.depth + 1
+decreases-put_newtype l = 4 * l.style.now.depth + 1
 
 abbrev pub decreases-put_array : goal.decreases-put_array
-decreases-put_array l = 4 * l.style.depth + 3
+decreases-put_array l = 4 * l.style.now.depth + 3
 
 abbrev pub decreases-put_enum : goal.decreases-put_enum
-decreases-put_enum l = 4 * l.style.depth + 3
+decreases-put_enum l = 4 * l.style.now.depth + 3
 
 abbrev pub invariant-put_items-loop-item : goal.invariant-put_items-loop-item
 invariant-put_items-loop-item l =
@@ -77,4 +77,4 @@ abbrev pub decreases-put_members-loop-field : goal.decreases-put_members-loop-fi
 decreases-put_members-loop-field l = length l.types
 
 abbrev pub decreases-put_named : goal.decreases-put_named
-decreases-put_named l = 4 * l.style.depth + 2
+decreases-put_named l = 4 * l.style.now.depth + 2
