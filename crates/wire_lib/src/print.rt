@@ -497,7 +497,8 @@ fn put_plain_key(out: &mut Writer, alloc: Global, value: &Value) -> Printed
 
 /// The name of a variant of the type at index `place`.
 fn variant_name<'a>(schema: &'a Schema, place: usize, index: u32) -> Option<&'a str>
-    ensures some { IfSome result (λ name. variant_named (names_at schema.now place) index ≡ Some name.now) }
+    ensures some { IfSome result (λ name. variant_named (names_at schema.now place) index ≡
+        Some name.now) }
     ensures none { result ≡ None → variant_named (names_at schema.now place) index ≡ None }
 {
     match schema.names.get(place) {
@@ -554,7 +555,8 @@ fn inside_newtypes<'a>(schema: &Schema, place: usize, value: &'a Value) -> (usiz
 
 /// Appends a key of the type at index `place`: its text, its digits, or the name of a variant.
 fn put_key(out: &mut Writer, style: &Style<'_>, place: usize, value: &Value) -> Printed
-    ensures key { AppendsKey result out.old out.new (key_text style.now.schema.now place value.now) }
+    ensures key { AppendsKey result out.old out.new
+        (key_text style.now.schema.now place value.now) }
     ensures before { out.new.before ≡ out.old.before }
 {
     let (at, held) = inside_newtypes(style.schema, place, value);
@@ -782,7 +784,8 @@ fn put_variant(
     held: &Value,
 ) -> Printed
     ensures json { AppendsOne result out.old out.new
-        (ShowsVariant style.now.schema.now (variant_named (names_at style.now.schema.now place) index)
+        (ShowsVariant style.now.schema.now
+        (variant_named (names_at style.now.schema.now place) index)
         (slice_get payloads.now index) index
         (Shows style.now.hex style.now.schema.now style.now.depth) held.now) }
     ensures before { out.new.before ≡ out.old.before }

@@ -217,7 +217,8 @@ impl<'a> LinesOfFrames<'a> {
     pub fn push(&mut self, piece: &[u8], lines: &mut Vec<u8>) -> Result<(), AllocError>
         ensures told { OnOk result ((passed : ℕ) (stream : List ℕ) (answers : List (Answers Values))
             → HasTold self.old passed stream answers → (more : List (Answers Values))
-            × HasTold self.new passed (stream ++ drop (skip_of self.old) piece.now) (answers ++ more)
+            × HasTold self.new passed (stream ++ drop (skip_of self.old) piece.now)
+            (answers ++ more)
             × TellsEach (reading_of self.old) passed (stream ++ drop (skip_of self.old) piece.now)
             answers more lines.old.items lines.new.items) }
         ensures reading { reading_of self.new ≡ reading_of self.old }

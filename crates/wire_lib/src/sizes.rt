@@ -126,7 +126,8 @@ impl Sizes {
     /// No sizes of `count` nodes.
     fn new(alloc: Global, count: usize) -> Result<Sizes, AllocError>
         ensures many { IfOk result (λ sizes. length sizes.known.items ≡ count) }
-        ensures none { IfOk result (λ sizes. (place : ℕ) → known_size sizes.known.items place ≡ None) }
+        ensures none { IfOk result (λ sizes. (place : ℕ)
+            → known_size sizes.known.items place ≡ None) }
     {
         let mut known = Vec::new(alloc);
         let mut met = Vec::new(alloc);

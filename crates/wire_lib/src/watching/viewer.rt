@@ -108,7 +108,8 @@ impl<'a> Viewer<'a> {
         ensures damaged { OnOk result
             (CountsOneMore self.old.table.damaged self.new.table.damaged) }
         ensures kept { OnOk result (length self.old.table.damages.items ≤ 3 → KeepsDamage what.now
-            (self.old.at - 1 - stretch) stretch self.old.front.items self.old.table self.new.table) }
+            (self.old.at - 1 - stretch) stretch self.old.front.items self.old.table
+            self.new.table) }
         ensures rows { self.new.table.rows ≡ self.old.table.rows }
         ensures same { StandsStill self.old self.new }
     {
@@ -129,7 +130,8 @@ impl<'a> Viewer<'a> {
     ) -> Result<(), AllocError>
         ensures counted { OnOk result (CountsToo answer.now self.old.table self.new.table) }
         ensures kept { OnOk result (length self.old.table.damages.items ≤ 3 → KeepsText answer.now
-            (self.old.at - 1 - stretch) stretch self.old.front.items self.old.table self.new.table) }
+            (self.old.at - 1 - stretch) stretch self.old.front.items self.old.table
+            self.new.table) }
         ensures same { StandsStill self.old self.new }
     {
         match answer {
