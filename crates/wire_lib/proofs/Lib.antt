@@ -1,5 +1,6 @@
 pub mod DamageLemmas
 pub mod DrawnLemmas
+pub mod FloatLemmas
 pub mod LineLemmas
 pub mod LooksLemmas
 pub mod ParsedLemmas

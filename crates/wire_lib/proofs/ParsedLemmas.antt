@@ -25,8 +25,9 @@ use Rattle.schemas.specs.Integers.{width_of, type_of, bits_in, little_group, big
 use Rattle.schemas.specs.Values.{tree_of, trees_in}
 use Rattle.schemas.specs.Schemas.{SchemaTakes, SchemaHas, TakesFields, TakesNode, TakesPayload, NodeHas, AtTop, OfChar, OfText, OfList, OfGroup, OfOption, OfVariant, EachHas, FieldsHave, PayloadHas}
 use Rattle.json.specs.Json.{Json, null, boolean, number, string, array, object, Items, no_items, item, Members, no_members, member}
+use Rattle.wire_lib.specs.Floats.{NumberMeansFloat, WordMeansFloat}
 use Rattle.wire_lib.specs.Looks.{variant_named, names_at, node_at, is_byte_node, is_newtype_named, only_type, only_field, inside_of, two_types, pair_node, only_part, only_value}
-use Rattle.wire_lib.specs.Meant.{Means, MeansNode, MeansEnum, MeansStruct, KeyMeans, KeyMeansBy, KeyMeansNode, chosen, AreBytes, AreBytesOf, MeansByte, MeansBytes, MeansItems, MeansMembers, MeansField, MeansFields, IsInteger, MeansNumber, MeansPlain, KeyMeansPlain}
+use Rattle.wire_lib.specs.Meant.{MeansFloat, Means, MeansNode, MeansEnum, MeansStruct, KeyMeans, KeyMeansBy, KeyMeansNode, chosen, AreBytes, AreBytesOf, MeansByte, MeansBytes, MeansItems, MeansMembers, MeansField, MeansFields, IsInteger, MeansNumber, MeansPlain, KeyMeansPlain}
 use Rattle.wire_lib.specs.Printed.{two_in, two_values}
 use Rattle.wire_lib.specs.Parsed.{IsGroupOf, IsOfType, IsOfNode, IsOfStruct, IsOfEnum, IsOfLeaf}
 
@@ -470,3 +471,11 @@ key_at_node schema (suc depth) i n m s v d o e f h =
 pub plain_node_key : (named : Option Names) (n : Node) (s : List ℕ) (top : Value-F Value) → ((is : Vec ℕ Global) → n ≢ node.Enum is) → KeyMeansPlain s top → KeyMeansNode named (Some n) s top
 plain_node_key named (node.Enum is) s top f h = absurd (f is refl)
 plain_node_key named _ s top f h = h
+
+-- floats
+
+pub number_float : (s : List ℕ) (i : Integer) → NumberMeansFloat s i → AtTop (MeansFloat (number s)) (LE i)
+number_float s i h = top_by (MeansFloat (number s)) (LE i) (Value-F.LE i) (search (rules, the_lemmas)) h
+
+pub word_float : (s : List ℕ) (i : Integer) → WordMeansFloat s i → AtTop (MeansFloat (string s)) (LE i)
+word_float s i h = top_by (MeansFloat (string s)) (LE i) (Value-F.LE i) (search (rules, the_lemmas)) h

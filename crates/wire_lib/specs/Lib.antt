@@ -1,5 +1,6 @@
 pub mod Damages
 pub mod Drawn
+pub mod Floats
 pub mod Fronts
 pub mod Kinds
 pub mod Looks

@@ -19,6 +19,7 @@ use Rattle.schemas.specs.declared.integer.Integer.TheVariants as integers
 use Rattle.schemas.specs.declared.value.Value.{Value, out-Value}
 use Rattle.schemas.specs.declared.value.Value.TheOpen.{Value-F}
 use Rattle.schemas.specs.Schemas.{OfList, OfGroup}
+use Rattle.wire_lib.specs.Floats.{NumberMeansFloat, WordMeansFloat}
 use Rattle.wire_lib.specs.Looks.{names_at, node_at, is_float_named, inside_of, null_within, only_part, pair_node, truth_key, variant_named}
 use Rattle.wire_lib.specs.Printed.{two_values}
 
@@ -134,6 +135,10 @@ abbrev pub MeansPresent : Bool → (Json → Type 0) → Json → Type 0
 MeansPresent true kind = MeansUnder (codes "Some") kind
 MeansPresent false kind = kind
 
+-- the JSON k of a present value
+abbrev pub IsPresent : Schema → ℕ → Json → Json → Type 0
+IsPresent schema i k j = MeansPresent (null_within (length schema.nodes.items) schema i) (λ x. x ≡ k) j
+
 -- an option of this type
 abbrev pub MeansOption : Schema → ℕ → (Json → Value → Type 0) → Json → Value-F Value → Type 0
 MeansOption schema i means j Value-F.Absent = j ≡ null
@@ -217,9 +222,15 @@ abbrev pub MeansStruct : Option Names → List ℕ → (ℕ → Json → Value �
 MeansStruct None is means j vs = ⊥
 MeansStruct (Some named) is means j vs = MeansFields named j means 0 is vs
 
--- an integer that is sent as its bytes; of a float nothing is said
+-- a float
+abbrev pub MeansFloat : Json → Value-F Value → Type 0
+MeansFloat (number s) (Value-F.LE i) = NumberMeansFloat s i
+MeansFloat (string s) (Value-F.LE i) = WordMeansFloat s i
+MeansFloat _ _ = ⊥
+
+-- an integer that is sent as its bytes, or a float
 abbrev pub MeansFixed : Bool → Json → Value-F Value → Type 0
-MeansFixed true j v = Unit {0}
+MeansFixed true j v = MeansFloat j v
 MeansFixed false j v = MeansPlain j v
 
 -- a value of a node
@@ -239,10 +250,18 @@ Means schema zero i s j v = ⊥
 Means schema (suc depth) i None j v = MeansNode schema (names_at schema i) (Means schema depth) (node_at schema i) j (out-Value v)
 Means schema (suc depth) i (Some s) j v = MeansHeld (KeyMeans schema depth) (λ k. Means schema depth k None) (pair_node (node_at schema i)) (two_values (out-Value v)) s j
 
+-- a value by itself
+abbrev pub MeansValue : Schema → ℕ → ℕ → Json → Value → Type 0
+MeansValue schema depth i j v = Means schema depth i None j v
+
+-- a pair by a member
+abbrev pub MeansMember : Schema → ℕ → ℕ → List ℕ → Json → Value → Type 0
+MeansMember schema depth i s j v = Means schema depth i (Some s) j v
+
 -- a line: the value, or an object with it alone
 abbrev pub MeansLine : (Json → Value → Type 0) → Json → Value → Type 0
 MeansLine means j v = means j v ⊎ MeansUnder (codes "value") (λ k. means k v) j
 
 -- a text: a line, whose JSON nests in so many brackets at most
 abbrev pub MeansText : Schema → ℕ → ℕ → List ℕ → Value → Type 0
-MeansText schema depth i text v = (j : Json) × (json_value (2 * depth + 2) (tokens text) ≡ Some (j, [])) × MeansLine (Means schema depth i None) j v
+MeansText schema depth i text v = (j : Json) × (json_value (2 * depth + 2) (tokens text) ≡ Some (j, [])) × MeansLine (MeansValue schema depth i) j v

@@ -5,11 +5,15 @@ use Rattle.postcard_tree.specs.Reading.{GroupOf, TakesVariant}
 use Rattle.schema_table.specs.declared.node.Node.{Node}
 use Rattle.schemas.specs.declared.value.Value.{Value, Group}
 use Rattle.schemas.specs.Values.{tree_of}
-use Rattle.schemas.specs.Schemas.{SchemaHas, SchemaReads, SchemaTakes, TakesFields, TakesNode, TakesPayload, AtTop, FieldsHave, NodeHas, OfGroup, OfVariant, PayloadHas}
+use Rattle.schemas.specs.Schemas.{SchemaHas, SchemaReads, SchemaTakes, TakesFields, TakesNode, TakesPayload, AtTop, EachHas, FieldsHave, NodeHas, OfGroup, OfVariant, PayloadHas}
 
 -- A value of the type at that index, with at most `depth` nested nodes: the type accepts its tree, and reads it as this value.
 abbrev pub IsOfType : ℕ → List Node → ℕ → Value → Type 0
 IsOfType depth nodes place v = SchemaReads depth nodes place (tree_of v) v
+
+-- values of it
+abbrev pub AreOfType : ℕ → List Node → ℕ → List Value → Type 0
+AreOfType depth nodes place vs = EachHas (IsOfType depth nodes place) vs
 
 -- The same of a type by its node.
 abbrev pub IsOfNode : ℕ → List Node → Node → Value → Type 0

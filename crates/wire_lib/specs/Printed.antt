@@ -18,6 +18,7 @@ use Rattle.schemas.specs.declared.integer.Integer.{Integer}
 use Rattle.schemas.specs.declared.integer.Integer.TheVariants as integers
 use Rattle.schemas.specs.declared.value.Value.{Value, out-Value}
 use Rattle.schemas.specs.declared.value.Value.TheOpen.{Value-F}
+use Rattle.wire_lib.specs.Floats.{ShowsSingle, ShowsDouble}
 use Rattle.wire_lib.specs.Looks.{names_at, node_at, is_byte_node, is_float_named, is_empty_named, is_map_named, null_within, pair_node, first_is_key, variant_named, key_text}
 
 -- a value's JSON was appended, if it is said that this succeeded
@@ -27,10 +28,6 @@ AppendsJson r old new j = OnOk r (new.tokens ≡ old.tokens ++ json_tokens j)
 -- a JSON value of this kind was appended
 abbrev pub AppendsOne : {E : Type 0} → Result (Unit {0}) E → Written → Written → (Json → Type 0) → Type 0
 AppendsOne r old new kind = OnOk r ((j : Json) × (new.tokens ≡ old.tokens ++ json_tokens j) × kind j)
-
--- some JSON value was appended
-abbrev pub AppendsSome : {E : Type 0} → Result (Unit {0}) E → Written → Written → Type 0
-AppendsSome r old new = OnOk r ((j : Json) × (new.tokens ≡ old.tokens ++ json_tokens j))
 
 -- the tokens of a member: its name, and its value
 abbrev pub member_tokens : List ℕ × Json → List Token
@@ -251,9 +248,16 @@ abbrev pub ShowsEnum : Schema → ℕ → List ℕ → (ℕ → Value → Json �
 ShowsEnum schema i is shows (Value-F.Variant n w) j = ShowsVariant schema (variant_named (names_at schema i) n) (slice_get is n) n shows w.value j
 ShowsEnum schema i is shows _ j = Unit {0}
 
--- an integer that is sent as its bytes; of a float nothing is said
+-- a float by its bits
+abbrev pub ShowsFloat : Integer → Json → Type 0
+ShowsFloat (integers.U32 n) j = ShowsSingle n j
+ShowsFloat (integers.U64 n) j = ShowsDouble n j
+ShowsFloat i j = j ≡ integer_json i
+
+-- an integer that is sent as its bytes, or a float
 abbrev pub ShowsInteger : Bool → Bool → Value-F Value → Json → Type 0
-ShowsInteger true hex v j = Unit {0}
+ShowsInteger true hex (Value-F.LE i) j = ShowsFloat i j
+ShowsInteger true hex v j = j ≡ plain_json hex v
 ShowsInteger false hex v j = j ≡ plain_json hex v
 
 -- a value of a node

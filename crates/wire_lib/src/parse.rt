@@ -6,9 +6,9 @@ ghost use Rattle.schema_table.specs.declared.node.Node.TheVariants as kind;
 ghost use Rattle.schemas.specs.declared.value.Value.{Group, List as Listed};
 ghost use Rattle.schemas.specs.Integers.{type_of};
 ghost use Rattle.schemas.specs.Schemas.{AtTop, EachHas, OfGroup};
-ghost use Rattle.wire_lib.specs.Looks.{null_within, variant_named};
-ghost use Rattle.wire_lib.specs.Meant.{AreBytes, AreBytesOf, IsHex, IsInteger, IsNamed, KeyMeans, KeyMeansPlain, Means, MeansByte, MeansBytes, MeansElements, MeansEnum, MeansField, MeansItems, MeansLine, MeansList, MeansMembers, MeansNode, MeansNumber, MeansOption, MeansPlain, MeansPresent, MeansStruct, MeansText, chosen, field_json, held_json};
-ghost use Rattle.wire_lib.specs.Parsed.{IsGroupOf, IsOfEnum, IsOfLeaf, IsOfNode, IsOfStruct, IsOfType};
+ghost use Rattle.wire_lib.specs.Looks.{variant_named};
+ghost use Rattle.wire_lib.specs.Meant.{AreBytes, AreBytesOf, IsHex, IsInteger, IsNamed, IsPresent, KeyMeans, KeyMeansPlain, Means, MeansByte, MeansBytes, MeansElements, MeansEnum, MeansField, MeansFloat, MeansItems, MeansLine, MeansList, MeansMember, MeansMembers, MeansNode, MeansNumber, MeansOption, MeansPlain, MeansStruct, MeansText, MeansValue, chosen, field_json, held_json};
+ghost use Rattle.wire_lib.specs.Parsed.{AreOfType, IsGroupOf, IsOfEnum, IsOfLeaf, IsOfNode, IsOfStruct, IsOfType};
 
 use crate::floats::{float_of_number, float_of_word};
 use crate::looks::{
@@ -253,7 +253,8 @@ fn number(node: &Node, json: &Json<'_>) -> Parsed
 
 /// The bits of a float: from a number, or from the string of one that isn't finite.
 fn float(of: IntegerType, json: &Json<'_>) -> Parsed
-    ensures { IfOk result (IsOfLeaf (kind.LE of)) }
+    ensures of_type { IfOk result (IsOfLeaf (kind.LE of)) }
+    ensures means { IfOk result (AtTop (MeansFloat (value_view json.now))) }
 {
     let bits = match json {
         Json::Number(text) => float_of_number(of, text),
@@ -270,8 +271,8 @@ fn float(of: IntegerType, json: &Json<'_>) -> Parsed
 
 /// The only member of an object.
 fn only_member<'a, 'b>(json: &'b Json<'a>) -> Option<(&'a str, &'b Json<'a>)>
-    ensures { IfSome result (λ m. value_view json.now ≡ object (member m.0.now (value_view m.1.now)
-        no_members)) }
+    ensures { IfSome result
+        (λ m. value_view json.now ≡ object (member m.0.now (value_view m.1.now) no_members)) }
 {
     let Json::Object(members) = json else {
         return None;
@@ -288,8 +289,8 @@ fn present<'a, 'b>(
     place: usize,
     json: &'b Json<'a>,
 ) -> Result<&'b Json<'a>, ParseError>
-    ensures { IfOk result (λ held. MeansPresent
-        (null_within (length schema.now.nodes.items) schema.now place) (λ j. j ≡ value_view held.now) (value_view json.now)) }
+    ensures { IfOk result
+        (λ held. IsPresent schema.now place (value_view held.now) (value_view json.now)) }
 {
     if !may_be_null(schema, place) {
         return Ok(json);
@@ -305,7 +306,9 @@ fn present<'a, 'b>(
 #[cycle(parse)]
 fn option(alloc: Global, schema: &Schema, place: usize, depth: u32, json: &Json<'_>) -> Parsed
     ensures of_type { IfOk result (IsOfNode depth schema.now.nodes.items (kind.Option place)) }
-    ensures means { IfOk result (AtTop (MeansOption schema.now place (Means schema.now depth place None) (value_view json.now))) }
+    ensures means { IfOk result
+        (AtTop (MeansOption schema.now place (MeansValue schema.now depth place) (value_view
+        json.now))) }
 {
     if json.is_null() {
         return Ok(Value::Absent);
@@ -324,8 +327,9 @@ fn items(
     depth: u32,
     elements: &[Json<'_>],
 ) -> Result<Vec<Value>, ParseError>
-    ensures of_type { IfOk result (λ v. EachHas (IsOfType depth schema.now.nodes.items place) v.items) }
-    ensures means { IfOk result (λ v. MeansItems (Means schema.now depth place None) (items_view elements.now) v.items) }
+    ensures of_type { IfOk result (λ v. AreOfType depth schema.now.nodes.items place v.items) }
+    ensures means { IfOk result
+        (λ v. MeansItems (MeansValue schema.now depth place) (items_view elements.now) v.items) }
 {
     let mut items = Vec::new(alloc);
     for element in elements {
@@ -358,8 +362,9 @@ fn elements(
     depth: u32,
     json: &Json<'_>,
 ) -> Result<Vec<Value>, ParseError>
-    ensures of_type { IfOk result (λ v. EachHas (IsOfType depth schema.now.nodes.items place) v.items) }
-    ensures means { IfOk result (λ v. MeansElements (Means schema.now depth place None) (value_view json.now) v.items) }
+    ensures of_type { IfOk result (λ v. AreOfType depth schema.now.nodes.items place v.items) }
+    ensures means { IfOk result
+        (λ v. MeansElements (MeansValue schema.now depth place) (value_view json.now) v.items) }
 {
     match json {
         Json::Array(elements) => items(alloc, schema, place, depth, elements),
@@ -489,7 +494,7 @@ fn member(
     json: &Json<'_>,
 ) -> Parsed
     ensures of_type { IfOk result (IsOfType depth schema.now.nodes.items place) }
-    ensures means { IfOk result (Means schema.now depth place (Some key.now) (value_view json.now)) }
+    ensures means { IfOk result (MeansMember schema.now depth place key.now (value_view json.now)) }
 {
     if depth == 0 {
         return Err(refusal(TOO_DEEP));
@@ -511,8 +516,9 @@ fn pairs(
     depth: u32,
     members: &[(&str, Json<'_>)],
 ) -> Result<Vec<Value>, ParseError>
-    ensures of_type { IfOk result (λ v. EachHas (IsOfType depth schema.now.nodes.items place) v.items) }
-    ensures means { IfOk result (λ v. MeansMembers (λ s. Means schema.now depth place (Some s)) (members_view members.now) v.items) }
+    ensures of_type { IfOk result (λ v. AreOfType depth schema.now.nodes.items place v.items) }
+    ensures means { IfOk result
+        (λ v. MeansMembers (MeansMember schema.now depth place) (members_view members.now) v.items) }
 {
     let mut items = Vec::new(alloc);
     for (key, json) in members {
@@ -534,8 +540,10 @@ fn list(
     depth: u32,
     json: &Json<'_>,
 ) -> Result<Vec<Value>, ParseError>
-    ensures of_type { IfOk result (λ v. EachHas (IsOfType depth schema.now.nodes.items place) v.items) }
-    ensures means { IfOk result (λ v. MeansList (Means schema.now depth place None) (λ s. Means schema.now depth place (Some s)) (value_view json.now) v.items) }
+    ensures of_type { IfOk result (λ v. AreOfType depth schema.now.nodes.items place v.items) }
+    ensures means { IfOk result
+        (λ v. MeansList (MeansValue schema.now depth place) (MeansMember schema.now depth place)
+        (value_view json.now) v.items) }
 {
     match (names, json) {
         (Names::Map, Json::Object(members)) if has_text_keys(schema, place) => {
@@ -569,8 +577,8 @@ fn array(count: u64, items: Vec<Value>) -> Parsed
 
 /// The JSON of field `i`.
 fn part<'a, 'b>(names: &Names, i: usize, json: &'b Json<'a>) -> Result<&'b Json<'a>, &'static str>
-    ensures { IfOk result (λ held. field_json names.now i (value_view json.now)
-        ≡ Some (value_view held.now)) }
+    ensures { IfOk result
+        (λ held. field_json names.now i (value_view json.now) ≡ Some (value_view held.now)) }
 {
     match names {
         Names::Newtype => Ok(json),
@@ -682,7 +690,9 @@ fn group(
     json: &Json<'_>,
 ) -> Parsed
     ensures of_type { IfOk result (IsOfStruct depth schema.now.nodes.items fields.now) }
-    ensures means { IfOk result (AtTop (OfGroup (MeansStruct (Some names.now) fields.now (λ i. Means schema.now depth i None) (value_view json.now)))) }
+    ensures means { IfOk result
+        (AtTop (OfGroup (MeansStruct (Some names.now) fields.now (MeansValue schema.now depth)
+        (value_view json.now)))) }
 {
     if let Some(why) = misfit(names, fields.len(), json) {
         return Err(refusal(why));
@@ -710,7 +720,8 @@ fn field(
     json: &Json<'_>,
 ) -> Parsed
     ensures of_type { IfOk result (IsOfType depth schema.now.nodes.items place) }
-    ensures means { IfOk result (MeansField names.now (value_view json.now) (Means schema.now depth place None) i) }
+    ensures means { IfOk result
+        (MeansField names.now (value_view json.now) (MeansValue schema.now depth place) i) }
 {
     match part(names, i, json) {
         Ok(held) => value(alloc, schema, place, depth, held),
@@ -758,7 +769,9 @@ fn variant(
     json: &Json<'_>,
 ) -> Parsed
     ensures of_type { IfOk result (IsOfEnum depth schema.now.nodes.items payloads.now) }
-    ensures means { IfOk result (AtTop (MeansEnum (Some names.now) payloads.now (λ i. Means schema.now depth i None) (chosen (value_view json.now)))) }
+    ensures means { IfOk result
+        (AtTop (MeansEnum (Some names.now) payloads.now (MeansValue schema.now depth) (chosen
+        (value_view json.now)))) }
 {
     let Some((name, held)) = choice(json) else {
         return Err(refusal("expected a variant"));
@@ -785,7 +798,7 @@ fn payload(
     held: Option<&Json<'_>>,
 ) -> Parsed
     ensures of_type { IfOk result (IsOfType depth schema.now.nodes.items place) }
-    ensures means { IfOk result (Means schema.now depth place None (held_json held.entry)) }
+    ensures means { IfOk result (MeansValue schema.now depth place (held_json held.entry)) }
 {
     let is_empty = is_empty(schema, place);
     match held {
@@ -809,7 +822,9 @@ fn of_node(
     json: &Json<'_>,
 ) -> Parsed
     ensures of_type { IfOk result (IsOfNode depth schema.now.nodes.items node.now) }
-    ensures means { IfOk result (AtTop (MeansNode schema.now (Some names.now) (Means schema.now depth) (Some node.now) (value_view json.now))) }
+    ensures means { IfOk result
+        (AtTop (MeansNode schema.now (Some names.now) (Means schema.now depth) (Some node.now)
+        (value_view json.now))) }
 {
     match node {
         Node::Bool => boolean(json),
@@ -836,7 +851,7 @@ fn of_node(
 #[cycle(parse)]
 fn value(alloc: Global, schema: &Schema, place: usize, depth: u32, json: &Json<'_>) -> Parsed
     ensures of_type { IfOk result (IsOfType depth schema.now.nodes.items place) }
-    ensures means { IfOk result (Means schema.now depth place None (value_view json.now)) }
+    ensures means { IfOk result (MeansValue schema.now depth place (value_view json.now)) }
 {
     if depth == 0 {
         return Err(refusal(TOO_DEEP));
@@ -852,8 +867,9 @@ fn value(alloc: Global, schema: &Schema, place: usize, depth: u32, json: &Json<'
 
 /// The value of an object whose only member is `value`.
 fn value_in<'a, 'b>(json: &'b Json<'a>) -> Option<&'b Json<'a>>
-    ensures { IfSome result (λ held. value_view json.now ≡ object (member (codes "value")
-        (value_view held.now) no_members)) }
+    ensures { IfSome result
+        (λ held. value_view json.now ≡ object (member (codes "value") (value_view held.now)
+        no_members)) }
 {
     match only_member(json) {
         Some((name, held)) if name == "value" => Some(held),
@@ -870,7 +886,8 @@ fn value_of_line(
     json: &Json<'_>,
 ) -> Parsed
     ensures of_type { IfOk result (IsOfType depth schema.now.nodes.items place) }
-    ensures means { IfOk result (MeansLine (Means schema.now depth place None) (value_view json.now)) }
+    ensures means { IfOk result
+        (MeansLine (MeansValue schema.now depth place) (value_view json.now)) }
 {
     let Some(held) = value_in(json) else {
         return value(alloc, schema, place, depth, json);
@@ -897,8 +914,8 @@ fn json_of<'a>(
     depth: u32,
     reader: &mut Reader<'a>,
 ) -> Result<Option<Json<'a>>, ParseError>
-    ensures { IfOk result (λ o. IfSome o (λ json. json_value (2 * depth + 2) reader.old
-        ≡ Some (value_view json, []))) }
+    ensures { IfOk result
+        (λ o. IfSome o (λ json. json_value (2 * depth + 2) reader.old ≡ Some (value_view json, []))) }
 {
     match Json::read(alloc, reader, json_depth(depth)) {
         Ok(json) if reader.next().is_none() => Ok(Some(json)),

@@ -1,5 +1,5 @@
 //! Values as JSON.
-ghost use Rattle.std.specs.Prelude.{◌≡◌, ◌<◌, ◌++◌, ◌&&◌, [], ◌∷◌, ℕ, List, IfOk, IfSome, None, OnOk, Some, length, zip, decimal, encode_utf8};
+ghost use Rattle.std.specs.Prelude.{◌≡◌, true, ◌<◌, ◌&&◌, [], ◌∷◌, ℕ, List, IfOk, IfSome, None, Some, length, zip, decimal, encode_utf8};
 ghost use Rattle.std.specs.Fmt.{signed_decimal};
 ghost use Rattle.std.specs.List.{slice_get};
 ghost use Rattle.hex.specs.Hex.{encode_lower};
@@ -8,8 +8,9 @@ ghost use Rattle.json.specs.Print.{print as text_of};
 ghost use Rattle.json.specs.Token.{key};
 ghost use Rattle.json.specs.Tree.{json_tokens};
 ghost use Rattle.schemas.specs.declared.value.Value.{out-Value};
+ghost use Rattle.wire_lib.specs.Floats.{ShowsDouble, ShowsSingle};
 ghost use Rattle.wire_lib.specs.Looks.{inside_within, integer_key, is_byte_node, is_float_named, key_text, names_at, node_at, only_part as part_in, part_of, plain_key, variant_named};
-ghost use Rattle.wire_lib.specs.Printed.{AppendsJson, AppendsKey, AppendsMember, AppendsOne, AppendsSome, Shows, ShowsArray, ShowsElements, ShowsEnum, ShowsFields, ShowsFirst, ShowsFixed, ShowsInteger, ShowsList, ShowsNamed, ShowsObject, ShowsOption, ShowsPair, ShowsPart, ShowsParts, ShowsStruct, ShowsUnder, ShowsVariant, byte_items, bytes_in, bytes_json, digits_json, first_name, integer_json, other_names, plain_json, two_values};
+ghost use Rattle.wire_lib.specs.Printed.{AppendsJson, AppendsKey, AppendsMember, AppendsOne, Shows, ShowsArray, ShowsElements, ShowsEnum, ShowsFields, ShowsFirst, ShowsFixed, ShowsInteger, ShowsList, ShowsNamed, ShowsObject, ShowsOption, ShowsPair, ShowsPart, ShowsParts, ShowsStruct, ShowsUnder, ShowsVariant, byte_items, bytes_in, bytes_json, digits_json, first_name, integer_json, other_names, plain_json, two_values};
 
 use crate::floats::{double, single, word_of, word_of_double};
 use crate::looks::{
@@ -101,15 +102,12 @@ fn put_integer(out: &mut Writer, n: Integer) -> Printed
 
 /// Appends an `f32`: the shortest number that reads back as it, or a string if it isn't finite.
 fn put_single(out: &mut Writer, alloc: Global, bits: u32) -> Printed
-    ensures json { AppendsSome result out.old out.new }
+    ensures json { AppendsOne result out.old out.new (ShowsSingle bits) }
     ensures before { out.new.before ≡ out.old.before }
 {
     match single(bits) {
-        Some(float) if float.is_finite() => {
-            let mut buffer = ryu::Buffer::new();
-            put_digits(out, buffer.format(float))
-        }
-        _ => {
+        Some(float) => out.float(float),
+        None => {
             let word = word_of(alloc, bits)?;
             put_text(out, word.as_str())
         }
@@ -118,15 +116,12 @@ fn put_single(out: &mut Writer, alloc: Global, bits: u32) -> Printed
 
 /// The same for an `f64`.
 fn put_double(out: &mut Writer, alloc: Global, bits: u64) -> Printed
-    ensures json { AppendsSome result out.old out.new }
+    ensures json { AppendsOne result out.old out.new (ShowsDouble bits) }
     ensures before { out.new.before ≡ out.old.before }
 {
     match double(bits) {
-        Some(float) if float.is_finite() => {
-            let mut buffer = ryu::Buffer::new();
-            put_digits(out, buffer.format(float))
-        }
-        _ => {
+        Some(float) => out.float(float),
+        None => {
             let word = word_of_double(alloc, bits)?;
             put_text(out, word.as_str())
         }
@@ -135,7 +130,8 @@ fn put_double(out: &mut Writer, alloc: Global, bits: u64) -> Printed
 
 /// Appends a float from its bits.
 fn put_float(out: &mut Writer, style: &Style<'_>, value: &Value) -> Printed
-    ensures json { AppendsSome result out.old out.new }
+    ensures json { AppendsOne result out.old out.new
+        (ShowsInteger true style.now.hex (out-Value value.now)) }
     ensures before { out.new.before ≡ out.old.before }
 {
     match value {

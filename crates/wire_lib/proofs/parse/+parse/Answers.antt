@@ -44,7 +44,7 @@ pub of_node-returns-in-Bytes-clause-of_type : goal.of_node-returns-in-Bytes-clau
 of_node-returns-in-Bytes-clause-of_type t c = rw c.in-Bytes.is (leaf_ok c.args.depth c.args.schema.now.nodes.items node.Bytes c.bytes.result c.bytes.ensures.of_type)
 
 pub of_node-returns-in-LE-clause-of_type : goal.of_node-returns-in-LE-clause-of_type
-of_node-returns-in-LE-clause-of_type t c = rw c.in-LE.is (leaf_ok c.args.depth c.args.schema.now.nodes.items (node.LE c.in-LE.of) c.float.result c.float.ensures)
+of_node-returns-in-LE-clause-of_type t c = rw c.in-LE.is (leaf_ok c.args.depth c.args.schema.now.nodes.items (node.LE c.in-LE.of) c.float.result c.float.ensures.of_type)
 
 pub of_node-returns-in_ok-list-in-List-clause-of_type : goal.of_node-returns-in_ok-list-in-List-clause-of_type
 of_node-returns-in_ok-list-in-List-clause-of_type t c = rw c.in-List.is (of_list c.args.depth c.args.schema.now.nodes.items c.in-List.inner c.in_ok-list-in-List.field-0 c.in_ok-list-in-List.ensures.of_type)

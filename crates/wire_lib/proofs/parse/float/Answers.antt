@@ -1,10 +1,26 @@
 use Rattle.std.proofs.Common.{◌≡◌, rules}
+use Rattle.json.specs.Json.{number, string}
+use Rattle.json.specs.Value.{value_view}
+use Rattle.json.specs.declared.value.Value.{the_lemmas}
 use Rattle.schemas.specs.Integers.{type_of}
-use Rattle.wire_lib.proofs.ParsedLemmas.{little_leaf}
+use Rattle.wire_lib.specs.Floats.{NumberMeansFloat, WordMeansFloat}
+use Rattle.wire_lib.proofs.ParsedLemmas.{little_leaf, number_float, word_float}
 use Rattle.wire_lib.proofs.parse.float.Goals.{in-Number, in-String}
 use Rattle.wire_lib.proofs.parse.float.Goals as goal
 
-pub returns-in-Some : goal.returns-in-Some
-returns-in-Some c =
+pub returns-in-Some-clause-of_type : goal.returns-in-Some-clause-of_type
+returns-in-Some-clause-of_type c =
     let e : type_of c.in-Some.bits ≡ c.args.of = elim c.match-json.branch [ in-Number w ↦ search rules | in-String w ↦ search rules ] in
     little_leaf c.args.of c.in-Some.bits e
+
+pub returns-in-Some-clause-means : goal.returns-in-Some-clause-means
+returns-in-Some-clause-means c = elim c.match-json.branch [
+  | in-Number w ↦
+      let e : value_view c.args.json.now ≡ number w.in-Number.text.now = search (rules, the_lemmas) in
+      let h : NumberMeansFloat w.in-Number.text.now c.in-Some.bits = search rules in
+      rw e (number_float w.in-Number.text.now c.in-Some.bits h)
+  | in-String w ↦
+      let e : value_view c.args.json.now ≡ string w.in-String.word.now = search (rules, the_lemmas) in
+      let h : WordMeansFloat w.in-String.word.now c.in-Some.bits = search rules in
+      rw e (word_float w.in-String.word.now c.in-Some.bits h)
+]
