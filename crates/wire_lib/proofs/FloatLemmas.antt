@@ -1,5 +1,5 @@
 -- Floats by their bits.
-use Rattle.std.specs.Prelude.{◌≡◌, ℕ, ◌*◌, ◌%◌, Bool, true, false, Some, Result, OnOk, List, [], ◌∷◌, ◌++◌, from_bits}
+use Rattle.std.specs.Prelude.{◌≡◌, ℕ, ◌*◌, ◌%◌, true, false, Some, Result, OnOk, List, [], ◌∷◌, ◌++◌, from_bits}
 use Rattle.std.specs.Float.{Float, Format, float_is_finite}
 use Rattle.std.proofs.Common.{refl, sym, ap, ◌∙◌, subst}
 use Rattle.fast_float.specs.Parse.{parse_float}

@@ -6,8 +6,8 @@ use Rattle.std.specs.Str.{IsUtf8}
 use Rattle.std.proofs.Common.{refl, sym, ap, ◌∙◌, subst, arith, rules, append_assoc, Vec}
 use Rattle.std.proofs.lemmas.List.{append-nil}
 use Rattle.std.proofs.lemmas.Option.{slice_get_read}
-use Rattle.postcard_tree.specs.Tree.{Tree, Trees, sequence, group, byte, part, end, bytes_of, count_of, number, text_of}
-use Rattle.postcard_tree.specs.Reading.{ReadsAll, ReadsByte, ReadsBytes, ReadsText, TakesAll, TakesArray, TakesByte, TakesOption, TakesSequence, TakesUpTo, TakesVariant, GroupOf}
+use Rattle.postcard_tree.specs.Tree.{Tree, sequence, group, part, end, bytes_of, count_of, number, text_of}
+use Rattle.postcard_tree.specs.Reading.{ReadsAll, ReadsByte, ReadsBytes, ReadsText, TakesAll, TakesArray, TakesByte, TakesSequence, TakesUpTo, TakesVariant, GroupOf}
 use Rattle.postcard_tree.specs.Fixed.{little_endian, big_endian, TakesFixed}
 use Rattle.postcard_tree.specs.FixedOnce.{length_little, length_big, octets_little, octets_big, takes_group}
 use Rattle.postcard_tree.specs.Kinds.{text_upto_taken}
@@ -19,15 +19,15 @@ use Rattle.schema_table.specs.declared.schema.Names.{Names}
 use Rattle.schema_table.specs.declared.schema.Names.TheVariants as names
 use Rattle.schema_table.specs.declared.schema.Schema.{Schema}
 use Rattle.schemas.specs.declared.integer.Integer.{Integer}
-use Rattle.schemas.specs.declared.value.Value.{Value, out-Value, U8, LE, BE, Text, Bytes, Absent, Present, List as Listed, Group, Variant, the_lemmas}
+use Rattle.schemas.specs.declared.value.Value.{Value, out-Value, U8, LE, BE, Text, Bytes, List as Listed, Group, Variant, the_lemmas}
 use Rattle.schemas.specs.declared.value.Value.TheOpen.{Value-F}
 use Rattle.schemas.specs.Integers.{width_of, type_of, bits_in, little_group, big_group, little_tree_of, big_tree_of}
 use Rattle.schemas.specs.Values.{tree_of, trees_in}
-use Rattle.schemas.specs.Schemas.{SchemaTakes, SchemaHas, TakesFields, TakesNode, TakesPayload, NodeHas, AtTop, OfChar, OfText, OfList, OfGroup, OfOption, OfVariant, EachHas, FieldsHave, PayloadHas}
-use Rattle.json.specs.Json.{Json, null, boolean, number, string, array, object, Items, no_items, item, Members, no_members, member}
+use Rattle.schemas.specs.Schemas.{SchemaTakes, SchemaHas, TakesFields, TakesNode, TakesPayload, NodeHas, AtTop, OfChar, OfText, OfList, OfGroup, OfVariant, EachHas, FieldsHave, PayloadHas}
+use Rattle.json.specs.Json.{Json, null, boolean, number, string, array, object}
 use Rattle.wire_lib.specs.Floats.{NumberMeansFloat, WordMeansFloat}
 use Rattle.wire_lib.specs.Looks.{variant_named, names_at, node_at, is_byte_node, is_newtype_named, only_type, only_field, inside_of, two_types, pair_node, only_part, only_value}
-use Rattle.wire_lib.specs.Meant.{MeansFloat, Means, MeansNode, MeansEnum, MeansStruct, KeyMeans, KeyMeansBy, KeyMeansNode, chosen, AreBytes, AreBytesOf, MeansByte, MeansBytes, MeansItems, MeansMembers, MeansField, MeansFields, IsInteger, MeansNumber, MeansPlain, KeyMeansPlain}
+use Rattle.wire_lib.specs.Meant.{MeansFloat, Means, MeansNode, MeansEnum, MeansStruct, KeyMeans, KeyMeansBy, KeyMeansNode, chosen, AreBytesOf, MeansFields, IsInteger, MeansNumber, MeansPlain, KeyMeansPlain}
 use Rattle.wire_lib.specs.Printed.{two_in, two_values}
 use Rattle.wire_lib.specs.Parsed.{IsGroupOf, IsOfType, IsOfNode, IsOfStruct, IsOfEnum, IsOfLeaf}
 
@@ -44,12 +44,6 @@ tree-Text s = search (rules, the_lemmas)
 
 tree-Bytes : (v : _) → tree_of (Bytes v) ≡ text_of v.items
 tree-Bytes v = search (rules, the_lemmas)
-
-tree-Absent : tree_of Absent ≡ byte 0
-tree-Absent = search (rules, the_lemmas)
-
-tree-Present : (v : _) → tree_of (Present v) ≡ group (part (byte 1) (part (tree_of v.value) end))
-tree-Present v = search (rules, the_lemmas)
 
 tree-Listed : (v : _) → tree_of (Listed v) ≡ sequence (trees_in v.items)
 tree-Listed v = search (rules, the_lemmas)
@@ -97,10 +91,6 @@ each_has : (depth : ℕ) (nodes : List Node) (i : ℕ) (vs : List Value) → Eac
 each_has depth nodes i [] h = tt
 each_has depth nodes i (v ∷ vs) h = (h.0.2, each_has depth nodes i vs h.1)
 
-pub each_more : (P : Value → Type 0) (vs : List Value) (v : Value) → EachHas P vs → P v → EachHas P (vs ++ v ∷ [])
-each_more P [] v h k = (k, tt)
-each_more P (w ∷ vs) v h k = (h.0, each_more P vs v h.1 k)
-
 few : (v : Vec Value Global) → count_of (trees_in v.items) < 2 ^ 64
 few v = omega (arith, count_in v.items, v.ok.0, v.ok.1, v.small)
 
@@ -125,20 +115,17 @@ of_array depth nodes n i v l h = (
   top_by (OfGroup (EachHas (SchemaHas depth nodes i))) (Group v) (Value-F.Group v) (search (rules, the_lemmas)) (each_has depth nodes i v.items h),
 )
 
--- fields
+-- parts, one after another
 
--- so far `vs`, and fields of these types are left
-abbrev pub FieldsSo : (ℕ → Value → Type 0) → List ℕ → List ℕ → List Value → Type 0
-FieldsSo has all left vs = (more : List Value) → FieldsHave has left more → FieldsHave has all (vs ++ more)
+-- the parts so far, of all of them: what holds of those that are left, holds of all with these before
+abbrev pub So : {L X : Type 0} → (L → List X → Type 0) → L → L → List X → Type 0
+So {L} {X} of all left xs = (more : List X) → of left more → of all (xs ++ more)
 
-pub fields_none : (has : ℕ → Value → Type 0) (all : List ℕ) (vs : List Value) → vs ≡ [] → FieldsSo has all all vs
-fields_none has all vs e more h = rw e h
+pub so_more : {L X : Type 0} (of : L → List X → Type 0) (all left rest : L) (xs : List X) (x : X) → ((more : List X) → of rest more → of left (x ∷ more)) → So of all left xs → So of all rest (xs ++ x ∷ [])
+so_more of all left rest xs x f h more k = subst (of all) (sym (append_assoc xs (x ∷ []) more)) (h (x ∷ more) (f more k))
 
-pub fields_more : (has : ℕ → Value → Type 0) (all left xs : List ℕ) (vs : List Value) (i : ℕ) (v : Value) → left ≡ i ∷ xs → FieldsSo has all left vs → has i v → FieldsSo has all xs (vs ++ v ∷ [])
-fields_more has all left xs vs i v e h k more m = subst (FieldsHave has all) (sym (append_assoc vs (v ∷ []) more)) (h (v ∷ more) (subst (λ zs. FieldsHave has zs (v ∷ more)) (sym e) (k, m)))
-
-pub fields_all : (has : ℕ → Value → Type 0) (all left : List ℕ) (vs : List Value) → left ≡ [] → FieldsSo has all left vs → FieldsHave has all vs
-fields_all has all left vs e h = subst (FieldsHave has all) (append-nil vs) (h [] (subst (λ zs. FieldsHave has zs []) (sym e) tt))
+pub so_all : {L X : Type 0} (of : L → List X → Type 0) (all left none : L) (xs : List X) → left ≡ none → of none [] → So of all left xs → of all xs
+so_all of all left none xs e h k = subst (of all) (append-nil xs) (k [] (subst (λ z. of z []) (sym e) h))
 
 fields_taken : (depth : ℕ) (nodes : List Node) (is : List ℕ) (vs : List Value) → FieldsHave (IsOfType depth nodes) is vs → TakesFields (SchemaTakes depth nodes) is (trees_in vs)
 fields_taken depth nodes [] [] h = tt
@@ -159,12 +146,6 @@ of_struct depth nodes is v h = (
 )
 
 -- options
-
-pub of_absent : (depth : ℕ) (nodes : List Node) (i : ℕ) → IsOfNode depth nodes (node.Option i) Absent
-of_absent depth nodes i = (subst (TakesOption (SchemaTakes depth nodes i)) (sym tree-Absent) refl, top_by (OfOption (SchemaHas depth nodes i)) Absent Value-F.Absent (search (rules, the_lemmas)) tt)
-
-pub of_present : (depth : ℕ) (nodes : List Node) (i : ℕ) (v : Box Value Global) → IsOfType depth nodes i v.value → IsOfNode depth nodes (node.Option i) (Present v)
-of_present depth nodes i v h = (subst (TakesOption (SchemaTakes depth nodes i)) (sym (tree-Present v)) (refl, h.0), top_by (OfOption (SchemaHas depth nodes i)) (Present v) (Value-F.Present v) (search (rules, the_lemmas)) h.2)
 
 -- variants
 
@@ -310,32 +291,6 @@ bytes_mean j v h = top_by (MeansPlain j) (Bytes v) (Value-F.Bytes v) (search (ru
     by_kind (number r) l = l
     by_kind (object ms) l = l
 
--- the bytes of these elements so far, and these elements are left
-abbrev pub BytesSo : Items → Items → List ℕ → Type 0
-BytesSo all left bs = (more : List ℕ) → MeansBytes left more → MeansBytes all (bs ++ more)
-
-pub bytes_none : (all : Items) (bs : List ℕ) → bs ≡ [] → BytesSo all all bs
-bytes_none all bs e more h = rw e h
-
-pub bytes_more : (all left js : Items) (bs : List ℕ) (j : Json) (b : ℕ) → left ≡ item j js → BytesSo all left bs → MeansByte j b → BytesSo all js (bs ++ b ∷ [])
-bytes_more all left js bs j b e h k more m = subst (MeansBytes all) (sym (append_assoc bs (b ∷ []) more)) (h (b ∷ more) (subst (λ z. MeansBytes z (b ∷ more)) (sym e) (k, m)))
-
-pub bytes_all : (all left : Items) (bs : List ℕ) → left ≡ no_items → BytesSo all left bs → MeansBytes all bs
-bytes_all all left bs e h = subst (MeansBytes all) (append-nil bs) (h [] (subst (λ z. MeansBytes z []) (sym e) tt))
-
--- the values of these bytes so far
-abbrev pub ValuesSo : List ℕ → List ℕ → List Value → Type 0
-ValuesSo all left vs = (more : List Value) → AreBytes left more → AreBytes all (vs ++ more)
-
-pub values_none : (all : List ℕ) (vs : List Value) → vs ≡ [] → ValuesSo all all vs
-values_none all vs e more h = rw e h
-
-pub values_more : (all left bs : List ℕ) (vs : List Value) (b : ℕ) → left ≡ b ∷ bs → ValuesSo all left vs → ValuesSo all bs (vs ++ U8 b ∷ [])
-values_more all left bs vs b e h more m = subst (AreBytes all) (sym (append_assoc vs (U8 b ∷ []) more)) (h (U8 b ∷ more) (subst (λ z. AreBytes z (U8 b ∷ more)) (sym e) (search (rules, the_lemmas), m)))
-
-pub values_all : (all left : List ℕ) (vs : List Value) → left ≡ [] → ValuesSo all left vs → AreBytes all vs
-values_all all left vs e h = subst (AreBytes all) (append-nil vs) (h [] (subst (λ z. AreBytes z []) (sym e) tt))
-
 -- keys
 
 char_named : (s : List ℕ) (top : Value-F Value) → OfChar top → MeansPlain (string s) top → KeyMeansPlain s top
@@ -352,48 +307,6 @@ char_key s r h k = ok_both r (λ v a b. char_named s (out-Value v) (a 0 []).1 b)
 pub text_key : {E : Type 0} (s : List ℕ) (n : Node) (r : Result Value E) → ((top : Value-F Value) → NodeHas (SchemaHas 0 []) n top → OfText top) → IfOk r (IsOfLeaf n) → IfOk r (AtTop (MeansPlain (string s)))
     → IfOk r (AtTop (KeyMeansPlain s))
 text_key s n r f h k = ok_both r (λ v a b. text_named s (out-Value v) (f (out-Value v) (a 0 []).1) b) h k
-
--- elements, members and fields: so far these, and those are left
-
-abbrev pub ItemsSo : (Json → Value → Type 0) → Items → Items → List Value → Type 0
-ItemsSo means all left vs = (more : List Value) → MeansItems means left more → MeansItems means all (vs ++ more)
-
-pub items_none : (means : Json → Value → Type 0) (all : Items) (vs : List Value) → vs ≡ [] → ItemsSo means all all vs
-items_none means all vs e more h = rw e h
-
-pub items_more : (means : Json → Value → Type 0) (all left js : Items) (vs : List Value) (j : Json) (v : Value) → left ≡ item j js → ItemsSo means all left vs → means j v → ItemsSo means all js (vs ++ v ∷ [])
-items_more means all left js vs j v e h k more m = subst (MeansItems means all) (sym (append_assoc vs (v ∷ []) more)) (h (v ∷ more) (subst (λ z. MeansItems means z (v ∷ more)) (sym e) (k, m)))
-
-pub items_all : (means : Json → Value → Type 0) (all left : Items) (vs : List Value) → left ≡ no_items → ItemsSo means all left vs → MeansItems means all vs
-items_all means all left vs e h = subst (MeansItems means all) (append-nil vs) (h [] (subst (λ z. MeansItems means z []) (sym e) tt))
-
-abbrev pub MembersSo : (List ℕ → Json → Value → Type 0) → Members → Members → List Value → Type 0
-MembersSo pair all left vs = (more : List Value) → MeansMembers pair left more → MeansMembers pair all (vs ++ more)
-
-pub members_none : (pair : List ℕ → Json → Value → Type 0) (all : Members) (vs : List Value) → vs ≡ [] → MembersSo pair all all vs
-members_none pair all vs e more h = rw e h
-
-pub members_more : (pair : List ℕ → Json → Value → Type 0) (all left ms : Members) (vs : List Value) (s : List ℕ) (j : Json) (v : Value) → left ≡ member s j ms → MembersSo pair all left vs → pair s j v
-    → MembersSo pair all ms (vs ++ v ∷ [])
-members_more pair all left ms vs s j v e h k more m =
-    subst (MeansMembers pair all) (sym (append_assoc vs (v ∷ []) more)) (h (v ∷ more) (subst (λ z. MeansMembers pair z (v ∷ more)) (sym e) (k, m)))
-
-pub members_all : (pair : List ℕ → Json → Value → Type 0) (all left : Members) (vs : List Value) → left ≡ no_members → MembersSo pair all left vs → MeansMembers pair all vs
-members_all pair all left vs e h = subst (MeansMembers pair all) (append-nil vs) (h [] (subst (λ z. MeansMembers pair z []) (sym e) tt))
-
-abbrev pub PartsSo : Names → Json → (ℕ → Json → Value → Type 0) → ℕ → List ℕ → List ℕ → List Value → Type 0
-PartsSo named j means n all left vs = (more : List Value) → MeansFields named j means n left more → MeansFields named j means 0 all (vs ++ more)
-
-pub parts_none : (named : Names) (j : Json) (means : ℕ → Json → Value → Type 0) (all : List ℕ) (vs : List Value) → vs ≡ [] → PartsSo named j means 0 all all vs
-parts_none named j means all vs e more h = rw e h
-
-pub parts_more : (named : Names) (j : Json) (means : ℕ → Json → Value → Type 0) (n : ℕ) (all left is : List ℕ) (vs : List Value) (i : ℕ) (v : Value) → left ≡ i ∷ is → PartsSo named j means n all left vs
-    → MeansField named j (means i) n v → PartsSo named j means (n + 1) all is (vs ++ v ∷ [])
-parts_more named j means n all left is vs i v e h k more m =
-    subst (MeansFields named j means 0 all) (sym (append_assoc vs (v ∷ []) more)) (h (v ∷ more) (subst (λ z. MeansFields named j means n z (v ∷ more)) (sym e) (k, m)))
-
-pub parts_all : (named : Names) (j : Json) (means : ℕ → Json → Value → Type 0) (n : ℕ) (all left : List ℕ) (vs : List Value) → left ≡ [] → PartsSo named j means n all left vs → MeansFields named j means 0 all vs
-parts_all named j means n all left vs e h = subst (MeansFields named j means 0 all) (append-nil vs) (h [] (subst (λ z. MeansFields named j means n z []) (sym e) tt))
 
 -- variants
 
@@ -425,6 +338,10 @@ means_at schema (suc depth) i n m j v d e f h = means_node schema depth i n m j 
 
 pub list_means : (means : List Value → Type 0) (w : Vec Value Global) (v : Value) → v ≡ Listed w → means w.items → AtTop (OfList means) v
 list_means means w v e h = subst (AtTop (OfList means)) (sym e) (top_by (OfList means) (Listed w) (Value-F.List w) (search (rules, the_lemmas)) h)
+
+-- fields from this number on
+abbrev pub FieldsFrom : Names → Json → (ℕ → Json → Value → Type 0) → ℕ × List ℕ → List Value → Type 0
+FieldsFrom named j means p vs = MeansFields named j means p.0 p.1 vs
 
 pub struct_means : (m : Names) (is : List ℕ) (means : ℕ → Json → Value → Type 0) (j : Json) (w : Vec Value Global) → MeansFields m j means 0 is w.items → AtTop (OfGroup (MeansStruct (Some m) is means j)) (Group w)
 struct_means m is means j w h = top_by (OfGroup (MeansStruct (Some m) is means j)) (Group w) (Value-F.Group w) (search (rules, the_lemmas)) h

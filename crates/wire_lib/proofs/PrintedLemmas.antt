@@ -16,8 +16,8 @@ use Rattle.schema_table.specs.declared.schema.Names.TheVariants as names
 use Rattle.schema_table.specs.declared.schema.Schema.{Schema}
 use Rattle.schemas.specs.declared.value.Value.{Value, out-Value}
 use Rattle.schemas.specs.declared.value.Value.TheOpen.{Value-F}
-use Rattle.wire_lib.specs.Looks.{names_at, node_at, is_empty_named, is_map_named, pair_node, first_is_key, key_text}
-use Rattle.wire_lib.specs.Printed.{member_tokens, members_by, first_name, other_names, called, Shows, ShowsArray, ShowsChosen, ShowsHeld, ShowsAll, ShowsList, ShowsMap, ShowsNamed, ShowsNode, ShowsObject, ShowsPair, ShowsParts, ShowsUnder, ShowsVariant, bytes_in, plain_json}
+use Rattle.wire_lib.specs.Looks.{IsUnder, names_at, node_at, is_empty_named, is_map_named, pair_node, first_is_key, key_text}
+use Rattle.wire_lib.specs.Printed.{member_tokens, members_by, first_name, other_names, called, Shows, ShowsArray, ShowsChosen, ShowsHeld, ShowsAll, ShowsList, ShowsMap, ShowsNamed, ShowsNode, ShowsObject, ShowsPair, ShowsParts, ShowsVariant, bytes_in, plain_json}
 use Rattle.wire_lib.proofs.ToldLemmas.{on_ok_as}
 
 -- the tokens of what shows the first of some values were appended, and `left` are left
@@ -101,7 +101,7 @@ member_done r kind like a b c s e h f = on_ok_as r (λ k. member_of like a b c s
 -- an object of one member
 pub under_done : {E : Type 0} (r : Result (Unit {0}) E) (kind : Json → Type 0) (old begun named shown ended : List Token) (s : List ℕ) → begun ≡ old ++ begin_object ∷ []
     → named ≡ begun ++ key s ∷ [] → ((j : Json) × (shown ≡ named ++ json_tokens j) × kind j) → OnOk r (ended ≡ shown ++ end_object ∷ [])
-    → OnOk r ((j : Json) × (ended ≡ old ++ json_tokens j) × ShowsUnder s kind j)
+    → OnOk r ((j : Json) × (ended ≡ old ++ json_tokens j) × IsUnder s kind j)
 under_done r kind old begun named shown ended s b n h ok = on_ok_as r
     (λ e. (
       object (member s h.0 no_members),
@@ -208,7 +208,7 @@ pub digits_shown : (b : Bool) (shows : Value → Json → Type 0) (vs : List Val
 digits_shown b shows vs bs e f = subst (λ t. ShowsAll t shows vs (string (encode_lower bs))) e (ap (λ x. string (encode_lower x)) f)
 
 -- a variant that holds something, and one that doesn't
-pub chosen_under : (b : Bool) (s : List ℕ) (kind : Json → Type 0) (j : Json) → false ≡ b → ShowsUnder s kind j → ShowsChosen b s kind j
+pub chosen_under : (b : Bool) (s : List ℕ) (kind : Json → Type 0) (j : Json) → false ≡ b → IsUnder s kind j → ShowsChosen b s kind j
 chosen_under b s kind j e h = subst (λ t. ShowsChosen t s kind j) e h
 
 pub chosen_alone : (b : Bool) (s : List ℕ) (kind : Json → Type 0) → true ≡ b → ShowsChosen b s kind (string s)

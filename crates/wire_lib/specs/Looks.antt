@@ -1,7 +1,8 @@
 -- What printing and parsing have to agree on about the JSON of a type.
-use Rattle.std.specs.Prelude.{ℕ, zero, suc, List, [], ◌∷◌, length, Bool, true, false, ◌&&◌, ◌||◌, Option, Some, None, option_map, string_bytes, codes, decimal, encode_utf8, if◌then◌else◌}
+use Rattle.std.specs.Prelude.{◌≡◌, ℕ, zero, suc, List, [], ◌∷◌, length, Bool, true, false, ◌&&◌, ◌||◌, Option, Some, None, option_map, string_bytes, codes, decimal, encode_utf8, if◌then◌else◌}
 use Rattle.std.specs.Fmt.{signed_decimal}
 use Rattle.std.specs.List.{slice_get}
+use Rattle.json.specs.Json.{Json, object, no_members, member}
 use Rattle.schema_table.specs.declared.node.Node.{Node}
 use Rattle.schema_table.specs.declared.node.Node.TheVariants as node
 use Rattle.schema_table.specs.declared.schema.Names.{Names}
@@ -220,3 +221,12 @@ key_at schema p = key_named (names_at schema p.0) (out-Value p.1)
 -- the key of a value of the type at a place
 abbrev pub key_text : Schema → ℕ → Value → List ℕ
 key_text schema i v = key_at schema (inside_within (length schema.nodes.items) schema i v)
+
+-- an object with one member of this name
+abbrev pub IsUnder : List ℕ → (Json → Type 0) → Json → Type 0
+IsUnder s kind j = (k : Json) × (j ≡ object (member s k no_members)) × kind k
+
+-- a present value: under a name if its own JSON could be `null`
+abbrev pub IsPresentBy : Bool → (Json → Type 0) → Json → Type 0
+IsPresentBy true kind = IsUnder (codes "Some") kind
+IsPresentBy false kind = kind

@@ -1,6 +1,6 @@
 -- Which value a JSON means, by its type.
 use Rattle.std.specs.Prelude.{◌≡◌, ◌⊎◌, ℕ, zero, suc, ◌+◌, ◌*◌, ℤ, List, [], ◌∷◌, length, Bool, true, false, Option, Some, None, option_and_then, Ok, codes, string_bytes, encode_utf8}
-use Rattle.std.specs.List.{AllZip, slice_get}
+use Rattle.std.specs.List.{slice_get}
 use Rattle.std.specs.Str.Parse.{IsNumeral, digits_value, signed_digits_value, without_leading_plus, without_leading_sign}
 use Rattle.hex.specs.Hex.{decode_of}
 use Rattle.json.specs.Json.{Json, value as json_value, null, boolean, number, string, array, object, Items, no_items, item, Members, no_members, member}
@@ -20,7 +20,7 @@ use Rattle.schemas.specs.declared.value.Value.{Value, out-Value}
 use Rattle.schemas.specs.declared.value.Value.TheOpen.{Value-F}
 use Rattle.schemas.specs.Schemas.{OfList, OfGroup}
 use Rattle.wire_lib.specs.Floats.{NumberMeansFloat, WordMeansFloat}
-use Rattle.wire_lib.specs.Looks.{names_at, node_at, is_float_named, inside_of, null_within, only_part, pair_node, truth_key, variant_named}
+use Rattle.wire_lib.specs.Looks.{IsPresentBy, IsUnder, names_at, node_at, is_float_named, inside_of, null_within, only_part, pair_node, truth_key, variant_named}
 use Rattle.wire_lib.specs.Printed.{two_values}
 
 -- Values without parts
@@ -126,23 +126,14 @@ KeyMeans schema (suc depth) i s v =
 
 -- Values with parts
 
--- the value of the only member of this name
-abbrev pub MeansUnder : List ℕ → (Json → Type 0) → Json → Type 0
-MeansUnder s kind j = (k : Json) × (j ≡ object (member s k no_members)) × kind k
-
--- a present value, under a name if its own JSON could be `null`
-abbrev pub MeansPresent : Bool → (Json → Type 0) → Json → Type 0
-MeansPresent true kind = MeansUnder (codes "Some") kind
-MeansPresent false kind = kind
-
 -- the JSON k of a present value
 abbrev pub IsPresent : Schema → ℕ → Json → Json → Type 0
-IsPresent schema i k j = MeansPresent (null_within (length schema.nodes.items) schema i) (λ x. x ≡ k) j
+IsPresent schema i k j = IsPresentBy (null_within (length schema.nodes.items) schema i) (λ x. x ≡ k) j
 
 -- an option of this type
 abbrev pub MeansOption : Schema → ℕ → (Json → Value → Type 0) → Json → Value-F Value → Type 0
 MeansOption schema i means j Value-F.Absent = j ≡ null
-MeansOption schema i means j (Value-F.Present w) = MeansPresent (null_within (length schema.nodes.items) schema i) (λ k. means k w.value) j
+MeansOption schema i means j (Value-F.Present w) = IsPresentBy (null_within (length schema.nodes.items) schema i) (λ k. means k w.value) j
 MeansOption schema i means j _ = ⊥
 
 -- values of one type, one for each of these
@@ -260,7 +251,7 @@ MeansMember schema depth i s j v = Means schema depth i (Some s) j v
 
 -- a line: the value, or an object with it alone
 abbrev pub MeansLine : (Json → Value → Type 0) → Json → Value → Type 0
-MeansLine means j v = means j v ⊎ MeansUnder (codes "value") (λ k. means k v) j
+MeansLine means j v = means j v ⊎ IsUnder (codes "value") (λ k. means k v) j
 
 -- a text: a line, whose JSON nests in so many brackets at most
 abbrev pub MeansText : Schema → ℕ → ℕ → List ℕ → Value → Type 0

@@ -1,5 +1,5 @@
 -- The JSON of values without parts.
-use Rattle.std.specs.Prelude.{◌≡◌, ℕ, zero, suc, List, [], ◌∷◌, length, zip, Bool, true, false, ◌&&◌, Option, Some, None, OnOk, Result, ◌++◌, codes, String, string_bytes, decimal, encode_utf8}
+use Rattle.std.specs.Prelude.{◌≡◌, ℕ, zero, suc, List, [], ◌∷◌, length, zip, Bool, true, false, ◌&&◌, Option, Some, None, OnOk, Result, ◌++◌, String, string_bytes, decimal, encode_utf8}
 use Rattle.std.specs.Fmt.{signed_decimal}
 use Rattle.std.specs.List.{AllZip, slice_get}
 use Rattle.hex.specs.Hex.{encode_lower}
@@ -19,7 +19,7 @@ use Rattle.schemas.specs.declared.integer.Integer.TheVariants as integers
 use Rattle.schemas.specs.declared.value.Value.{Value, out-Value}
 use Rattle.schemas.specs.declared.value.Value.TheOpen.{Value-F}
 use Rattle.wire_lib.specs.Floats.{ShowsSingle, ShowsDouble}
-use Rattle.wire_lib.specs.Looks.{names_at, node_at, is_byte_node, is_float_named, is_empty_named, is_map_named, null_within, pair_node, first_is_key, variant_named, key_text}
+use Rattle.wire_lib.specs.Looks.{IsPresentBy, IsUnder, names_at, node_at, is_byte_node, is_float_named, is_empty_named, is_map_named, null_within, pair_node, first_is_key, variant_named, key_text}
 
 -- a value's JSON was appended, if it is said that this succeeded
 abbrev pub AppendsJson : {E : Type 0} → Result (Unit {0}) E → Written → Written → Json → Type 0
@@ -111,19 +111,10 @@ ShowsArray shows vs j = (js : List Json) × (j ≡ array (items_of js)) × AllZi
 abbrev pub ShowsObject : {A : Type 0} → (A → List ℕ × Json → Type 0) → List A → Json → Type 0
 ShowsObject shows vs j = (ms : List (List ℕ × Json)) × (j ≡ object (members_by ms)) × AllZip shows vs ms
 
--- an object with one member of this name
-abbrev pub ShowsUnder : List ℕ → (Json → Type 0) → Json → Type 0
-ShowsUnder s kind j = (k : Json) × (j ≡ object (member s k no_members)) × kind k
-
--- what a present value is, under a name if it could be `null`
-abbrev pub ShowsPresent : Bool → (Json → Type 0) → Json → Type 0
-ShowsPresent true kind = ShowsUnder (codes "Some") kind
-ShowsPresent false kind = kind
-
 -- an option of this type
 abbrev pub ShowsOption : Schema → ℕ → (Value → Json → Type 0) → Value-F Value → Json → Type 0
 ShowsOption schema i shows Value-F.Absent j = j ≡ null
-ShowsOption schema i shows (Value-F.Present w) j = ShowsPresent (null_within (length schema.nodes.items) schema i) (shows w.value) j
+ShowsOption schema i shows (Value-F.Present w) j = IsPresentBy (null_within (length schema.nodes.items) schema i) (shows w.value) j
 ShowsOption schema i shows _ j = Unit {0}
 
 -- a byte before others, if the value is one
@@ -235,7 +226,7 @@ ShowsStruct named is shows _ j = Unit {0}
 -- a variant of this name: alone if it has no fields
 abbrev pub ShowsChosen : Bool → List ℕ → (Json → Type 0) → Json → Type 0
 ShowsChosen true s kind j = j ≡ string s
-ShowsChosen false s kind j = ShowsUnder s kind j
+ShowsChosen false s kind j = IsUnder s kind j
 
 -- a variant, by its name and the type that it holds; by its index if it has none
 abbrev pub ShowsVariant : Schema → Option (List ℕ) → Option ℕ → ℕ → (ℕ → Value → Json → Type 0) → Value → Json → Type 0

@@ -9,8 +9,8 @@ ghost use Rattle.json.specs.Token.{key};
 ghost use Rattle.json.specs.Tree.{json_tokens};
 ghost use Rattle.schemas.specs.declared.value.Value.{out-Value};
 ghost use Rattle.wire_lib.specs.Floats.{ShowsDouble, ShowsSingle};
-ghost use Rattle.wire_lib.specs.Looks.{inside_within, integer_key, is_byte_node, is_float_named, key_text, names_at, node_at, only_part as part_in, part_of, plain_key, variant_named};
-ghost use Rattle.wire_lib.specs.Printed.{AppendsJson, AppendsKey, AppendsMember, AppendsOne, Shows, ShowsArray, ShowsElements, ShowsEnum, ShowsFields, ShowsFirst, ShowsFixed, ShowsInteger, ShowsList, ShowsNamed, ShowsObject, ShowsOption, ShowsPair, ShowsPart, ShowsParts, ShowsStruct, ShowsUnder, ShowsVariant, byte_items, bytes_in, bytes_json, digits_json, first_name, integer_json, other_names, plain_json, two_values};
+ghost use Rattle.wire_lib.specs.Looks.{IsUnder, inside_within, integer_key, is_byte_node, is_float_named, key_text, names_at, node_at, only_part as part_in, part_of, plain_key, variant_named};
+ghost use Rattle.wire_lib.specs.Printed.{AppendsJson, AppendsKey, AppendsMember, AppendsOne, Shows, ShowsArray, ShowsElements, ShowsEnum, ShowsFields, ShowsFirst, ShowsFixed, ShowsInteger, ShowsList, ShowsNamed, ShowsObject, ShowsOption, ShowsPair, ShowsPart, ShowsParts, ShowsStruct, ShowsVariant, byte_items, bytes_in, bytes_json, digits_json, first_name, integer_json, other_names, plain_json, two_values};
 
 use crate::floats::{double, single, word_of, word_of_double};
 use crate::looks::{
@@ -308,7 +308,7 @@ fn put_under(
     value: &Value,
 ) -> Printed
     ensures json { AppendsOne result out.old out.new
-        (ShowsUnder name.now
+        (IsUnder name.now
         (Shows style.now.hex style.now.schema.now style.now.depth place value.now)) }
     ensures before { out.new.before ≡ out.old.before }
 {

@@ -3,13 +3,15 @@ use Rattle.std.specs.List.{slice_get}
 use Rattle.std.proofs.Math.ListN.{drop_of_length-le}
 use Rattle.std.proofs.lemmas.Grind.{common_steps}
 use Rattle.std.proofs.lemmas.List.{drop_more}
+use Rattle.json.specs.Json.{no_items, no_members}
 use Rattle.json.specs.Value.{items_view, members_view, value_view}
 use Rattle.schema_table.specs.declared.node.Node.TheVariants as node
 use Rattle.schemas.specs.declared.value.Value.{out-Value}
+use Rattle.schemas.specs.Schemas.{FieldsHave}
 use Rattle.wire_lib.specs.Looks.{inside_of, names_at, node_at, pair_node}
-use Rattle.wire_lib.specs.Meant.{Means, held_json}
+use Rattle.wire_lib.specs.Meant.{Means, MeansFields, MeansItems, MeansMembers, held_json}
 use Rattle.wire_lib.specs.Parsed.{IsOfNode, IsOfType}
-use Rattle.wire_lib.proofs.ParsedLemmas.{at_place, ok_as, leaf_ok, byte_node, each_byte, fields_more, fields_all, of_struct, of_list, of_list_up_to, of_array, of_variant, of_newtype, of_pair, items_all, members_all, parts_more, parts_all, struct_means, key_inside, key_at_node, plain_node_key, member_means, list_means, means_at, variant_means}
+use Rattle.wire_lib.proofs.ParsedLemmas.{at_place, ok_as, leaf_ok, byte_node, each_byte, so_more, so_all, of_struct, of_list, of_list_up_to, of_array, of_variant, of_newtype, of_pair, FieldsFrom, struct_means, key_inside, key_at_node, plain_node_key, member_means, list_means, means_at, variant_means}
 use Rattle.wire_lib.proofs.parse.+parse.Goals as goal
 
 pub elements-returns-in_ok-bytes-in-String-clause-of_type : goal.elements-returns-in_ok-bytes-in-String-clause-of_type
@@ -20,8 +22,8 @@ elements-returns-in_ok-bytes-in-String-clause-of_type t c =
 pub group-returns-clause-of_type : goal.group-returns-clause-of_type
 group-returns-clause-of_type t c =
     of_struct c.args.depth c.args.schema.now.nodes.items c.args.fields.now c.loop-place.items
-    (fields_all (IsOfType c.args.depth c.args.schema.now.nodes.items) c.args.fields.now (drop c.loop-place.place-index c.args.fields.now) c.loop-place.items.items
-    (drop_of_length-le c.args.fields.now c.loop-place-test.false) c.loop-place.invariant.1)
+    (so_all (FieldsHave (IsOfType c.args.depth c.args.schema.now.nodes.items)) c.args.fields.now (drop c.loop-place.place-index c.args.fields.now) [] c.loop-place.items.items
+    (drop_of_length-le c.args.fields.now c.loop-place-test.false) tt c.loop-place.invariant.1)
 
 pub member-returns-clause-of_type : goal.member-returns-clause-of_type
 member-returns-clause-of_type t c =
@@ -96,8 +98,8 @@ group-loop-place-preserved t c =
     let pushed : c.push.new.self.items ≡ c.loop-place.items.items ++ c.in-Ok.item ∷ [] = grind (arith, common_steps) in
     let here : c.len.result ≡ n = omega (arith, c.loop-place.invariant.0) in (
       grind (arith, common_steps),
-      rw pushed (fields_more (IsOfType c.args.depth c.args.schema.now.nodes.items) all (drop n all) (drop (n + 1) all) c.loop-place.items.items (get_or all n 0) c.in-Ok.item left c.loop-place.invariant.1 c.in-Ok.ensures.of_type),
-      rw pushed (parts_more c.args.names.now (value_view c.args.json.now) (λ i. Means c.args.schema.now c.args.depth i None) n all (drop n all) (drop (n + 1) all) c.loop-place.items.items (get_or all n 0) c.in-Ok.item left c.loop-place.invariant.2 (rw here at c.in-Ok.ensures.means)),
+      rw pushed (so_more (FieldsHave (IsOfType c.args.depth c.args.schema.now.nodes.items)) all (drop n all) (drop (n + 1) all) c.loop-place.items.items c.in-Ok.item (λ more k. subst (λ z. FieldsHave (IsOfType c.args.depth c.args.schema.now.nodes.items) z (c.in-Ok.item ∷ more)) (sym left) (c.in-Ok.ensures.of_type, k)) c.loop-place.invariant.1),
+      rw pushed (so_more (FieldsFrom c.args.names.now (value_view c.args.json.now) (λ i. Means c.args.schema.now c.args.depth i None)) (0, all) (n, drop n all) (n + 1, drop (n + 1) all) c.loop-place.items.items c.in-Ok.item (λ more k. subst (λ z. MeansFields c.args.names.now (value_view c.args.json.now) (λ i. Means c.args.schema.now c.args.depth i None) n z (c.in-Ok.item ∷ more)) (sym left) (rw here at c.in-Ok.ensures.means, k)) c.loop-place.invariant.2),
     )
 
 pub group-returns-clause-means : goal.group-returns-clause-means
@@ -105,19 +107,19 @@ group-returns-clause-means t c =
     let all = c.args.fields.now in
     let left = drop c.loop-place.place-index all in
     struct_means c.args.names.now all (λ i. Means c.args.schema.now c.args.depth i None) (value_view c.args.json.now) c.loop-place.items
-    (parts_all c.args.names.now (value_view c.args.json.now) (λ i. Means c.args.schema.now c.args.depth i None) c.loop-place.place-index all left c.loop-place.items.items (drop_of_length-le all c.loop-place-test.false) c.loop-place.invariant.2)
+    (so_all (FieldsFrom c.args.names.now (value_view c.args.json.now) (λ i. Means c.args.schema.now c.args.depth i None)) (0, all) (c.loop-place.place-index, left) (c.loop-place.place-index, []) c.loop-place.items.items (ap (λ z. (c.loop-place.place-index, z)) (drop_of_length-le all c.loop-place-test.false)) tt c.loop-place.invariant.2)
 
 pub items-returns-clause-means : goal.items-returns-clause-means
 items-returns-clause-means t c =
     let all = c.args.elements.now in
-    items_all (Means c.args.schema.now c.args.depth c.args.place None) (items_view all) (items_view (drop c.loop-element.element-index all)) c.loop-element.items.items
-    (ap items_view (drop_of_length-le all c.loop-element-test.false)) c.loop-element.invariant.1
+    so_all (MeansItems (Means c.args.schema.now c.args.depth c.args.place None)) (items_view all) (items_view (drop c.loop-element.element-index all)) no_items c.loop-element.items.items
+    (ap items_view (drop_of_length-le all c.loop-element-test.false)) tt c.loop-element.invariant.1
 
 pub pairs-returns-clause-means : goal.pairs-returns-clause-means
 pairs-returns-clause-means t c =
     let all = c.args.members.now in
-    members_all (λ s. Means c.args.schema.now c.args.depth c.args.place (Some s)) (members_view all) (members_view (drop c.loop-key.key-index all)) c.loop-key.items.items
-    (ap members_view (drop_of_length-le all c.loop-key-test.false)) c.loop-key.invariant.1
+    so_all (MeansMembers (λ s. Means c.args.schema.now c.args.depth c.args.place (Some s))) (members_view all) (members_view (drop c.loop-key.key-index all)) no_members c.loop-key.items.items
+    (ap members_view (drop_of_length-le all c.loop-key-test.false)) tt c.loop-key.invariant.1
 
 pub key_of-returns-in-Some-clause-means : goal.key_of-returns-in-Some-clause-means
 key_of-returns-in-Some-clause-means t c =

@@ -1,9 +1,9 @@
 use Rattle.std.proofs.Common.{◌≡◌, ◌+◌, ◌*◌, Some, None, drop, length}
 use Rattle.json.specs.Value.{items_view, members_view, value_view}
-use Rattle.schemas.specs.Schemas.{EachHas}
-use Rattle.wire_lib.specs.Meant.{Means}
+use Rattle.schemas.specs.Schemas.{EachHas, FieldsHave}
+use Rattle.wire_lib.specs.Meant.{Means, MeansItems, MeansMembers}
 use Rattle.wire_lib.specs.Parsed.{IsOfType}
-use Rattle.wire_lib.proofs.ParsedLemmas.{FieldsSo, ItemsSo, MembersSo, PartsSo}
+use Rattle.wire_lib.proofs.ParsedLemmas.{FieldsFrom, So}
 use Rattle.wire_lib.proofs.parse.+parse.Given as goal
 
 abbrev pub decreases-value : goal.decreases-value
@@ -51,15 +51,15 @@ decreases-variant l = 6 * l.depth + 2
 abbrev pub invariant-items-loop-element : goal.invariant-items-loop-element
 invariant-items-loop-element l =
     EachHas (IsOfType l.depth l.schema.nodes.items l.place) l.items.items
-    × ItemsSo (Means l.schema l.depth l.place None) (items_view l.elements) (items_view (drop l.element-index l.elements)) l.items.items
+    × So (MeansItems (Means l.schema l.depth l.place None)) (items_view l.elements) (items_view (drop l.element-index l.elements)) l.items.items
 
 abbrev pub invariant-pairs-loop-key : goal.invariant-pairs-loop-key
 invariant-pairs-loop-key l =
     EachHas (IsOfType l.depth l.schema.nodes.items l.place) l.items.items
-    × MembersSo (λ s. Means l.schema l.depth l.place (Some s)) (members_view l.members) (members_view (drop l.key-index l.members)) l.items.items
+    × So (MeansMembers (λ s. Means l.schema l.depth l.place (Some s))) (members_view l.members) (members_view (drop l.key-index l.members)) l.items.items
 
 abbrev pub invariant-group-loop-place : goal.invariant-group-loop-place
 invariant-group-loop-place l =
     (length l.items.items ≡ l.place-index)
-    × FieldsSo (IsOfType l.depth l.schema.nodes.items) l.fields (drop l.place-index l.fields) l.items.items
-    × PartsSo l.names (value_view l.json) (λ i. Means l.schema l.depth i None) l.place-index l.fields (drop l.place-index l.fields) l.items.items
+    × So (FieldsHave (IsOfType l.depth l.schema.nodes.items)) l.fields (drop l.place-index l.fields) l.items.items
+    × So (FieldsFrom l.names (value_view l.json) (λ i. Means l.schema l.depth i None)) (0, l.fields) (l.place-index, drop l.place-index l.fields) l.items.items

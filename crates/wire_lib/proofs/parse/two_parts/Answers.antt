@@ -1,4 +1,4 @@
-use Rattle.std.proofs.Common.{rules, arith, refl}
+use Rattle.std.proofs.Common.{arith, refl}
 use Rattle.std.proofs.lemmas.Grind.{common_steps}
 use Rattle.wire_lib.proofs.parse.two_parts.Goals as goal
 
