@@ -96,7 +96,8 @@ plain_json hex (Value-F.List v) = null
 plain_json hex (Value-F.Group v) = null
 plain_json hex (Value-F.Variant n v) = null
 
--- The JSON of values with parts: `shows` says it of the values inside, by the places of their types
+-- The JSON of values with parts: `shows` says it of the values inside, by the places of their types. What isn't of its type is printed as a
+-- value without parts.
 
 -- members, as the grammar has them
 abbrev pub members_by : List (List ℕ × Json) → Members
@@ -112,10 +113,9 @@ abbrev pub ShowsObject : {A : Type 0} → (A → List ℕ × Json → Type 0) �
 ShowsObject shows vs j = (ms : List (List ℕ × Json)) × (j ≡ object (members_by ms)) × AllZip shows vs ms
 
 -- an option of this type
-abbrev pub ShowsOption : Schema → ℕ → (Value → Json → Type 0) → Value-F Value → Json → Type 0
-ShowsOption schema i shows Value-F.Absent j = j ≡ null
-ShowsOption schema i shows (Value-F.Present w) j = IsPresentBy (null_within (length schema.nodes.items) schema i) (shows w.value) j
-ShowsOption schema i shows _ j = Unit {0}
+abbrev pub ShowsOption : Bool → Schema → ℕ → (Value → Json → Type 0) → Value-F Value → Json → Type 0
+ShowsOption hex schema i shows (Value-F.Present w) j = IsPresentBy (null_within (length schema.nodes.items) schema i) (shows w.value) j
+ShowsOption hex schema i shows v j = j ≡ plain_json hex v
 
 -- a byte before others, if the value is one
 abbrev pub byte_before : Value-F Value → List ℕ → List ℕ
@@ -167,12 +167,12 @@ ShowsMap false hex schema inner shows vs j = ShowsElements hex (node_at schema i
 abbrev pub ShowsList : Bool → Schema → ℕ → ℕ → (ℕ → Value → Json → Type 0) → Value-F Value → Json → Type 0
 ShowsList hex schema i inner shows (Value-F.List v) j =
     ShowsMap (is_map_named (names_at schema i) && first_is_key schema (pair_node (node_at schema inner))) hex schema inner shows v.items j
-ShowsList hex schema i inner shows _ j = Unit {0}
+ShowsList hex schema i inner shows v j = j ≡ plain_json hex v
 
 -- an array of a fixed length
 abbrev pub ShowsFixed : Bool → Schema → ℕ → (Value → Json → Type 0) → Value-F Value → Json → Type 0
 ShowsFixed hex schema inner shows (Value-F.Group v) j = ShowsElements hex (node_at schema inner) shows v.items j
-ShowsFixed hex schema inner shows _ j = Unit {0}
+ShowsFixed hex schema inner shows v j = j ≡ plain_json hex v
 
 -- the first of some names, or an empty one
 abbrev pub first_name : {A : Type 0} → List (String A) → List ℕ
@@ -219,9 +219,9 @@ ShowsNamed (Some (names.Fields ns)) is shows vs j = ShowsFields shows ns.items i
 ShowsNamed _ is shows vs j = ShowsParts shows is vs j
 
 -- a struct or a tuple
-abbrev pub ShowsStruct : Option Names → List ℕ → (ℕ → Value → Json → Type 0) → Value-F Value → Json → Type 0
-ShowsStruct named is shows (Value-F.Group v) j = ShowsNamed named is shows v.items j
-ShowsStruct named is shows _ j = Unit {0}
+abbrev pub ShowsStruct : Bool → Option Names → List ℕ → (ℕ → Value → Json → Type 0) → Value-F Value → Json → Type 0
+ShowsStruct hex named is shows (Value-F.Group v) j = ShowsNamed named is shows v.items j
+ShowsStruct hex named is shows v j = j ≡ plain_json hex v
 
 -- a variant of this name: alone if it has no fields
 abbrev pub ShowsChosen : Bool → List ℕ → (Json → Type 0) → Json → Type 0
@@ -235,9 +235,9 @@ ShowsVariant schema (Some s) None n shows v j = j ≡ number (decimal n)
 ShowsVariant schema (Some s) (Some k) n shows v j = ShowsChosen (is_empty_named (names_at schema k)) s (shows k v) j
 
 -- an enum
-abbrev pub ShowsEnum : Schema → ℕ → List ℕ → (ℕ → Value → Json → Type 0) → Value-F Value → Json → Type 0
-ShowsEnum schema i is shows (Value-F.Variant n w) j = ShowsVariant schema (variant_named (names_at schema i) n) (slice_get is n) n shows w.value j
-ShowsEnum schema i is shows _ j = Unit {0}
+abbrev pub ShowsEnum : Bool → Schema → ℕ → List ℕ → (ℕ → Value → Json → Type 0) → Value-F Value → Json → Type 0
+ShowsEnum hex schema i is shows (Value-F.Variant n w) j = ShowsVariant schema (variant_named (names_at schema i) n) (slice_get is n) n shows w.value j
+ShowsEnum hex schema i is shows v j = j ≡ plain_json hex v
 
 -- a float by its bits
 abbrev pub ShowsFloat : Integer → Json → Type 0
@@ -253,12 +253,12 @@ ShowsInteger false hex v j = j ≡ plain_json hex v
 
 -- a value of a node
 abbrev pub ShowsNode : Bool → Schema → ℕ → (ℕ → Value → Json → Type 0) → Option Node → Value-F Value → Json → Type 0
-ShowsNode hex schema i shows (Some (node.Option k)) v j = ShowsOption schema k (shows k) v j
+ShowsNode hex schema i shows (Some (node.Option k)) v j = ShowsOption hex schema k (shows k) v j
 ShowsNode hex schema i shows (Some (node.List k)) v j = ShowsList hex schema i k shows v j
 ShowsNode hex schema i shows (Some (node.ListUpTo n k)) v j = ShowsList hex schema i k shows v j
 ShowsNode hex schema i shows (Some (node.Array n k)) v j = ShowsFixed hex schema k (shows k) v j
-ShowsNode hex schema i shows (Some (node.Struct is)) v j = ShowsStruct (names_at schema i) is.items shows v j
-ShowsNode hex schema i shows (Some (node.Enum is)) v j = ShowsEnum schema i is.items shows v j
+ShowsNode hex schema i shows (Some (node.Struct is)) v j = ShowsStruct hex (names_at schema i) is.items shows v j
+ShowsNode hex schema i shows (Some (node.Enum is)) v j = ShowsEnum hex schema i is.items shows v j
 ShowsNode hex schema i shows (Some (node.LE k)) v j = ShowsInteger (is_float_named (names_at schema i)) hex v j
 ShowsNode hex schema i shows _ v j = j ≡ plain_json hex v
 

@@ -284,7 +284,7 @@ fn put(out: &mut Writer, style: &Style<'_>, place: usize, value: &Value) -> Prin
 #[cycle(print)]
 fn put_option(out: &mut Writer, style: &Style<'_>, inner: usize, value: &Value) -> Printed
     ensures json { AppendsOne result out.old out.new
-        (ShowsOption style.now.schema.now inner
+        (ShowsOption style.now.hex style.now.schema.now inner
         (Shows style.now.hex style.now.schema.now style.now.depth inner)
         (out-Value value.now)) }
     ensures before { out.new.before ≡ out.old.before }
@@ -617,7 +617,7 @@ fn put_struct(
     value: &Value,
 ) -> Printed
     ensures json { AppendsOne result out.old out.new
-        (ShowsStruct (names_at style.now.schema.now place) fields.now
+        (ShowsStruct style.now.hex (names_at style.now.schema.now place) fields.now
         (Shows style.now.hex style.now.schema.now style.now.depth)
         (out-Value value.now)) }
     ensures before { out.new.before ≡ out.old.before }
@@ -758,7 +758,7 @@ fn put_enum(
     value: &Value,
 ) -> Printed
     ensures json { AppendsOne result out.old out.new
-        (ShowsEnum style.now.schema.now place payloads.now
+        (ShowsEnum style.now.hex style.now.schema.now place payloads.now
         (Shows style.now.hex style.now.schema.now style.now.depth)
         (out-Value value.now)) }
     ensures before { out.new.before ≡ out.old.before }
