@@ -8,4 +8,5 @@ pub mod PrintedLemmas
 pub mod SeenLemmas
 pub mod SentLemmas
 pub mod SizesLemmas
+pub mod TableJsonLemmas
 pub mod ToldLemmas

@@ -49,7 +49,7 @@ shown_all : {A B : Type 0} (f : B → List Token) (like : A → B → Type 0) (o
 shown_all f like old new all left h e = subst (λ zs. AllZip like all zs) (append-nil h.0) (h.2 [] (subst (λ zs. AllZip like zs []) (sym e) tt))
 
 -- the tokens of elements, up to the bracket
-array_tokens : (js : List Json) → flat_map json_tokens js ++ end_array ∷ [] ≡ items_tokens (items_of js)
+pub array_tokens : (js : List Json) → flat_map json_tokens js ++ end_array ∷ [] ≡ items_tokens (items_of js)
 array_tokens [] = refl
 array_tokens (j ∷ js) = append_assoc (json_tokens j) (flat_map json_tokens js) (end_array ∷ []) ∙ ap (λ t. json_tokens j ++ t) (array_tokens js)
 
@@ -69,7 +69,7 @@ array_done r like old begun looped ended all left b h none ok = on_ok_as r
     ok
 
 -- the tokens of members, up to the brace
-object_tokens : (ms : List (List ℕ × Json)) → flat_map member_tokens ms ++ end_object ∷ [] ≡ members_tokens (members_by ms)
+pub object_tokens : (ms : List (List ℕ × Json)) → flat_map member_tokens ms ++ end_object ∷ [] ≡ members_tokens (members_by ms)
 object_tokens [] = refl
 object_tokens (m ∷ ms) = append_assoc (member_tokens m) (flat_map member_tokens ms) (end_object ∷ []) ∙ ap (λ t. member_tokens m ++ t) (object_tokens ms)
 

@@ -18,3 +18,4 @@ pub mod Sent
 pub mod Sizes
 pub mod Summed
 pub mod Tables
+pub mod TableJson
