@@ -1,7 +1,7 @@
 -- The frames of lines that are written by a call that stands alone, and its failures.
-use Rattle.std.specs.Prelude.{◌≡◌, ℕ, ◌≤◌, Bool, true, false, List, [], ◌++◌, length, string_bytes}
+use Rattle.std.specs.Prelude.{◌≡◌, ℕ, Bool, true, false, List, [], ◌++◌, length, string_bytes}
 use Rattle.wire_lib.specs.declared.send.Sending.{Sending}
-use Rattle.wire_lib.specs.Sent.{LineMade, AreLinesMade, HasMadeBy, AppendedApart, are_all_framed}
+use Rattle.wire_lib.specs.Sent.{LineMade, AreLinesMade, last_line, HasMadeBy, AppendedApart, are_all_framed}
 use Rattle.wire_c_lib.specs.declared.terms.WireTerms.{WireTerms}
 use Rattle.wire_c_lib.specs.declared.types.WireFailure.{WireFailure}
 use Rattle.wire_c_lib.specs.declared.types.WireFailure.TheVariants as failure
@@ -19,12 +19,9 @@ pub record MakesFrames (s : Sending) (text frames wrongs : List ℕ) (good : Boo
   pub made : List LineMade
   -- one each
   pub has_made : HasMadeBy s begun number good_before text made
-  -- what the last line became, if there is one
+  -- what the last line became, if one is begun
   pub last : List LineMade
-  -- there is one unless nothing is begun
-  pub few : length last ≤ 1
-  pub none : last ≡ [] → begun ≡ []
-  pub are : AreLinesMade s (length made) last
+  pub are : AreLinesMade s (length made) (last_line begun) last
   -- frames and refusals of the ended lines
   pub frames_before : List ℕ
   pub wrongs_before : List ℕ

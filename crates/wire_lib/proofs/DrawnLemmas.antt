@@ -1,5 +1,5 @@
 -- Bytes that are drawn.
-use Rattle.std.proofs.Common.{◌≡◌, ℕ, zero, suc, ◌<◌, ◌-◌, List, ◌++◌, refl, sym, ap, ◌∙◌, append_assoc, arith}
+use Rattle.std.proofs.Common.{◌≡◌, ℕ, zero, suc, ◌<◌, ◌-◌, List, ◌++◌, sym, ap, ◌∙◌, append_assoc, arith}
 use Rattle.wire_lib.specs.Drawn.{repeated}
 
 -- once, and as often as is left

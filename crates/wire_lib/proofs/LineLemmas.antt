@@ -4,7 +4,6 @@ use Rattle.std.specs.List.{flat_map}
 use Rattle.std.proofs.lemmas.List.{append-nil, take-append-drop, take_more, length-append, length-take-le}
 use Rattle.std.proofs.lemmas.Slice.Zip.{AllZip-long}
 use Rattle.std.proofs.lemmas.Grind.{flat_map-append}
-use Rattle.std.proofs.Math.Seq.{take-append_seam}
 use Rattle.cobs.specs.InPlace.{stretch}
 use Rattle.cobs.specs.Sentinel.{masked}
 use Rattle.postcard_tree.specs.Tree.{Tree}
@@ -17,8 +16,17 @@ use Rattle.link.specs.Lemmas.MaskLaws.{masked_length}
 use Rattle.link.specs.declared.receiver.Answer.{Answer}
 use Rattle.link.specs.declared.receiver.Answer.TheVariants as answer
 use Rattle.wire_lib.specs.declared.receive.Reading.{Reading}
+use Rattle.json.specs.Json.{Json}
+use Rattle.json.specs.Lex.{tokens}
+use Rattle.json.specs.Print.{print}
+use Rattle.json.specs.Token.{Token}
+use Rattle.json.specs.Tree.{json_tokens}
+use Rattle.wire_lib.specs.Printed.{Shows}
 use Rattle.wire_lib.specs.Sent.{LacksFeed}
-use Rattle.wire_lib.specs.Said.{IsLineOf, SaysLine, known_to, end_said, value_line}
+use Rattle.wire_lib.specs.Said.{IsLineOf, IsTextFor, SaysLine, known_to, end_said, value_line}
+use Rattle.wire_lib.proofs.FeedLemmas.{text_lacks}
+use Rattle.wire_lib.proofs.PrintedLemmas.{text_shown, text_read}
+use Rattle.wire_lib.proofs.ToldLemmas.{on_ok_as}
 use Rattle.wire_lib.specs.Received.{held_by, read_by, as_list, place_to, IsLineAt, AreSaid, TellsEach, TellsEnd}
 
 -- the parts of a value's line, one after another
@@ -31,9 +39,14 @@ value_appended lines first second third text part e f g h =
     ∙ append_assoc (lines ++ codes "{\"value\":") text (codes "}\n")
     ∙ append_assoc lines (codes "{\"value\":") (text ++ codes "}\n")
 
--- a list whose front of as many items was written
-pub written_back : (n : ℕ) (xs ys zs : List ℕ) → zs ≡ take n (xs ++ ys) → length xs ≡ n → zs ≡ xs
-written_back n xs ys zs e l = e ∙ ap (λ k. take k (xs ++ ys)) (sym l) ∙ take-append_seam xs ys
+-- what a writer that began with nothing leaves, is the text of the value that was printed
+pub text_written : {E : Type 0} (r : Result (Unit {0}) E) (reading : Reading) (v : Value) (text before : List ℕ) (old new : List Token) → before ≡ [] → old ≡ [] → text ≡ before ++ print new → tokens (print new) ≡ new
+    → OnOk r ((j : Json) × (new ≡ old ++ json_tokens j) × Shows reading.hex reading.schema.now reading.depth reading.place v j) → OnOk r (IsTextFor reading v text)
+text_written r reading v text before old new none empty whole back h = on_ok_as r
+    (λ k.
+    let shown = text_shown text before old new (json_tokens k.0) whole none empty k.1 in
+    let read = text_read text old new (json_tokens k.0) back empty k.1 shown in
+    ((k.0, shown, read, k.2), subst LacksFeed (sym shown) (text_lacks (json_tokens k.0) (ap tokens (sym shown) ∙ read)))) h
 
 -- what was appended where that succeeded
 pub on_appended : {E : Type 0} (r : Result (Unit {0}) E) (x a b : List ℕ)
@@ -42,28 +55,28 @@ on_appended (Ok u) x a b e = e
 on_appended (Err u) x a b e = tt
 
 -- the line of an answer that is no value, by which one it is
-pub says_as : {E : Type 0} (r : Result (Unit {0}) E) (a b : Answer Value)
+pub says_as : {E : Type 0} (reading : Reading) (r : Result (Unit {0}) E) (a b : Answer Value)
     (from from' to last known : ℕ) (lines lines' line : List ℕ)
-    → a ≡ b → from ≡ from' → to ≡ end_said b last known → IsLineOf b from to line
+    → a ≡ b → from ≡ from' → to ≡ end_said b last known → IsLineOf reading b from to line
     → OnOk r (lines' ≡ lines ++ line)
-    → OnOk r (SaysLine a from' (end_said a last known) lines lines')
-says_as (Err e) a b from from' to last known lines lines' line i j k is h = tt
-says_as (Ok x) a b from from' to last known lines lines' line i j k is h =
-    subst (λ z. SaysLine z from' (end_said z last known) lines lines') (sym i) (record {
+    → OnOk r (SaysLine reading a from' (end_said a last known) lines lines')
+says_as reading (Err e) a b from from' to last known lines lines' line i j k is h = tt
+says_as reading (Ok x) a b from from' to last known lines lines' line i j k is h =
+    subst (λ z. SaysLine reading z from' (end_said z last known) lines lines') (sym i) (record {
       line = line;
-      is = subst (λ z. IsLineOf b from' z line) k (subst (λ z. IsLineOf b z to line) j is);
+      is = subst (λ z. IsLineOf reading b from' z line) k (subst (λ z. IsLineOf reading b z to line) j is);
       appended = h;
     })
 
 -- the line of a value
-pub says_value : {E : Type 0} (r : Result (Unit {0}) E) (a : Answer Value) (v : Value)
+pub says_value : {E : Type 0} (reading : Reading) (r : Result (Unit {0}) E) (a : Answer Value) (v : Value)
     (from to : ℕ) (lines lines' : List ℕ) → a ≡ answer.Value v
-    → OnOk r ((text : List ℕ) × LacksFeed text × (lines' ≡ lines ++ value_line text))
-    → OnOk r (SaysLine a from to lines lines')
-says_value (Err e) a v from to lines lines' i h = tt
-says_value (Ok x) a v from to lines lines' i (text, lacks, e) =
-    subst (λ z. SaysLine z from to lines lines') (sym i)
-    (record { line = value_line text; is = (text, lacks, refl); appended = e })
+    → OnOk r ((text : List ℕ) × IsTextFor reading v text × (lines' ≡ lines ++ value_line text))
+    → OnOk r (SaysLine reading a from to lines lines')
+says_value reading (Err e) a v from to lines lines' i h = tt
+says_value reading (Ok x) a v from to lines lines' i (text, is, e) =
+    subst (λ z. SaysLine reading z from to lines lines') (sym i)
+    (record { line = value_line text; is = (text, is, refl); appended = e })
 
 -- the same lines, of a stream in other words
 pub tells_as : (r r' : Reading) (passed : ℕ) (stream x y : List ℕ)
@@ -195,7 +208,7 @@ pub told_by_push : (r : Reading) (passed at at' : ℕ) (stream rest : List ℕ)
     → Answered (held_by r) (read_by r) 65536 r.sentinel stream rest used (Ok (Some a))
     → n ≡ length (unfinished r.sentinel (stream ++ take (used - 1) rest)) → used ≤ length rest
     → at ≡ min (passed + length stream) (2 ^ 64 - 1) → at' ≡ min (at + used) (2 ^ 64 - 1)
-    → SaysLine a (at' - 1 - n) (end_said a (at' - 1) (known_to at' r.sentinel (drop used rest)))
+    → SaysLine r a (at' - 1 - n) (end_said a (at' - 1) (known_to at' r.sentinel (drop used rest)))
     lines lines'
     → TellsEach r passed (stream ++ rest) answers (a ∷ []) lines lines'
 told_by_push r passed at at' stream rest answers a used n lines lines' g with_it answered size
@@ -207,7 +220,7 @@ told_by_push r passed at at' stream rest answers a used n lines lines' g with_it
     let front = stream ++ first in
     let long : length front ≡ length stream + (used - 1) =
     omega (arith, length-append stream first, length-take-le (used - 1) rest (omega arith)) in
-    let line : IsLineAt passed r.sentinel front (byte ∷ more) a says.line = record {
+    let line : IsLineAt r passed front (byte ∷ more) a says.line = record {
       from = at' - 1 - n;
       to = end_said a (at' - 1) (known_to at' r.sentinel more);
       is = says.is;
@@ -251,7 +264,7 @@ none_at_end r passed stream lines over h =
 pub cut_at_end : (r : Reading) (passed at n : ℕ) (stream lines lines' : List ℕ) (b : Begun)
     → b ≡ begun 65536 r.sentinel stream → is_some (finished {V = Value} b) ≡ true
     → n ≡ begun_length b → at ≡ min (passed + length stream) (2 ^ 64 - 1)
-    → SaysLine answer.Cut (at - n) at lines lines'
+    → SaysLine r answer.Cut (at - n) at lines lines'
     → TellsEnd r passed stream (as_list (finished b)) lines lines'
 cut_at_end r passed at n stream lines lines' (kept []) i h size came says = cc
 cut_at_end r passed at n stream lines lines' (kept (x ∷ p)) i h size came says =

@@ -1,5 +1,5 @@
 -- When what was parsed is a value of its type.
-use Rattle.std.specs.Prelude.{◌≡◌, ℕ, zero, suc, ◌+◌, ◌-◌, ◌^◌, ◌<◌, ◌≤◌, ◌≢◌, Bool, true, false, Option, Some, None, Result, Ok, Err, IfOk, if◌then◌else◌, List, [], ◌∷◌, ◌++◌, length, get_or, String, string_bytes, Box}
+use Rattle.std.specs.Prelude.{◌≡◌, ℕ, zero, suc, ◌-◌, ◌^◌, ◌<◌, ◌≤◌, ◌≢◌, Bool, true, false, Option, Some, None, Result, Ok, Err, IfOk, if◌then◌else◌, List, [], ◌∷◌, ◌++◌, length, get_or, String, string_bytes, Box}
 use Rattle.std.specs.Global.{Global}
 use Rattle.std.specs.List.{slice_get}
 use Rattle.std.specs.Str.{IsUtf8}
@@ -19,7 +19,7 @@ use Rattle.schema_table.specs.declared.schema.Names.{Names}
 use Rattle.schema_table.specs.declared.schema.Names.TheVariants as names
 use Rattle.schema_table.specs.declared.schema.Schema.{Schema}
 use Rattle.schemas.specs.declared.integer.Integer.{Integer}
-use Rattle.schemas.specs.declared.value.Value.{Value, out-Value, U8, LE, BE, Text, Bytes, List as Listed, Group, Variant, the_lemmas}
+use Rattle.schemas.specs.declared.value.Value.{Value, out-Value, LE, BE, Text, Bytes, List as Listed, Group, Variant, the_lemmas}
 use Rattle.schemas.specs.declared.value.Value.TheOpen.{Value-F}
 use Rattle.schemas.specs.Integers.{width_of, type_of, bits_in, little_group, big_group, little_tree_of, big_tree_of}
 use Rattle.schemas.specs.Values.{tree_of, trees_in}
@@ -145,9 +145,7 @@ of_struct depth nodes is v h = (
   top_by (OfGroup (FieldsHave (SchemaHas depth nodes) is)) (Group v) (Value-F.Group v) (search (rules, the_lemmas)) (fields_have depth nodes is v.items h),
 )
 
--- options
-
--- variants
+-- values of variants
 
 payload_taken : (takes : ℕ → Tree → Type 0) (is : List ℕ) (n : ℕ) (t : Tree) → n < length is → takes (get_or is n 0) t → TakesPayload takes is n t
 payload_taken takes [] n t l h = absurd (omega (arith, l))
@@ -239,7 +237,7 @@ only_struct (Some (node.Struct w)) i h = (w, refl, one_type w.items i h)
 only_struct None i h = absurd (cc h)
 only_struct (Some _) i h = absurd (cc h)
 
-inside_struct : (b : Bool) (o : Option Node) (i : ℕ) → (if b then only_field o else None) ≡ Some i → IsStruct (i ∷ []) o
+pub inside_struct : (b : Bool) (o : Option Node) (i : ℕ) → (if b then only_field o else None) ≡ Some i → IsStruct (i ∷ []) o
 inside_struct true o i h = only_struct o i h
 inside_struct false o i h = absurd (cc h)
 
@@ -249,7 +247,7 @@ two_struct (i ∷ []) p h = absurd (cc h)
 two_struct (i ∷ k ∷ []) p h = let e : (i, k) ≡ p = cc in ap (λ q. q.0 ∷ q.1 ∷ []) e
 two_struct (i ∷ k ∷ l ∷ is) p h = absurd (cc h)
 
-pair_struct : (o : Option Node) (p : ℕ × ℕ) → pair_node o ≡ Some p → IsStruct (p.0 ∷ p.1 ∷ []) o
+pub pair_struct : (o : Option Node) (p : ℕ × ℕ) → pair_node o ≡ Some p → IsStruct (p.0 ∷ p.1 ∷ []) o
 pair_struct (Some (node.Struct w)) p h = (w, refl, two_struct w.items p h)
 pair_struct None p h = absurd (cc h)
 pair_struct (Some _) p h = absurd (cc h)

@@ -5,6 +5,7 @@ use Rattle.std.proofs.lemmas.Grind.{flat_map-append}
 use Rattle.std.specs.List.{AllZip}
 use Rattle.json.specs.Token.{Token, begin_object, end_object, begin_array, end_array, key}
 use Rattle.json.specs.Json.{Json, null, string, array, object, no_members, member}
+use Rattle.json.specs.Lex.{tokens}
 use Rattle.json.specs.Print.{print}
 use Rattle.json.specs.Tree.{json_tokens, items_tokens, members_tokens}
 use Rattle.json.specs.Value.{items_of}
@@ -126,6 +127,10 @@ other_kind r kind other old new h f = on_ok_as r (λ e. (e.0, e.1, f e.0 e.2)) h
 -- a text that begins with nothing is the text of what was appended
 pub text_shown : (text before : List ℕ) (old new ts : List Token) → text ≡ before ++ print new → before ≡ [] → old ≡ [] → new ≡ old ++ ts → text ≡ print ts
 text_shown text before old new ts shown nothing none all = shown ∙ ap (λ b. b ++ print new) nothing ∙ ap print (all ∙ ap (λ t. t ++ ts) none)
+
+-- it is read as that
+pub text_read : (text : List ℕ) (old new ts : List Token) → tokens (print new) ≡ new → old ≡ [] → new ≡ old ++ ts → text ≡ print ts → tokens text ≡ ts
+text_read text old new ts back none all shown = let same = all ∙ ap (λ t. t ++ ts) none in ap tokens (shown ∙ ap print (sym same)) ∙ back ∙ same
 
 -- the first of some, with its name, and the others
 pub called_first : {A B : Type 0} (ns more : List (String A)) (xs : List B) (x : B) (ts : List B) → xs ≡ x ∷ ts → more ≡ other_names ns → called ns xs ≡ (first_name ns, x) ∷ called more ts

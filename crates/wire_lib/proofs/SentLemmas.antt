@@ -1,11 +1,11 @@
 -- What a sender makes, line by line.
-use Rattle.std.proofs.Common.{◌≡◌, ◌≢◌, ℕ, zero, suc, ◌+◌, ◌-◌, ◌^◌, ◌<◌, ◌≤◌, Bool, true, false, ◌&&◌, min, List, [], ◌∷◌, ◌++◌, length, get_or, take, drop, refl, sym, ap, ◌∙◌, subst, append_assoc, arith, rules}
+use Rattle.std.proofs.Common.{◌≡◌, ◌≢◌, ℕ, zero, suc, ◌+◌, ◌<◌, ◌≤◌, Bool, true, false, ◌&&◌, List, [], ◌∷◌, ◌++◌, length, take, refl, sym, ap, ◌∙◌, subst, append_assoc, inl, arith}
 use Rattle.std.specs.List.{All, flat_map}
 use Rattle.std.specs.Prelude.{slice_index}
-use Rattle.std.proofs.lemmas.List.{append-nil, get_or-take, get_or-append_right, length-append, length-take-le, take_more}
+use Rattle.std.proofs.lemmas.List.{append-nil, get_or-take, length-append, length-take-le}
 use Rattle.std.proofs.lemmas.List.Elements.{All-append}
-use Rattle.std.proofs.lemmas.Grind.{flat_map-append, common_steps}
-use Rattle.wire_lib.specs.Sent.{LineMade, framed, refused, IsLineMade, is_framed, framed_bytes, refused_bytes, are_all_framed, number_behind, AreLinesMade, LacksFeed, with_feed, IsTextOf, HasMadeBy, AppendedApart, IsFrameToSend, refusal_text}
+use Rattle.std.proofs.lemmas.Grind.{flat_map-append}
+use Rattle.wire_lib.specs.Sent.{LineMade, framed, refused, IsTextMade, IsLineWith, IsLineMade, last_line, is_framed, framed_bytes, refused_bytes, are_all_framed, number_behind, AreLinesMade, LacksFeed, with_feed, IsTextOf, HasMadeBy, AppendedApart, IsFrameToSend, refusal_text}
 use Rattle.wire_lib.specs.declared.send.Sending.{Sending}
 
 -- one line more
@@ -15,9 +15,11 @@ all_framed_then [] (refused bytes) = refl
 all_framed_then (framed bytes ∷ ms) m = all_framed_then ms m
 all_framed_then (refused bytes ∷ ms) m = refl
 
-pub lines_made_then : (s : Sending) (n : ℕ) (ms : List LineMade) (m : LineMade) → AreLinesMade s n ms → IsLineMade s (number_behind (n + length ms)) m → AreLinesMade s n (ms ++ m ∷ [])
-lines_made_then s n [] m h k = (subst (λ j. IsLineMade s (number_behind j) m) (omega arith) k, tt)
-lines_made_then s n (x ∷ ms) m h k = (h.0, lines_made_then s (n + 1) ms m h.1 (subst (λ j. IsLineMade s (number_behind j) m) (omega arith) k))
+lines_made_then : (s : Sending) (n : ℕ) (ls : List (List ℕ)) (ms : List LineMade) (l : List ℕ) (m : LineMade) → AreLinesMade s n ls ms → IsLineMade s (number_behind (n + length ms)) l m → AreLinesMade s n (ls ++ l ∷ []) (ms ++ m ∷ [])
+lines_made_then s n [] [] l m h k = (subst (λ j. IsLineMade s (number_behind j) l m) (omega arith) k, tt)
+lines_made_then s n [] (x ∷ ms) l m h k = absurd h
+lines_made_then s n (y ∷ ls) [] l m h k = absurd h
+lines_made_then s n (y ∷ ls) (x ∷ ms) l m h k = (h.0, lines_made_then s (n + 1) ls ms l m h.1 (subst (λ j. IsLineMade s (number_behind j) l m) (omega arith) k))
 
 -- bytes that lack a line feed
 pub lacks_append : (xs ys : List ℕ) → LacksFeed xs → LacksFeed ys → LacksFeed (xs ++ ys)
@@ -60,7 +62,6 @@ pub made_on : (s : Sending) (begun part : List ℕ) (number : ℕ) (good : Bool)
 made_on s begun part number good text made h lacks = subst (λ x. HasMadeBy s (begun ++ part) number good (text ++ part) x) (sym (append-nil made)) (record {
   lines = h.lines;
   parts = text_on text h.lines begun part h.parts lacks;
-  each = h.each;
   are = h.are;
   counted = h.counted;
   good_is = h.good_is;
@@ -68,15 +69,14 @@ made_on s begun part number good text made h lacks = subst (λ x. HasMadeBy s (b
 
 -- a line was ended and became this
 pub made_then : (s : Sending) (begun part : List ℕ) (number number' : ℕ) (good good' : Bool) (text : List ℕ) (made : List LineMade) (m : LineMade)
-    → HasMadeBy s begun number good text made → LacksFeed part → IsLineMade s number' m → number' ≡ number_behind number → good' ≡ (good && is_framed m)
+    → HasMadeBy s begun number good text made → LacksFeed part → IsLineMade s number' (begun ++ part) m → number' ≡ number_behind number → good' ≡ (good && is_framed m)
     → HasMadeBy s [] number' good' (text ++ (part ++ 10 ∷ [])) (made ++ m ∷ [])
 made_then s begun part number number' good good' text made m h lacks is counted good_is =
     let on = text_ended (text ++ part) h.lines (begun ++ part) (text_on text h.lines begun part h.parts lacks) in
     let behind : number' ≡ number_behind (0 + length made) = omega (arith, counted, h.counted) in record {
       lines = h.lines ++ (begun ++ part) ∷ [];
       parts = subst (λ x. IsTextOf x (h.lines ++ (begun ++ part) ∷ []) []) (append_assoc text part (10 ∷ [])) on;
-      each = length-append made (m ∷ []) ∙ ap (λ n. n + 1) h.each ∙ sym (length-append h.lines ((begun ++ part) ∷ []));
-      are = lines_made_then s 0 made m h.are (subst (λ n. IsLineMade s n m) behind is);
+      are = lines_made_then s 0 h.lines made (begun ++ part) m h.are (subst (λ n. IsLineMade s n (begun ++ part) m) behind is);
       counted = omega (arith, counted, h.counted, length-append made (m ∷ []));
       good_is = good_is ∙ ap (λ g. g && is_framed m) h.good_is ∙ sym (all_framed_then made m);
     }
@@ -93,9 +93,9 @@ appended_then f g h v w x ms ns a b = record {
 }
 
 -- a line became a frame
-pub sent_framed : (s : Sending) (number : ℕ) (frames frames' wrongs bytes : List ℕ) (good : Bool) → IsFrameToSend s bytes → frames' ≡ frames ++ bytes
-    → (m : LineMade) × IsLineMade s number m × AppendedApart frames frames' wrongs wrongs (m ∷ []) × (good ≡ (good && is_framed m))
-sent_framed s number frames frames' wrongs bytes good is e = (
+pub sent_framed : (s : Sending) (number : ℕ) (line frames frames' wrongs bytes : List ℕ) (good : Bool) → IsFrameToSend s line bytes → frames' ≡ frames ++ bytes
+    → (m : LineMade) × IsTextMade s number line m × AppendedApart frames frames' wrongs wrongs (m ∷ []) × (good ≡ (good && is_framed m))
+sent_framed s number line frames frames' wrongs bytes good is e = (
   framed bytes,
   is,
   record { to_frames = e ∙ ap (λ x. frames ++ x) (sym (append-nil bytes)); to_wrongs = sym (append-nil wrongs) },
@@ -107,9 +107,9 @@ sent_framed s number frames frames' wrongs bytes good is e = (
     still false = refl
 
 -- a line was refused
-pub sent_refused : (s : Sending) (number number' : ℕ) (frames wrongs wrongs' : List ℕ) (good good' : Bool) → number' ≡ number → good' ≡ false → (why : List ℕ) × (wrongs' ≡ wrongs ++ refusal_text number why)
-    → (m : LineMade) × IsLineMade s number' m × AppendedApart frames frames wrongs wrongs' (m ∷ []) × (good' ≡ (good && is_framed m))
-sent_refused s number number' frames wrongs wrongs' good good' e bad (why, said) = (
+pub sent_refused : (s : Sending) (number number' : ℕ) (line frames wrongs wrongs' : List ℕ) (good good' : Bool) → number' ≡ number → good' ≡ false → (why : List ℕ) × (wrongs' ≡ wrongs ++ refusal_text number why)
+    → (m : LineMade) × IsTextMade s number' line m × AppendedApart frames frames wrongs wrongs' (m ∷ []) × (good' ≡ (good && is_framed m))
+sent_refused s number number' line frames wrongs wrongs' good good' e bad (why, said) = (
   refused (refusal_text number why),
   (why, ap (λ n. refusal_text n why) (sym e)),
   record { to_frames = sym (append-nil frames); to_wrongs = said ∙ ap (λ x. wrongs ++ x) (sym (append-nil (refusal_text number why))) },
@@ -120,12 +120,22 @@ sent_refused s number number' frames wrongs wrongs' good good' e bad (why, said)
     never true = refl
     never false = refl
 
+-- nothing is begun
+pub none_begun : (xs : List ℕ) → length xs ≡ 0 → xs ≡ []
+none_begun [] e = refl
+none_begun (x ∷ xs) e = absurd (omega (arith, e))
+
+-- what a line's text became, the line did
+pub line_made : (s : Sending) (number : ℕ) (line text : List ℕ) (m : LineMade) → IsLineWith text line → IsTextMade s number text m → IsLineMade s number line m
+line_made s number line text m e h = (text, e, h)
+
 -- the last line, which no line feed ended, became this
-pub last_made : (s : Sending) (begun : List ℕ) (number number' : ℕ) (good good' : Bool) (text : List ℕ) (made : List LineMade) (m : LineMade)
-    → HasMadeBy s begun number good text made → IsLineMade s number' m → number' ≡ number_behind number → good' ≡ (good && is_framed m)
-    → AreLinesMade s (length made) (m ∷ []) × (good' ≡ are_all_framed (made ++ m ∷ []))
-last_made s begun number number' good good' text made m h is counted good_is =
+pub last_made : (s : Sending) (begun : List ℕ) (number number' : ℕ) (good good' : Bool) (text : List ℕ) (made : List LineMade) (m : LineMade) → begun ≢ []
+    → HasMadeBy s begun number good text made → IsTextMade s number' begun m → number' ≡ number_behind number → good' ≡ (good && is_framed m)
+    → AreLinesMade s (length made) (last_line begun) (m ∷ []) × (good' ≡ are_all_framed (made ++ m ∷ []))
+last_made s [] number number' good good' text made m some h is counted good_is = absurd (some refl)
+last_made s (x ∷ xs) number number' good good' text made m some h is counted good_is =
     let behind : number' ≡ number_behind (length made) = omega (arith, counted, h.counted) in (
-      (subst (λ n. IsLineMade s n m) behind is, tt),
+      ((x ∷ xs, inl refl, subst (λ n. IsTextMade s n (x ∷ xs) m) behind is), tt),
       good_is ∙ ap (λ g. g && is_framed m) h.good_is ∙ sym (all_framed_then made m),
     )

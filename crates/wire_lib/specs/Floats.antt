@@ -1,5 +1,5 @@
 -- The JSON of floats, by their bits.
-use Rattle.std.specs.Prelude.{◌≡◌, ◌⊎◌, ℕ, List, ◌++◌, Bool, true, false, Some, Ok, codes, from_bits, nat_eq, if◌then◌else◌}
+use Rattle.std.specs.Prelude.{◌≡◌, ◌⊎◌, ◌<◌, ◌^◌, ℕ, List, ◌++◌, Bool, true, false, Some, Ok, codes, from_bits, nat_eq, if◌then◌else◌}
 use Rattle.std.specs.Float.{Float, Format, binary32, binary64, float_is_finite}
 use Rattle.std.specs.Int.{Width, w32, w64, to_be_bytes, from_be_bytes}
 use Rattle.fast_float.specs.Parse.{parse_float}
@@ -12,21 +12,21 @@ use Rattle.schemas.specs.declared.integer.Integer.TheVariants as integers
 abbrev pub nan_word : List ℕ → List ℕ
 nan_word bytes = codes "NaN:" ++ encode_lower bytes
 
--- the word for an `f32` that isn't finite
-abbrev pub single_word : ℕ → List ℕ
-single_word n =
-    if nat_eq n 0x7f800000 then codes "Infinity"
-    else if nat_eq n 0xff800000 then codes "-Infinity"
-    else if nat_eq n 0x7fc00000 then codes "NaN"
-    else nan_word (to_be_bytes w32 n)
+-- the word for a float that isn't finite, by its bits: those of both infinities and of the usual NaN come first
+abbrev pub word_of : Width → ℕ → ℕ → ℕ → ℕ → List ℕ
+word_of w infinity below usual n =
+    if nat_eq n infinity then codes "Infinity"
+    else if nat_eq n below then codes "-Infinity"
+    else if nat_eq n usual then codes "NaN"
+    else nan_word (to_be_bytes w n)
 
--- the word for an `f64` that isn't finite
+-- the word for an `f32`
+abbrev pub single_word : ℕ → List ℕ
+single_word n = word_of w32 0x7f800000 0xff800000 0x7fc00000 n
+
+-- the word for an `f64`
 abbrev pub double_word : ℕ → List ℕ
-double_word n =
-    if nat_eq n 0x7ff0000000000000 then codes "Infinity"
-    else if nat_eq n 0xfff0000000000000 then codes "-Infinity"
-    else if nat_eq n 0x7ff8000000000000 then codes "NaN"
-    else nan_word (to_be_bytes w64 n)
+double_word n = word_of w64 0x7ff0000000000000 0xfff0000000000000 0x7ff8000000000000 n
 
 -- a number that reads as this float
 abbrev pub ShowsNumber : Format → Float → Json → Type 0
@@ -65,12 +65,12 @@ WordMeansDouble word n = (word ≡ double_word n) ⊎ IsNanOf w64 word n
 
 -- a word for a float, by its bits
 abbrev pub WordMeansFloat : List ℕ → Integer → Type 0
-WordMeansFloat word (integers.U32 n) = WordMeansSingle word n
-WordMeansFloat word (integers.U64 n) = WordMeansDouble word n
+WordMeansFloat word (integers.U32 n) = (n < 2 ^ 32) × WordMeansSingle word n
+WordMeansFloat word (integers.U64 n) = (n < 2 ^ 64) × WordMeansDouble word n
 WordMeansFloat word _ = ⊥
 
 -- the float nearest to a number, by its bits
 abbrev pub NumberMeansFloat : List ℕ → Integer → Type 0
-NumberMeansFloat s (integers.U32 n) = parse_float binary32 s ≡ Some (from_bits binary32 n)
-NumberMeansFloat s (integers.U64 n) = parse_float binary64 s ≡ Some (from_bits binary64 n)
+NumberMeansFloat s (integers.U32 n) = (n < 2 ^ 32) × (parse_float binary32 s ≡ Some (from_bits binary32 n))
+NumberMeansFloat s (integers.U64 n) = (n < 2 ^ 64) × (parse_float binary64 s ≡ Some (from_bits binary64 n))
 NumberMeansFloat s _ = ⊥

@@ -12,6 +12,7 @@ pub mod Printed
 pub mod Rates
 pub mod Raw
 pub mod Received
+pub mod RoundTrip
 pub mod Said
 pub mod Seen
 pub mod Sent

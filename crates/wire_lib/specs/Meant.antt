@@ -1,5 +1,5 @@
 -- Which value a JSON means, by its type.
-use Rattle.std.specs.Prelude.{◌≡◌, ◌⊎◌, ℕ, zero, suc, ◌+◌, ◌*◌, ℤ, List, [], ◌∷◌, length, Bool, true, false, Option, Some, None, option_and_then, Ok, codes, string_bytes, encode_utf8}
+use Rattle.std.specs.Prelude.{◌≡◌, ◌≢◌, ◌⊎◌, ℕ, zero, suc, ◌+◌, ◌*◌, ℤ, List, [], ◌∷◌, length, Bool, true, false, Option, Some, None, option_and_then, Ok, codes, string_bytes, encode_utf8}
 use Rattle.std.specs.List.{slice_get}
 use Rattle.std.specs.Str.Parse.{IsNumeral, digits_value, signed_digits_value, without_leading_plus, without_leading_sign}
 use Rattle.hex.specs.Hex.{decode_of}
@@ -130,10 +130,10 @@ KeyMeans schema (suc depth) i s v =
 abbrev pub IsPresent : Schema → ℕ → Json → Json → Type 0
 IsPresent schema i k j = IsPresentBy (null_within (length schema.nodes.items) schema i) (λ x. x ≡ k) j
 
--- an option of this type
+-- an option of this type: `null` is none
 abbrev pub MeansOption : Schema → ℕ → (Json → Value → Type 0) → Json → Value-F Value → Type 0
 MeansOption schema i means j Value-F.Absent = j ≡ null
-MeansOption schema i means j (Value-F.Present w) = IsPresentBy (null_within (length schema.nodes.items) schema i) (λ k. means k w.value) j
+MeansOption schema i means j (Value-F.Present w) = (j ≢ null) × IsPresentBy (null_within (length schema.nodes.items) schema i) (λ k. means k w.value) j
 MeansOption schema i means j _ = ⊥
 
 -- values of one type, one for each of these

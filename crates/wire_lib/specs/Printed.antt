@@ -4,6 +4,8 @@ use Rattle.std.specs.Fmt.{signed_decimal}
 use Rattle.std.specs.List.{AllZip, slice_get}
 use Rattle.hex.specs.Hex.{encode_lower}
 use Rattle.json.specs.Json.{Json, null, boolean, number, string, array, object, Items, no_items, item, Members, no_members, member}
+use Rattle.json.specs.Lex.{tokens}
+use Rattle.json.specs.Print.{print}
 use Rattle.json.specs.Token.{Token, key}
 use Rattle.json.specs.Tree.{json_tokens}
 use Rattle.json.specs.Value.{items_of}
@@ -266,3 +268,11 @@ ShowsNode hex schema i shows _ v j = j ≡ plain_json hex v
 unfoldable pub Shows : Bool → Schema → ℕ → ℕ → Value → Json → Type 0
 Shows hex schema zero i v j = j ≡ null
 Shows hex schema (suc depth) i v j = ShowsNode hex schema i (Shows hex schema depth) (node_at schema i) (out-Value v) j
+
+-- a text is this JSON
+abbrev pub IsJsonOf : List ℕ → Json → Type 0
+IsJsonOf text j = tokens text ≡ json_tokens j
+
+-- a text is what is printed of the value of the type at a place, with at most so many nested nodes
+abbrev pub Prints : Bool → Schema → ℕ → ℕ → Value → List ℕ → Type 0
+Prints hex schema depth i v text = (j : Json) × (text ≡ print (json_tokens j)) × IsJsonOf text j × Shows hex schema depth i v j

@@ -7,10 +7,10 @@ use Rattle.schemas.specs.declared.value.Value.{Value}
 use Rattle.schemas.specs.Values.{tree_of}
 use Rattle.wire_lib.specs.declared.receive.Reading.{Reading}
 use Rattle.wire_lib.specs.declared.send.Sending.{Sending}
+use Rattle.wire_lib.specs.Meant.{MeansText}
 use Rattle.wire_lib.specs.Parsed.{IsOfType}
 use Rattle.wire_lib.specs.Received.{read_by}
-use Rattle.wire_lib.specs.Said.{value_line}
-use Rattle.wire_lib.specs.Sent.{LacksFeed}
+use Rattle.wire_lib.specs.Said.{IsTextFor, value_line}
 use Rattle.wire_lib.specs.Summed.{message_with}
 
 -- The line of the value that the type reads from a whole message was appended.
@@ -21,15 +21,16 @@ pub record ShowsWhole (r : Reading) (message lines lines' : List ℕ) : Type 0 w
   pub read : ReadsFront (read_by r) message [] value
   -- the text of its JSON
   pub text : List ℕ
-  -- it has no line feed
-  pub one_line : LacksFeed text
+  pub is_text : IsTextFor r value text
   -- and nothing else was appended
   pub appended : lines' ≡ lines ++ value_line text
 
--- The message of a value of the type: its shortest encoding, followed by its checksum if one is asked for.
-pub record IsMessageToSend (s : Sending) (message : List ℕ) : Type 0 where
+-- The message of the value of the type that a line means: its shortest encoding, followed by its checksum if one is asked for.
+pub record IsMessageToSend (s : Sending) (line message : List ℕ) : Type 0 where
   -- the value
   pub value : Value
+  -- the line means it
+  pub means : MeansText s.schema.now s.depth s.place line value
   -- it is of the type
   pub of_type : IsOfType s.depth s.schema.now.nodes.items s.place value
   -- its tree is one that can be encoded

@@ -81,16 +81,16 @@ place_to passed s _ front later = passed + length front
 
 -- This is the line of a result, of the stretch that a prefix of a stream leaves unfinished, if these bytes came later. Its positions
 -- are the stretch's while fewer than 2^64 bytes came.
-pub record IsLineAt (passed s : ℕ) (front later : List ℕ) (a : Answer Value)
+pub record IsLineAt (r : Reading) (passed : ℕ) (front later : List ℕ) (a : Answer Value)
     (line : List ℕ) : Type 0 where
   -- the two positions in the line
   pub from : ℕ
   pub to : ℕ
   -- it is the line of the result with these
-  pub is : IsLineOf a from to line
+  pub is : IsLineOf r a from to line
   -- they are the stretch's
   pub places : passed + length (front ++ later) < 2 ^ 64
-      → (from ≡ place_from passed s front) × (to ≡ place_to passed s a front later)
+      → (from ≡ place_from passed r.sentinel front) × (to ≡ place_to passed r.sentinel a front later)
 
 -- A result of a stream, the next after these earlier ones, and its line: the results of a prefix of the stream are the earlier ones,
 -- and one more byte brings this one.
@@ -106,7 +106,7 @@ pub record IsSaid (r : Reading) (passed : ℕ) (stream : List ℕ) (earlier : Li
   -- the results with the byte
   pub with_it : HasGiven (held_by r) (read_by r) 65536 r.sentinel (earlier ++ a ∷ []) (front ++ byte ∷ [])
   -- the line of the result
-  pub line_is : IsLineAt passed r.sentinel front (byte ∷ more) a line
+  pub line_is : IsLineAt r passed front (byte ∷ more) a line
 
 -- results after earlier ones, in order, and a line for each
 abbrev pub AreSaid : Reading → ℕ → List ℕ → List (Answer Value) → List (Answer Value)
@@ -132,6 +132,6 @@ pub record TellsEnd (r : Reading) (passed : ℕ) (stream : List ℕ) (added : Li
   -- the lines
   pub each : List (List ℕ)
   -- they are the lines of the results
-  pub are : AllZip (IsLineAt passed r.sentinel stream []) added each
+  pub are : AllZip (IsLineAt r passed stream []) added each
   -- they alone were appended
   pub appended : lines' ≡ lines ++ flat_map (λ line. line) each

@@ -5,7 +5,9 @@ use Rattle.cobs.specs.Sentinel.{masked}
 use Rattle.schemas.specs.declared.value.Value.{Value}
 use Rattle.link.specs.declared.receiver.Answer.{Answer}
 use Rattle.link.specs.declared.receiver.Answer.TheVariants as answer
+use Rattle.wire_lib.specs.Printed.{Prints}
 use Rattle.wire_lib.specs.Sent.{LacksFeed}
+use Rattle.wire_lib.specs.declared.receive.Reading.{Reading}
 
 -- The line of a value, by the text of its JSON.
 abbrev pub value_line : List ℕ → List ℕ
@@ -17,20 +19,24 @@ abbrev pub stretch_line : List ℕ → ℕ → ℕ → List ℕ
 stretch_line what from to = codes "{\"" ++ (what ++ (codes "\":{\"from\":"
     ++ (decimal from ++ (codes ",\"to\":" ++ (decimal to ++ codes "}}\n")))))
 
--- This is the line of a result, with these two positions if it isn't a value. Of a value's text only that it has no line feed.
-abbrev pub IsLineOf : Answer Value → ℕ → ℕ → List ℕ → Type 0
-IsLineOf (answer.Value v) from to line = (text : List ℕ) × LacksFeed text × (line ≡ value_line text)
-IsLineOf answer.Damaged from to line = (line ≡ stretch_line (codes "damaged") from to)
+-- A text is the JSON of a value, as it is read: it has no line feed.
+abbrev pub IsTextFor : Reading → Value → List ℕ → Type 0
+IsTextFor r v text = Prints r.hex r.schema.now r.depth r.place v text × LacksFeed text
+
+-- This is the line of a result, with these two positions if it isn't a value.
+abbrev pub IsLineOf : Reading → Answer Value → ℕ → ℕ → List ℕ → Type 0
+IsLineOf r (answer.Value v) from to line = (text : List ℕ) × IsTextFor r v text × (line ≡ value_line text)
+IsLineOf r answer.Damaged from to line = (line ≡ stretch_line (codes "damaged") from to)
     ⊎ (line ≡ stretch_line (codes "too_deep") from to)
-IsLineOf answer.TooLong from to line = line ≡ stretch_line (codes "too_long") from to
-IsLineOf answer.Cut from to line = line ≡ stretch_line (codes "cut") from to
+IsLineOf r answer.TooLong from to line = line ≡ stretch_line (codes "too_long") from to
+IsLineOf r answer.Cut from to line = line ≡ stretch_line (codes "cut") from to
 
 -- The line of a result was appended to others.
-pub record SaysLine (a : Answer Value) (from to : ℕ) (lines lines' : List ℕ) : Type 0 where
+pub record SaysLine (r : Reading) (a : Answer Value) (from to : ℕ) (lines lines' : List ℕ) : Type 0 where
   -- the line
   pub line : List ℕ
   -- it is the line of this result
-  pub is : IsLineOf a from to line
+  pub is : IsLineOf r a from to line
   -- and nothing else was appended
   pub appended : lines' ≡ lines ++ line
 

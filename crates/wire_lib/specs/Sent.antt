@@ -1,20 +1,23 @@
 -- What the lines of a text became: each a frame or a refusal.
-use Rattle.std.specs.Prelude.{◌≡◌, ◌≢◌, ℕ, ◌+◌, ◌-◌, ◌^◌, ◌<◌, ◌≤◌, ◌&&◌, Bool, true, false, min, List, [], ◌∷◌, ◌++◌, length, slice_index, All, flat_map, codes, decimal}
+use Rattle.std.specs.Prelude.{◌≡◌, ◌≢◌, ◌⊎◌, ℕ, ◌+◌, ◌-◌, ◌^◌, ◌<◌, ◌≤◌, ◌&&◌, Bool, true, false, min, List, [], ◌∷◌, ◌++◌, length, slice_index, All, flat_map, codes, decimal}
 use Rattle.cobs.specs.Sentinel.{frame_for}
 use Rattle.postcard_tree.specs.Tree.{IsTree}
 use Rattle.postcard_tree.specs.Spelling.{short}
 use Rattle.schemas.specs.declared.value.Value.{Value}
 use Rattle.schemas.specs.Values.{tree_of}
+use Rattle.wire_lib.specs.Meant.{MeansText}
 use Rattle.wire_lib.specs.Parsed.{IsOfType}
 use Rattle.wire_lib.specs.Summed.{message_with}
 use Rattle.wire_lib.specs.declared.send.Sending.{Sending}
 use Rattle.wire_lib.specs.declared.send.FramesOfLines.{FramesOfLines}
 
--- The frame of a value of the type, followed by its sentinel: the shortest of its message, of at most 65536 bytes before the
--- sentinel. The message is followed by its checksum if one is asked for.
-pub record IsFrameToSend (s : Sending) (frame : List ℕ) : Type 0 where
+-- The frame of the value of the type that a line means, followed by its sentinel: the shortest of its message, of at most 65536
+-- bytes before the sentinel. The message is followed by its checksum if one is asked for.
+pub record IsFrameToSend (s : Sending) (line frame : List ℕ) : Type 0 where
   -- the value
   pub value : Value
+  -- the line means it
+  pub means : MeansText s.schema.now s.depth s.place line value
   -- it is of the type
   pub of_type : IsOfType s.depth s.schema.now.nodes.items s.place value
   -- its tree is one that can be encoded
@@ -34,10 +37,18 @@ abbrev pub refusal_text : ℕ → List ℕ → List ℕ
 refusal_text number why =
     codes "line " ++ (decimal number ++ (codes ": " ++ (why ++ 10 ∷ [])))
 
--- The line of that number became this: the frame of a value, or a refusal with that number.
-abbrev pub IsLineMade : Sending → ℕ → LineMade → Type 0
-IsLineMade s number (framed bytes) = IsFrameToSend s bytes
-IsLineMade s number (refused bytes) = (why : List ℕ) × (bytes ≡ refusal_text number why)
+-- The text of the line of that number became this: the frame of the value that it means, or a refusal with that number.
+abbrev pub IsTextMade : Sending → ℕ → List ℕ → LineMade → Type 0
+IsTextMade s number text (framed bytes) = IsFrameToSend s text bytes
+IsTextMade s number text (refused bytes) = (why : List ℕ) × (bytes ≡ refusal_text number why)
+
+-- a line is this text, with or without a carriage return at its end
+abbrev pub IsLineWith : List ℕ → List ℕ → Type 0
+IsLineWith text line = (line ≡ text) ⊎ (line ≡ text ++ 13 ∷ [])
+
+-- the line of that number became this, by its text
+abbrev pub IsLineMade : Sending → ℕ → List ℕ → LineMade → Type 0
+IsLineMade s number line m = (text : List ℕ) × IsLineWith text line × IsTextMade s number text m
 
 -- whether it is a frame
 abbrev pub is_framed : LineMade → Bool
@@ -63,10 +74,16 @@ are_all_framed (m ∷ ms) = is_framed m && are_all_framed ms
 abbrev pub number_behind : ℕ → ℕ
 number_behind before = min (before + 1) (2 ^ 64 - 1)
 
--- the lines after `before` others became these, one each
-abbrev pub AreLinesMade : Sending → ℕ → List LineMade → Type 0
-AreLinesMade s before [] = Unit {0}
-AreLinesMade s before (m ∷ ms) = IsLineMade s (number_behind before) m × AreLinesMade s (before + 1) ms
+-- these lines, after `before` others, became these, one each
+abbrev pub AreLinesMade : Sending → ℕ → List (List ℕ) → List LineMade → Type 0
+AreLinesMade s before [] [] = Unit {0}
+AreLinesMade s before (line ∷ lines) (m ∷ ms) = IsLineMade s (number_behind before) line m × AreLinesMade s (before + 1) lines ms
+AreLinesMade s before _ _ = ⊥
+
+-- the last line, if one is begun
+abbrev pub last_line : List ℕ → List (List ℕ)
+last_line [] = []
+last_line (x ∷ xs) = (x ∷ xs) ∷ []
 
 -- no byte is a line feed
 abbrev pub LacksFeed : List ℕ → Type 0
@@ -92,10 +109,8 @@ pub record HasMadeBy (s : Sending) (begun : List ℕ) (number : ℕ) (good : Boo
   pub lines : List (List ℕ)
   -- they are the text's
   pub parts : IsTextOf text lines begun
-  -- each became one
-  pub each : length made ≡ length lines
-  -- its frame, or its refusal
-  pub are : AreLinesMade s 0 made
+  -- each became its frame, or its refusal
+  pub are : AreLinesMade s 0 lines made
   -- the number of lines, at most the greatest of 64 bits
   pub counted : number ≡ min (length made) (2 ^ 64 - 1)
   -- whether all became frames

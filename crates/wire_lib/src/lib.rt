@@ -3,6 +3,7 @@
 #![tactic(auto)]
 
 mod floats;
+pub mod laws;
 mod looks;
 pub mod parse;
 pub mod print;

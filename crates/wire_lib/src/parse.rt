@@ -518,7 +518,8 @@ fn pairs(
 ) -> Result<Vec<Value>, ParseError>
     ensures of_type { IfOk result (λ v. AreOfType depth schema.now.nodes.items place v.items) }
     ensures means { IfOk result
-        (λ v. MeansMembers (MeansMember schema.now depth place) (members_view members.now) v.items) }
+        (λ v. MeansMembers (MeansMember schema.now depth place) (members_view members.now)
+        v.items) }
 {
     let mut items = Vec::new(alloc);
     for (key, json) in members {
@@ -915,7 +916,8 @@ fn json_of<'a>(
     reader: &mut Reader<'a>,
 ) -> Result<Option<Json<'a>>, ParseError>
     ensures { IfOk result
-        (λ o. IfSome o (λ json. json_value (2 * depth + 2) reader.old ≡ Some (value_view json, []))) }
+        (λ o. IfSome o
+        (λ json. json_value (2 * depth + 2) reader.old ≡ Some (value_view json, []))) }
 {
     match Json::read(alloc, reader, json_depth(depth)) {
         Ok(json) if reader.next().is_none() => Ok(Some(json)),

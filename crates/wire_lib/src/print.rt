@@ -3,14 +3,12 @@ ghost use Rattle.std.specs.Prelude.{◌≡◌, true, ◌<◌, ◌&&◌, [], ◌�
 ghost use Rattle.std.specs.Fmt.{signed_decimal};
 ghost use Rattle.std.specs.List.{slice_get};
 ghost use Rattle.hex.specs.Hex.{encode_lower};
-ghost use Rattle.json.specs.Json.{Json, null, boolean, number, string, array};
-ghost use Rattle.json.specs.Print.{print as text_of};
+ghost use Rattle.json.specs.Json.{null, boolean, number, string, array};
 ghost use Rattle.json.specs.Token.{key};
-ghost use Rattle.json.specs.Tree.{json_tokens};
 ghost use Rattle.schemas.specs.declared.value.Value.{out-Value};
 ghost use Rattle.wire_lib.specs.Floats.{ShowsDouble, ShowsSingle};
 ghost use Rattle.wire_lib.specs.Looks.{IsUnder, inside_within, integer_key, is_byte_node, is_float_named, key_text, names_at, node_at, only_part as part_in, part_of, plain_key, variant_named};
-ghost use Rattle.wire_lib.specs.Printed.{AppendsJson, AppendsKey, AppendsMember, AppendsOne, Shows, ShowsArray, ShowsElements, ShowsEnum, ShowsFields, ShowsFirst, ShowsFixed, ShowsInteger, ShowsList, ShowsNamed, ShowsObject, ShowsOption, ShowsPair, ShowsPart, ShowsParts, ShowsStruct, ShowsVariant, byte_items, bytes_in, bytes_json, digits_json, first_name, integer_json, other_names, plain_json, two_values};
+ghost use Rattle.wire_lib.specs.Printed.{AppendsJson, AppendsKey, AppendsMember, AppendsOne, Prints, Shows, ShowsArray, ShowsElements, ShowsEnum, ShowsFields, ShowsFirst, ShowsFixed, ShowsInteger, ShowsList, ShowsNamed, ShowsObject, ShowsOption, ShowsPair, ShowsPart, ShowsParts, ShowsStruct, ShowsVariant, byte_items, bytes_in, bytes_json, digits_json, first_name, integer_json, other_names, plain_json, two_values};
 
 use crate::floats::{double, single, word_of, word_of_double};
 use crate::looks::{
@@ -850,8 +848,8 @@ pub fn print(
     look: Look,
     value: &Value,
 ) -> Result<Vec<u8>, AllocError>
-    ensures json { IfOk result (λ text. (j : Json) × (text.items ≡ text_of (json_tokens j))
-        × Shows look.hex schema.now look.depth place value.now j) }
+    ensures json { IfOk result
+        (λ text. Prints look.hex schema.now look.depth place value.now text.items) }
 {
     let mut out = Writer::new(Vec::new(alloc));
     print_into(&mut out, alloc, schema, place, look, value)?;

@@ -120,7 +120,7 @@ pub fn put_message(
 /// # Errors
 /// Those of [`parse`](crate::parse::parse).
 pub fn message_of(sending: Sending<'_>, line: &[u8]) -> Result<Vec<u8>, ParseError>
-    ensures { IfOk result (λ message. IsMessageToSend sending.entry message.items) }
+    ensures { IfOk result (λ message. IsMessageToSend sending.entry line.now message.items) }
 {
     let Sending {
         alloc,

@@ -5,8 +5,7 @@ ghost use Rattle.link.specs.Receivers.{IsBehind, SameTerms};
 ghost use Rattle.link.specs.Pushes.{Answered, IsStretchOf};
 ghost use Rattle.link.specs.declared.receiver.Answer.{Answer as Answers};
 ghost use Rattle.schemas.specs.declared.value.Value.{Value as Values};
-ghost use Rattle.wire_lib.specs.Sent.{LacksFeed};
-ghost use Rattle.wire_lib.specs.Said.{value_line, stretch_line, known_to, end_said, SaysLine};
+ghost use Rattle.wire_lib.specs.Said.{IsTextFor, value_line, stretch_line, known_to, end_said, SaysLine};
 ghost use Rattle.wire_lib.specs.Received.{HasTold, held_by, read_by, reading_of, skip_of, is_a_value, are_all_values, added_at_end, TellsEach, TellsEnd};
 
 use crate::print::{Look, print_into};
@@ -117,7 +116,8 @@ impl<'a> LinesOfFrames<'a> {
         left: &[u8],
         lines: &mut Vec<u8>,
     ) -> Result<(), AllocError>
-        ensures line { OnOk result (SaysLine answer.now (self.old.at - 1 - stretch)
+        ensures line { OnOk result (SaysLine (reading_of self.old) answer.now
+            (self.old.at - 1 - stretch)
             (end_said answer.now (self.old.at - 1)
             (known_to self.old.at self.old.reading.sentinel left.now))
             lines.old.items lines.new.items) }
@@ -298,38 +298,13 @@ pub(crate) fn put_value_line(
     text: &mut Vec<u8>,
     lines: &mut Vec<u8>,
 ) -> Result<(), AllocError>
-    ensures { OnOk result ((said : List ℕ) × LacksFeed said
+    ensures { OnOk result ((said : List ℕ) × IsTextFor reading.entry value.now said
         × (lines.new.items ≡ lines.old.items ++ value_line said)) }
 {
     write_value(reading, value, text)?;
-    join_lines(text);
     lines.extend_from_slice(b"{\"value\":")?;
     lines.extend_from_slice(text)?;
     lines.extend_from_slice(b"}\n")
-}
-
-/// Makes one line of JSON. A line feed could only be between tokens, where a space means the same. The kit's writer puts none there,
-/// which none of its contracts states.
-fn join_lines(text: &mut [u8])
-    ensures { LacksFeed text.new }
-{
-    if before_sentinel(text, b'\n') < text.len() {
-        put_spaces(text);
-    }
-}
-
-/// Replaces each line feed by a space.
-#[cold]
-fn put_spaces(text: &mut [u8])
-    ensures { LacksFeed text.new }
-{
-    let mut at = 0;
-    while at < text.len() {
-        if text[at] == b'\n' {
-            text[at] = b' ';
-        }
-        at += 1;
-    }
 }
 
 /// Appends the line of a stretch that isn't a value: a word, and its positions in the stream.
@@ -350,7 +325,9 @@ pub(crate) fn put_stretch_line(
 // And a writer of `json` clears as many bytes ahead as precede it, up to 16 KiB, which cost a tenth of a message's instructions.
 // Rejected: printing in place, where each function of `print` would have to state that it leaves what precedes unchanged.
 /// Replaces the text by a value's JSON.
-fn write_value(reading: Reading<'_>, value: &Value, text: &mut Vec<u8>) -> Result<(), AllocError> {
+fn write_value(reading: Reading<'_>, value: &Value, text: &mut Vec<u8>) -> Result<(), AllocError>
+    ensures { OnOk result (IsTextFor reading.entry value.now text.new.items) }
+{
     let Reading {
         alloc,
         schema,

@@ -1,6 +1,6 @@
 //! Lines of JSON as a stream of frames.
 ghost use Rattle.std.specs.Prelude.{◌≡◌, ℕ, ◌<◌, ◌≤◌, ◌&&◌, false, List, [], ◌∷◌, ◌++◌, length, take, string_bytes, IfOk, OnOk};
-ghost use Rattle.wire_lib.specs.Sent.{IsFrameToSend, LineMade, refusal_text, IsLineMade, AreLinesMade, is_framed, are_all_framed, number_behind, sending_of, begun_line, HasMade, AppendedApart};
+ghost use Rattle.wire_lib.specs.Sent.{IsFrameToSend, LineMade, refusal_text, IsTextMade, IsLineMade, IsLineWith, AreLinesMade, last_line, is_framed, are_all_framed, number_behind, sending_of, begun_line, HasMade, AppendedApart};
 
 use crate::raw::message_of;
 use crate::receive::LIMIT;
@@ -41,7 +41,7 @@ fn append(to: &mut Vec<u8>, bytes: &[u8]) -> Sent
 /// # Errors
 /// Those of [`parse`](crate::parse::parse); `Wrong` too if the frame has more than [`LIMIT`] bytes.
 pub fn frame_of(sending: Sending<'_>, line: &[u8]) -> Result<Vec<u8>, ParseError>
-    ensures { IfOk result (λ frame. IsFrameToSend sending.entry frame.items) }
+    ensures { IfOk result (λ frame. IsFrameToSend sending.entry line.now frame.items) }
 {
     let message = message_of(sending, line)?;
     let Sending {
@@ -93,7 +93,8 @@ impl<'a> FramesOfLines<'a> {
 
     /// Sends a line, without its line feed.
     fn send(&mut self, line: &[u8], frames: &mut Vec<u8>, wrongs: &mut String) -> Sent
-        ensures made { OnOk result ((m : LineMade) × IsLineMade self.old.sending self.new.number m
+        ensures made { OnOk result ((m : LineMade)
+            × IsTextMade self.old.sending self.new.number line.now m
             × AppendedApart frames.old.items frames.new.items (string_bytes wrongs.old)
             (string_bytes wrongs.new) (m ∷ [])
             × (self.new.is_good ≡ (self.old.is_good && is_framed m))) }
@@ -121,7 +122,8 @@ impl<'a> FramesOfLines<'a> {
 
     /// Sends a line of which this is the last part. If the chunk has the whole line it isn't copied.
     fn end(&mut self, part: &[u8], frames: &mut Vec<u8>, wrongs: &mut String) -> Sent
-        ensures made { OnOk result ((m : LineMade) × IsLineMade self.old.sending self.new.number m
+        ensures made { OnOk result ((m : LineMade)
+            × IsLineMade self.old.sending self.new.number (self.old.line.items ++ part.now) m
             × AppendedApart frames.old.items frames.new.items (string_bytes wrongs.old)
             (string_bytes wrongs.new) (m ∷ [])
             × (self.new.is_good ≡ (self.old.is_good && is_framed m))
@@ -194,8 +196,8 @@ impl<'a> FramesOfLines<'a> {
     fn send_rest(&mut self, frames: &mut Vec<u8>, wrongs: &mut String) -> Sent
         ensures { OnOk result ((text : List ℕ) (made : List LineMade)
             → HasMade self.old text made → (last : List LineMade)
-            × (length last ≤ 1) × (last ≡ [] → begun_line self.old ≡ [])
-            × AreLinesMade (sending_of self.old) (length made) last
+            × AreLinesMade (sending_of self.old) (length made)
+            (last_line (begun_line self.old)) last
             × AppendedApart frames.old.items frames.new.items (string_bytes wrongs.old)
             (string_bytes wrongs.new) last
             × (self.new.is_good ≡ are_all_framed (made ++ last))) }
@@ -214,8 +216,8 @@ impl<'a> FramesOfLines<'a> {
     pub fn finish(mut self, frames: &mut Vec<u8>, wrongs: &mut String) -> Result<bool, AllocError>
         ensures { IfOk result (λ good. (text : List ℕ) (made : List LineMade)
             → HasMade self.entry text made → (last : List LineMade)
-            × (length last ≤ 1) × (last ≡ [] → begun_line self.entry ≡ [])
-            × AreLinesMade (sending_of self.entry) (length made) last
+            × AreLinesMade (sending_of self.entry) (length made) (last_line (begun_line self.entry))
+            last
             × AppendedApart frames.old.items frames.new.items (string_bytes wrongs.old)
             (string_bytes wrongs.new) last
             × (good ≡ are_all_framed (made ++ last))) }
@@ -226,7 +228,9 @@ impl<'a> FramesOfLines<'a> {
 }
 
 /// A line without a carriage return at its end.
-fn without_return(line: &[u8]) -> &[u8] {
+fn without_return(line: &[u8]) -> &[u8]
+    ensures { IsLineWith result.now line.now }
+{
     match line {
         [front @ .., b'\r'] => front,
         _ => line,

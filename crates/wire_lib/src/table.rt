@@ -50,7 +50,8 @@ impl FrontReader<Value> for TableReader<'_> {
 
     ghost growing = { λ _. true };
 
-    ghost laws = { λ r. summed_laws r.summed (front_laws (schema_laws r.depth r.nodes.now r.place)) };
+    ghost laws = { λ r. summed_laws r.summed
+        (front_laws (schema_laws r.depth r.nodes.now r.place)) };
 
     fn read_front(&self, alloc: Global, message: &[u8]) -> postcard::Result<Value> {
         match from_bytes(alloc, self.nodes, self.place, self.depth, message) {

@@ -65,7 +65,8 @@ fn put_named(out: &mut Writer, name: &str, node: usize) -> Put
 
 /// Appends a member that lists indices by names.
 fn put_parts(out: &mut Writer, of: &str, names: &[String], places: &[usize]) -> Put
-    ensures members { AppendsMembers result out.old out.new (parts_of of.now names.now places.now ∷ []) }
+    ensures members { AppendsMembers result out.old out.new
+        (parts_of of.now names.now places.now ∷ []) }
     ensures before { out.new.before ≡ out.old.before }
 {
     out.key(of)?;

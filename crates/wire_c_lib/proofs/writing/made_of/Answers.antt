@@ -1,5 +1,5 @@
 use Rattle.std.proofs.Common.{[], string_bytes, length, subst, ◌∙◌}
-use Rattle.wire_lib.specs.Sent.{AreLinesMade, AppendedApart, HasMadeBy}
+use Rattle.wire_lib.specs.Sent.{AreLinesMade, AppendedApart, HasMadeBy, last_line}
 use Rattle.wire_c_lib.proofs.writing.made_of.Goals as goal
 
 pub returns : goal.returns
@@ -16,13 +16,11 @@ returns c =
       made = p.0;
       has_made = subst (λ s. HasMadeBy s new.line.items new.number new.is_good c.args.lines.now p.0) e p.1;
       last = f.0;
-      few = f.1;
-      none = f.2;
-      are = subst (λ s. AreLinesMade s (length p.0) f.0) e f.3;
+      are = subst (λ s. AreLinesMade s (length p.0) (last_line new.line.items) f.0) e f.1;
       frames_before = frames;
       wrongs_before = wrongs;
       ended = subst (λ xs. AppendedApart xs frames [] wrongs p.0) c.new-frames.ensures.items
           (subst (λ ys. AppendedApart c.new-frames.result.items frames ys wrongs p.0) c.new-wrongs.ensures.bytes p.2);
-      at_end = f.4;
-      all_good = f.5;
+      at_end = f.2;
+      all_good = f.3;
     }

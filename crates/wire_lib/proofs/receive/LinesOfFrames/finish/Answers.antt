@@ -21,7 +21,7 @@ returns-then-is_some-clause-told c passed stream answers h =
     let from = c.saturating_sub-from.result in
     let lines = c.args.lines.now.items in
     let lines' = c.put_stretch_line.new.lines.items in
-    let says : SaysLine answer.Cut from at lines lines' = record {
+    let says : SaysLine r answer.Cut from at lines lines' = record {
       line = stretch_line (codes "cut") from at;
       is = refl;
       appended = c.in_ok-put_stretch_line.ensures;
@@ -30,7 +30,7 @@ returns-then-is_some-clause-told c passed stream answers h =
     (ap is_some (sym (c.finish.ensures 65536 s stream h.hears.after)) ∙ sym c.is_some.ensures
     ∙ c.if-is_some.true)
     (c.begun_bytes-begun.ensures 65536 s stream h.hears.after) h.came
-    (subst (λ x. SaysLine answer.Cut x at lines lines') c.saturating_sub-from.ensures says)
+    (subst (λ x. SaysLine r answer.Cut x at lines lines') c.saturating_sub-from.ensures says)
 
 pub returns-clause-told : goal.returns-clause-told
 returns-clause-told c passed stream answers h =

@@ -58,7 +58,7 @@ returns-in_ok-say-in-Ok-Some-clause-told g passed stream answers h =
     in_owner r.receiver p.new.receiver (Ok (Some a)) h.hears
     (p.ensures.stands 65536 s stream h.hears.after) answered refl in
     let at = g.saturating_add-self.result in
-    let says = subst (λ x. SaysLine a (at - 1 - p.result.stretch)
+    let says = subst (λ x. SaysLine r.reading a (at - 1 - p.result.stretch)
     (end_said a (at - 1) (known_to at s x)) g.args.lines.now.items g.say.new.lines.items)
     g.split_at.ensures.back g.in_ok-say-in-Ok-Some.ensures.line in (
       a ∷ [],

@@ -7,7 +7,7 @@ use Rattle.wire_lib.proofs.receive.LinesOfFrames.say.Goals as goal
 pub returns-in-Value-clause-line : goal.returns-in-Value-clause-line
 returns-in-Value-clause-line c =
     let last = c.args.self.now.at - 1 in
-    says_value c.put_value_line.result c.args.answer.now c.in-Value.value (last - c.args.stretch)
+    says_value c.args.self.now.reading c.put_value_line.result c.args.answer.now c.in-Value.value (last - c.args.stretch)
     (end_said c.args.answer.now last
     (known_to c.args.self.now.at c.args.self.now.reading.sentinel c.args.left.now))
     c.args.lines.now.items c.put_value_line.new.lines.items c.in-Value.is c.put_value_line.ensures
@@ -17,7 +17,7 @@ returns-then-replace-clause-line c =
     let last = c.args.self.now.at - 1 in
     let from = c.saturating_sub-from.result in
     let lines = c.args.lines.now.items in
-    says_as c.put_stretch_line.result c.args.answer.now answer.Damaged from (last - c.args.stretch)
+    says_as c.args.self.now.reading c.put_stretch_line.result c.args.answer.now answer.Damaged from (last - c.args.stretch)
     c.saturating_sub-last.result last
     (known_to c.args.self.now.at c.args.self.now.reading.sentinel c.args.left.now) lines
     c.put_stretch_line.new.lines.items
@@ -30,7 +30,7 @@ returns-else-replace-clause-line c =
     let last = c.args.self.now.at - 1 in
     let from = c.saturating_sub-from.result in
     let lines = c.args.lines.now.items in
-    says_as c.put_stretch_line-else-replace.result c.args.answer.now answer.Damaged from
+    says_as c.args.self.now.reading c.put_stretch_line-else-replace.result c.args.answer.now answer.Damaged from
     (last - c.args.stretch) c.saturating_sub-last.result last
     (known_to c.args.self.now.at c.args.self.now.reading.sentinel c.args.left.now) lines
     c.put_stretch_line-else-replace.new.lines.items
@@ -43,7 +43,7 @@ returns-in-TooLong-clause-line c =
     let last = c.args.self.now.at - 1 in
     let from = c.saturating_sub-from.result in
     let lines = c.args.lines.now.items in
-    says_as c.put_stretch_line-in-TooLong.result c.args.answer.now answer.TooLong from
+    says_as c.args.self.now.reading c.put_stretch_line-in-TooLong.result c.args.answer.now answer.TooLong from
     (last - c.args.stretch) c.saturating_add-so_far.result last
     (known_to c.args.self.now.at c.args.self.now.reading.sentinel c.args.left.now) lines
     c.put_stretch_line-in-TooLong.new.lines.items
@@ -56,7 +56,7 @@ returns-in-Cut-clause-line c =
     let last = c.args.self.now.at - 1 in
     let from = c.saturating_sub-from.result in
     let lines = c.args.lines.now.items in
-    says_as c.put_stretch_line-in-Cut.result c.args.answer.now answer.Cut from
+    says_as c.args.self.now.reading c.put_stretch_line-in-Cut.result c.args.answer.now answer.Cut from
     (last - c.args.stretch) c.saturating_sub-last.result last
     (known_to c.args.self.now.at c.args.self.now.reading.sentinel c.args.left.now) lines
     c.put_stretch_line-in-Cut.new.lines.items

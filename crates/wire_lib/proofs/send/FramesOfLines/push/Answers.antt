@@ -1,6 +1,6 @@
 use Rattle.std.proofs.Common.{◌≡◌, ℕ, List, [], ◌∷◌, ◌++◌, take, length, refl, sym, ap, subst, ◌∙◌, arith, rules, string_bytes}
 use Rattle.std.proofs.lemmas.List.{append-nil, append_assoc}
-use Rattle.wire_lib.specs.Sent.{HasMade, AppendedApart}
+use Rattle.wire_lib.specs.Sent.{HasMade}
 use Rattle.wire_lib.proofs.SentLemmas.{appended_none, appended_then}
 use Rattle.wire_lib.proofs.ToldLemmas.{parts_on}
 use Rattle.wire_lib.proofs.send.FramesOfLines.push.Goals as goal

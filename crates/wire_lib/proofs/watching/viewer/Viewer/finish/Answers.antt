@@ -1,4 +1,4 @@
-use Rattle.std.proofs.Common.{◌≡◌, ◌<◌, ◌∷◌, [], ◌++◌, false, refl, sym, ap, ◌∙◌, subst, arith}
+use Rattle.std.proofs.Common.{◌≡◌, ◌<◌, ◌++◌, false, refl, sym, subst, arith}
 use Rattle.link.specs.Stream.{begun}
 use Rattle.link.specs.Pushes.{begun_length, finished}
 use Rattle.link.specs.declared.receiver.Answer.TheVariants as answer

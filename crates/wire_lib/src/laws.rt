@@ -1,0 +1,26 @@
+//! Laws of printing and parsing: functions without a body. Call one where a proof needs its contract.
+ghost use Rattle.std.specs.Prelude.{ℕ};
+ghost use Rattle.schema_table.specs.declared.schema.Schema.{Schema as Tables};
+ghost use Rattle.wire_lib.specs.RoundTrip.{NamesTellParts, ReadsLine, ReadsPrinted, SendsLine, SendsWhatIsRead};
+ghost use Rattle.wire_lib.specs.declared.receive.Reading.{Reading as Readings};
+ghost use Rattle.wire_lib.specs.declared.send.Sending.{Sending as Sendings};
+
+/// What [`parse`](crate::parse::parse) reads from the text that [`print`](crate::print::print) wrote of a value has the bytes of
+/// that value.
+///
+/// `printed` says it of the text itself, unless that is an object with the only member `value`, which `parse` takes for a line of a
+/// receiver. `line` says it of that line, `{"value": ..}` round the text, unless the line itself is a value of the type too.
+///
+/// `sent` says what a sender makes of it: the shortest frame of that value.
+///
+/// All are for tables whose names tell the parts of each type apart (`NamesTellParts`): no two fields of a struct and no two
+/// variants of an enum have one name. And for values whose integers are in range, as those of a program are.
+pub fn parsed_as_printed()
+    ensures printed { (schema : Tables) (place : ℕ) → NamesTellParts schema
+        → ReadsPrinted schema place }
+    ensures line { (schema : Tables) (place : ℕ) → NamesTellParts schema
+        → ReadsLine schema place }
+    ensures sent { (reading : Readings) (sending : Sendings)
+        → NamesTellParts reading.schema.now → SendsWhatIsRead reading sending
+        → SendsLine reading sending }
+{}
