@@ -190,17 +190,6 @@ kept_as (Ok x) a b what from count bytes old new e w h =
     (λ few. kept_word b what from count bytes old new w (h few))
 kept_as (Err x) a b what from count bytes old new e w h = tt
 
--- at the beginning nothing is kept
-pub kept_begin : (r : Reading) (at : ℕ) (front : List ℕ) (table : Table) → at ≡ 0 → front ≡ []
-    → table.damages.items ≡ [] → HasKept r at front table [] []
-kept_begin r at front table e f g = record {
-  came = e;
-  behind = f;
-  texts = [];
-  told = refl;
-  last = ap (map string_bytes) g;
-}
-
 -- how many bytes came
 came_on : (at n used m : ℕ) (at' : ℕ) → at ≡ min n (2 ^ 64 - 1) → at' ≡ min (at + used) (2 ^ 64 - 1)
     → m ≡ n + used → at' ≡ min m (2 ^ 64 - 1)

@@ -1,8 +1,9 @@
 -- The text of JSON tokens has no line feed.
-use Rattle.std.specs.Prelude.{◌≡◌, ◌≢◌, ◌<◌, ◌/◌, ◌%◌, ◌==◌, ◌||◌, ◌&&◌, ◌+◌, ℕ, zero, suc, Bool, true, false, not, cond, Option, Some, None, option_and_then, List, [], ◌∷◌, ◌++◌, drop, length, nat_lt, slice_index}
+use Rattle.std.specs.Prelude.{◌≡◌, ◌≢◌, ◌<◌, ◌/◌, ◌%◌, ◌==◌, ◌||◌, ◌&&◌, ◌+◌, ℕ, zero, suc, Bool, true, false, not, cond, Some, None, option_and_then, List, [], ◌∷◌, ◌++◌, drop, length, nat_lt, slice_index}
 use Rattle.std.specs.Char.{digit_char, is_ascii_digit}
 use Rattle.std.specs.List.{prefix_len}
 use Rattle.std.proofs.Common.{refl, sym, ap, ◌∙◌, subst, arith}
+use Rattle.std.proofs.lemmas.Option.{option_and_then_some}
 use Rattle.json.specs.Lex.{tokens}
 use Rattle.json.specs.Token.{Token, begin_object, end_object, begin_array, end_array, key, string, number, boolean, null, bad}
 use Rattle.json.specs.Print.{print, print_from, separator, begins, ends, token_text, quoted, escape, escape_byte, escape_letter, IsNumber, ArePrintableOrBad, IsPrintableOrBad}
@@ -86,16 +87,11 @@ exponent_before (c ∷ cs) r e h = by_letter ((c == 101) || (c == 69)) refl e
     by_letter true f g = (passes (λ x. (x == 101) || (x == 69)) c refl f, sign_before cs (digits_before (after_sign cs) r g h))
     by_letter false f g = same_left (c ∷ cs) r g h
 
-both_steps : {A B : Type 0} (f : A → Option B) (o : Option A) (r : B) → option_and_then f o ≡ Some r → (x : A) × (o ≡ Some x) × (f x ≡ Some r)
-both_steps f None r e = absurd (cc e)
-both_steps f (Some x) r e = (x, refl, e)
-
 number_lacks : (s : List ℕ) → IsNumber s → NoFeed s
 unfolding after_number
 number_lacks s h =
-    let one = both_steps after_exponent (option_and_then after_fraction (after_whole (after_minus s))) [] h in
-    let two = both_steps after_fraction (after_whole (after_minus s)) one.0 one.1 in
-    minus_before s (whole_before (after_minus s) two.0 two.1 (fraction_before two.0 one.0 two.2 (exponent_before one.0 [] one.2 tt)))
+    option_and_then_some after_exponent (option_and_then after_fraction (after_whole (after_minus s))) [] h (λ one a b. option_and_then_some after_fraction (after_whole (after_minus s)) one a (λ two c d.
+    minus_before s (whole_before (after_minus s) two c (fraction_before two one d (exponent_before one [] b tt)))))
 
 -- strings
 

@@ -5,6 +5,8 @@ use Rattle.std.specs.List.{slice_get, slice_index_or}
 use Rattle.std.proofs.Common.{refl, sym, ap, ◌∙◌, subst, arith, rules, Vec}
 use Rattle.std.proofs.lemmas.Bool.{ltb-true, ltb-false}
 use Rattle.postcard_tree.specs.Tree.{byte, character, group, part, end, number, sequence, text_of}
+use Rattle.schema_table.specs.declared.integer.IntegerType.{IntegerType}
+use Rattle.schema_table.specs.declared.integer.IntegerType.TheVariants as integer
 use Rattle.schema_table.specs.declared.node.Node.{Node}
 use Rattle.schema_table.specs.declared.node.Node.TheVariants as node
 use Rattle.schema_table.specs.declared.schema.Names.{Names}
@@ -14,10 +16,12 @@ use Rattle.schemas.specs.declared.value.Value.{Value, out-Value, the_lemmas}
 use Rattle.schemas.specs.declared.value.Value.TheOpen.{Value-F}
 use Rattle.schemas.specs.Schemas.{SchemaHas, NodeHas, PlaceHas, FieldsHave, PayloadHas}
 use Rattle.schemas.specs.Values.{tree_of, trees_in, AreOneTree}
-use Rattle.wire_lib.specs.Looks.{names_at, node_at, is_empty_named, is_float_named, is_newtype_named, are_empty_named, variant_named, plain_key_node, key_node, key_type, key_within, asked_by, inside_of, only_field, only_part, only_value, typed_part, part_of, inside_part, inside_within, key_at, key_named, variant_key, plain_key, truth_key}
+use Rattle.wire_lib.specs.InRange.{are_in_range, all_true}
+use Rattle.wire_lib.specs.Looks.{HasNoFields, names_at, node_at, is_empty_named, is_float_named, is_newtype_named, are_empty_named, variant_named, plain_key_node, key_node, key_type, key_within, asked_by, inside_of, only_field, only_part, only_value, typed_part, part_of, inside_part, inside_within, key_at, key_named, variant_key, plain_key, truth_key}
 use Rattle.wire_lib.specs.Meant.{IsNamed, MeansNumber, KeyMeansPlain, KeyMeansNode, KeyMeansBy, KeyMeans}
-use Rattle.wire_lib.specs.RoundTrip.{NamesDiffer, HasNoFields, TellsParts, NamesTellParts, are_in_range, all_true}
-use Rattle.wire_lib.proofs.LeafLemmas.{level, ranged, same_level, range_level, IsNumberNode, number_back, character_back, both_true}
+use Rattle.wire_lib.specs.Refused.{IsNumberNode}
+use Rattle.wire_lib.specs.RoundTrip.{IsFixedNames, NamesDiffer, TellsParts, NamesTellParts}
+use Rattle.wire_lib.proofs.LeafLemmas.{level, ranged, same_level, range_level, number_back, character_back, both_true}
 use Rattle.wire_lib.proofs.NullLemmas.{one_field}
 use Rattle.wire_lib.proofs.ParsedLemmas.{inside_struct}
 
@@ -56,17 +60,31 @@ one_variant ns n m s d e f = by_order (nat_lt n m) (nat_lt m n) refl refl
     by_order false true g h = absurd (d m n [] (ltb-true m n h) a.0 (b.1 ∙ sym a.1))
     by_order false false g h = omega (arith, ltb-false n m g, ltb-false m n h)
 
+-- a type that is called one without fields, has none
+fixed_fields : (k : IntegerType) → IsFixedNames k names.Empty → ⊥
+fixed_fields integer.U32 t = t
+fixed_fields integer.U64 t = t
+fixed_fields _ t = t
+
+empty_node : (o : Option Node) (m : Option Names) (has : ℕ → Value → Type 0) (v : Value) → PlaceHas has o v → TellsParts o m → is_empty_named m ≡ true → HasNoFields o
+empty_node None m has v h t e = absurd h
+empty_node (Some n) None has v h t e = absurd t
+empty_node (Some (node.Struct is)) (Some names.Empty) has v h t e = t
+empty_node (Some (node.LE k)) (Some names.Empty) has v h t e = absurd (fixed_fields k t)
+empty_node (Some _) (Some names.Empty) has v h t e = absurd t
+empty_node (Some n) (Some _) has v h t e = absurd (cc e)
+
+pub no_fields_at : (schema : Schema) (d k : ℕ) (v : Value) → NamesTellParts schema → is_empty_named (names_at schema k) ≡ true → SchemaHas d schema.nodes.items k v → HasNoFields (node_at schema k)
+unfolding SchemaHas
+no_fields_at schema zero k v t e h = absurd h
+no_fields_at schema (suc d) k v t e h = empty_node (node_at schema k) (names_at schema k) (SchemaHas d schema.nodes.items) v h (t k) e
+
 -- what a variant without fields holds
 pub empty_tree : (schema : Schema) (d k : ℕ) (v : Value) → NamesTellParts schema → is_empty_named (names_at schema k) ≡ true → SchemaHas d schema.nodes.items k v → tree_of v ≡ group end
 unfolding SchemaHas
 empty_tree schema zero k v t e h = absurd h
-empty_tree schema (suc d) k v t e h = of_node (node_at schema k) refl (named (names_at schema k) (t k) e)
+empty_tree schema (suc d) k v t e h = of_node (node_at schema k) refl (empty_node (node_at schema k) (names_at schema k) (SchemaHas d schema.nodes.items) v h (t k) e)
   where
-    named : (m : Option Names) → TellsParts (node_at schema k) m → is_empty_named m ≡ true → HasNoFields (node_at schema k)
-    named (Some names.Empty) x y = x
-    named None x y = absurd (cc y)
-    named (Some _) x y = absurd (cc y)
-
     no_parts : (is : List ℕ) (vs : List Value) → is ≡ [] → FieldsHave (SchemaHas d schema.nodes.items) is vs → trees_in vs ≡ end
     no_parts [] [] x f = refl
     no_parts [] (y ∷ vs) x f = absurd f
@@ -132,22 +150,22 @@ key_leaf has is n t u p h k r m = number_back has is n t u tt h k r (key_number 
 
 -- variants as keys
 
-payload_at : (has : ℕ → Value → Type 0) (is : List ℕ) (n : ℕ) (v : Value) → PayloadHas has is n v → (k : ℕ) × (slice_get is n ≡ Some k) × has k v
+pub payload_at : (has : ℕ → Value → Type 0) (is : List ℕ) (n : ℕ) (v : Value) → PayloadHas has is n v → (k : ℕ) × (slice_get is n ≡ Some k) × has k v
 payload_at has [] n v h = absurd h
 payload_at has (i ∷ is) zero v h = (i, refl, h)
 payload_at has (i ∷ is) (suc n) v h = payload_at has is n v h
 
-empty_at : (schema : Schema) (is : List ℕ) (n k : ℕ) → are_empty_named schema is ≡ true → slice_get is n ≡ Some k → is_empty_named (names_at schema k) ≡ true
+pub empty_at : (schema : Schema) (is : List ℕ) (n k : ℕ) → are_empty_named schema is ≡ true → slice_get is n ≡ Some k → is_empty_named (names_at schema k) ≡ true
 empty_at schema [] n k h e = absurd (cc e)
 empty_at schema (i ∷ is) zero k h e = subst (λ z. is_empty_named (names_at schema z) ≡ true) (cc) (both_true (is_empty_named (names_at schema i)) (are_empty_named schema is) h).0
 empty_at schema (i ∷ is) (suc n) k h e = empty_at schema is n k (both_true (is_empty_named (names_at schema i)) (are_empty_named schema is) h).1 e
 
-name_within : {A : Type 0} (ns : List (String A)) (n : ℕ) → n < length ns → (s : List ℕ) × (option_map string_bytes (slice_get ns n) ≡ Some s)
+pub name_within : {A : Type 0} (ns : List (String A)) (n : ℕ) → n < length ns → (s : List ℕ) × (option_map string_bytes (slice_get ns n) ≡ Some s)
 name_within [] n l = absurd (omega (arith, l))
 name_within (x ∷ ns) zero l = (string_bytes x, refl)
 name_within (x ∷ ns) (suc n) l = name_within ns n (omega (arith, l))
 
-payload_within : (has : ℕ → Value → Type 0) (is : List ℕ) (n : ℕ) (v : Value) → PayloadHas has is n v → n < length is
+pub payload_within : (has : ℕ → Value → Type 0) (is : List ℕ) (n : ℕ) (v : Value) → PayloadHas has is n v → n < length is
 payload_within has [] n v h = absurd h
 payload_within has (i ∷ is) zero v h = omega arith
 payload_within has (i ∷ is) (suc n) v h = omega (arith, payload_within has is n v h)
@@ -163,16 +181,16 @@ same_variant : (m : Option Names) (is : Vec ℕ Global) (a b : ℕ) → TellsPar
 same_variant (Some (names.Variants ns)) is a b t l e =
     let name = name_within ns.items a (omega (arith, l, t.0)) in
     one_variant ns.items a b name.0 t.1 name.1 (e ∙ ap (λ o. Some (variant_key o a)) name.1)
-same_variant None is a b t l e = absurd (cc e)
-same_variant (Some _) is a b t l e = absurd (cc e)
+same_variant None is a b t l e = absurd t
+same_variant (Some _) is a b t l e = absurd t
 
 enum_key : (schema : Schema) (d f i : ℕ) (is : Vec ℕ Global) (v w : Value) (t u : Value-F Value) → NamesTellParts schema → node_at schema i ≡ Some (node.Enum is) → are_empty_named schema is.items ≡ true → out-Value v ≡ t → out-Value w ≡ u
-    → NodeHas (SchemaHas d schema.nodes.items) (node.Enum is) t → NodeHas (SchemaHas f schema.nodes.items) (node.Enum is) u → IsNamed (names_at schema i) (key_named (names_at schema i) t) u → AreOneTree v w
+    → NodeHas (SchemaHas d schema.nodes.items) (node.Enum is) t → NodeHas (SchemaHas f schema.nodes.items) (node.Enum is) u → IsNamed schema (names_at schema i) is.items (key_named (names_at schema i) t) u → AreOneTree v w
 enum_key schema d f i is v w (Value-F.Variant a x) (Value-F.Variant b y) t n z e g h k m =
     let has = SchemaHas d schema.nodes.items in
     let p = payload_at has is.items a x.value h in
     let q = payload_at (SchemaHas f schema.nodes.items) is.items b y.value k in
-    let same : a ≡ b = same_variant (names_at schema i) is a b (subst (λ o. TellsParts o (names_at schema i)) n (t i)) (payload_within has is.items a x.value h) m in
+    let same : a ≡ b = same_variant (names_at schema i) is a b (subst (λ o. TellsParts o (names_at schema i)) n (t i)) (payload_within has is.items a x.value h) m.0.0 in
     let one : tree_of x.value ≡ group end = empty_tree schema d p.0 x.value t (empty_at schema is.items a p.0 z p.1) p.2 in
     let two : tree_of y.value ≡ group end = empty_tree schema f q.0 y.value t (empty_at schema is.items b q.0 z q.1) q.2 in
     variant_tree v a x e ∙ (ap (λ l. group (part (number 32 l) (part (tree_of x.value) end))) same ∙ ap (λ l. group (part (number 32 b) (part l end))) (one ∙ sym two)) ∙ sym (variant_tree w b y g)
@@ -181,7 +199,7 @@ enum_key schema d f i is v w _ u t n z e g h k m = absurd h
 
 -- keys through newtypes
 
-plain_named : (m : Option Names) (has : ℕ → Value → Type 0) (n : Node) (t : Value-F Value) → plain_key_node n ≡ true → NodeHas has n t → key_named m t ≡ plain_key t
+pub plain_named : (m : Option Names) (has : ℕ → Value → Type 0) (n : Node) (t : Value-F Value) → plain_key_node n ≡ true → NodeHas has n t → key_named m t ≡ plain_key t
 plain_named m has n (Value-F.Variant a x) p h = absurd (no_variant n p h)
   where
     no_variant : (o : Node) → plain_key_node o ≡ true → NodeHas has o (Value-F.Variant a x) → ⊥
@@ -190,33 +208,35 @@ plain_named m has n (Value-F.Variant a x) p h = absurd (no_variant n p h)
 plain_named m has n _ p h = refl
 
 -- of a type that is no newtype
-key_here : (schema : Schema) (d f i : ℕ) (v w : Value) (o : Option Node) → NamesTellParts schema → node_at schema i ≡ o → key_node schema o ≡ true → are_in_range v ≡ true → PlaceHas (SchemaHas d schema.nodes.items) o v
-    → PlaceHas (SchemaHas f schema.nodes.items) o w → KeyMeansNode (names_at schema i) o (key_named (names_at schema i) (out-Value v)) (out-Value w) → AreOneTree v w
-key_here schema d f i v w None t n z r h k m = absurd (cc z)
-key_here schema d f i v w (Some (node.Enum is)) t n z r h k m = enum_key schema d f i is v w (out-Value v) (out-Value w) t n z refl refl h k m
-key_here schema d f i v w (Some n) t e z r h k m =
+key_here : (schema : Schema) (d f i : ℕ) (v w : Value) (o : Option Node) (named : Option Names) → NamesTellParts schema → node_at schema i ≡ o → names_at schema i ≡ named → key_node schema o ≡ true → are_in_range v ≡ true
+    → PlaceHas (SchemaHas d schema.nodes.items) o v → PlaceHas (SchemaHas f schema.nodes.items) o w → KeyMeansNode schema named o (key_named named (out-Value v)) (out-Value w) → AreOneTree v w
+key_here schema d f i v w None named t n q z r h k m = absurd (cc z)
+key_here schema d f i v w (Some n) None t o q z r h k m = absurd m
+key_here schema d f i v w (Some (node.Enum is)) (Some named) t n q z r h k m =
+    enum_key schema d f i is v w (out-Value v) (out-Value w) t n z refl refl h k (subst (λ y. IsNamed schema y is.items (key_named y (out-Value v)) (out-Value w)) (sym q) m)
+key_here schema d f i v w (Some n) (Some named) t e q z r h k m =
     same_level v w (key_leaf (SchemaHas d schema.nodes.items) (SchemaHas f schema.nodes.items) n (out-Value v) (out-Value w) z h k (range_level v r)
-    (subst (λ s. KeyMeansPlain s (out-Value w)) (plain_named (names_at schema i) (SchemaHas d schema.nodes.items) n (out-Value v) z h) m))
+    (subst (λ s. KeyMeansPlain s (out-Value w)) (plain_named (Some named) (SchemaHas d schema.nodes.items) n (out-Value v) z h) m))
 
-no_fields_inside : (schema : Schema) (o : Option Node) → key_node schema o ≡ true → only_field o ≡ None
+pub no_fields_inside : (schema : Schema) (o : Option Node) → key_node schema o ≡ true → only_field o ≡ None
 no_fields_inside schema (Some (node.Struct is)) z = absurd (cc z)
 no_fields_inside schema None z = refl
 no_fields_inside schema (Some _) z = refl
 
-not_float : (b : Bool) (c : Bool) → (if b then false else c) ≡ true → c ≡ true
+pub not_float : (b : Bool) (c : Bool) → (if b then false else c) ≡ true → c ≡ true
 not_float true c e = absurd (cc e)
 not_float false c e = e
 
-only_one : (v x : Value) (w : Vec Value Global) → out-Value v ≡ Value-F.Group w → w.items ≡ x ∷ [] → only_part (out-Value v) ≡ Some x
+pub only_one : (v x : Value) (w : Vec Value Global) → out-Value v ≡ Value-F.Group w → w.items ≡ x ∷ [] → only_part (out-Value v) ≡ Some x
 only_one v x w e f = ap only_part e ∙ ap only_value f
 
 one_tree : (v x : Value) (w : Vec Value Global) → out-Value v ≡ Value-F.Group w → w.items ≡ x ∷ [] → tree_of v ≡ group (part (tree_of x) end)
 one_tree v x w e f = group_tree v w e ∙ ap (λ vs. group (trees_in vs)) f
 
-one_range : (v x : Value) (w : Vec Value Global) → out-Value v ≡ Value-F.Group w → w.items ≡ x ∷ [] → are_in_range v ≡ true → are_in_range x ≡ true
+pub one_range : (v x : Value) (w : Vec Value Global) → out-Value v ≡ Value-F.Group w → w.items ≡ x ∷ [] → are_in_range v ≡ true → are_in_range x ≡ true
 one_range v x w e f r = (both_true (are_in_range x) true (sym (ap (λ vs. all_true (map are_in_range vs)) f) ∙ (sym (group_range v w e) ∙ r))).0
 
-inside_field : (b : Bool) (o : Option ℕ) (k : ℕ) → (if b then o else None) ≡ Some k → o ≡ Some k
+pub inside_field : (b : Bool) (o : Option ℕ) (k : ℕ) → (if b then o else None) ≡ Some k → o ≡ Some k
 inside_field true o k e = e
 inside_field false o k e = absurd (cc e)
 
@@ -225,19 +245,19 @@ key_step : (schema : Schema) (n d f i : ℕ) (v w : Value) → NamesTellParts sc
     → KeyMeans schema f k (key_at schema (inside_within n schema k x)) y → AreOneTree x y)
     → asked_by (key_within n schema) (key_type schema i) (inside_of schema i) ≡ true → PlaceHas (SchemaHas d schema.nodes.items) (node_at schema i) v → PlaceHas (SchemaHas f schema.nodes.items) (node_at schema i) w → are_in_range v ≡ true
     → KeyMeansBy (inside_of schema i) (λ k x. KeyMeans schema f k (key_at schema (inside_part (inside_within n schema) (i, v) (part_of schema i v))) x)
-    (λ x. KeyMeansNode (names_at schema i) (node_at schema i) (key_at schema (inside_part (inside_within n schema) (i, v) (part_of schema i v))) (out-Value x)) w → AreOneTree v w
+    (λ x. KeyMeansNode schema (names_at schema i) (node_at schema i) (key_at schema (inside_part (inside_within n schema) (i, v) (part_of schema i v))) (out-Value x)) w → AreOneTree v w
 key_step schema n d f i v w t inner z h k r m = by_inside (inside_of schema i) refl z m
   where
     key : List ℕ
     key = key_at schema (inside_part (inside_within n schema) (i, v) (part_of schema i v))
 
     by_inside : (o : Option ℕ) → inside_of schema i ≡ o → asked_by (key_within n schema) (key_type schema i) o ≡ true
-        → KeyMeansBy o (λ l x. KeyMeans schema f l key x) (λ x. KeyMeansNode (names_at schema i) (node_at schema i) key (out-Value x)) w → AreOneTree v w
+        → KeyMeansBy o (λ l x. KeyMeans schema f l key x) (λ x. KeyMeansNode schema (names_at schema i) (node_at schema i) key (out-Value x)) w → AreOneTree v w
     by_inside None e y q =
         let plain = not_float (is_float_named (names_at schema i)) (key_node schema (node_at schema i)) y in
         let here : part_of schema i v ≡ None = ap (λ l. typed_part l (only_part (out-Value v))) (no_fields_inside schema (node_at schema i) plain) in
-        key_here schema d f i v w (node_at schema i) t refl plain r h k
-        (subst (λ l. KeyMeansNode (names_at schema i) (node_at schema i) (key_at schema (inside_part (inside_within n schema) (i, v) l)) (out-Value w)) here q)
+        key_here schema d f i v w (node_at schema i) (names_at schema i) t refl refl plain r h k
+        (subst (λ l. KeyMeansNode schema (names_at schema i) (node_at schema i) (key_at schema (inside_part (inside_within n schema) (i, v) l)) (out-Value w)) here q)
     by_inside (Some l) e y q =
         let struct = inside_struct (is_newtype_named (names_at schema i)) (node_at schema i) l e in
         let one = one_field (SchemaHas d schema.nodes.items) (node_at schema i) l v struct h in

@@ -5,7 +5,7 @@ use Rattle.std.specs.Float.{Format, binary32, binary64, float_is_finite}
 use Rattle.std.specs.Int.{Width, w8, w32, w64, cast_unsigned, to_be_bytes, from_be_bytes}
 use Rattle.std.specs.Int.Signed.{mag}
 use Rattle.std.specs.Str.{encode_utf8_all as encodes}
-use Rattle.std.proofs.Common.{refl, sym, ap, ◌∙◌, subst, arith}
+use Rattle.std.proofs.Common.{refl, sym, ap, ◌∙◌, subst, arith, inl, inr}
 use Rattle.std.proofs.lemmas.Bool.{ltb-true}
 use Rattle.std.proofs.lemmas.List.{append-nil}
 use Rattle.std.proofs.lemmas.Nat.{from_be_bytes-to_be_bytes_4, from_be_bytes-to_be_bytes_8}
@@ -27,10 +27,11 @@ use Rattle.schemas.specs.Integers.{type_of, little_tree_of, big_tree_of}
 use Rattle.schemas.specs.Schemas.{NodeHas}
 use Rattle.schemas.specs.Values.{tree_of, tree_step, AreOneTree}
 use Rattle.wire_lib.specs.Floats.{ShowsFinite, word_of, IsNanOf}
+use Rattle.wire_lib.specs.InRange.{is_in_range, are_bytes, range_step, are_in_range}
 use Rattle.wire_lib.specs.Looks.{integer_key, plain_key}
 use Rattle.wire_lib.specs.Meant.{IsInteger, MeansNumber, MeansBytes, AreBytesOf, MeansPlain, MeansFloat}
 use Rattle.wire_lib.specs.Printed.{digits_by, integer_json, byte_items, bytes_json, plain_json, ShowsFloat}
-use Rattle.wire_lib.specs.RoundTrip.{is_in_range, are_bytes, range_step, are_in_range}
+use Rattle.wire_lib.specs.Refused.{IsNumberNode}
 use Rattle.wire_lib.proofs.NumeralLemmas.{unsigned_back, signed_back}
 use Rattle.wire_lib.proofs.WordLemmas.{word_back, bits_back}
 use lib.Ieee.{top}
@@ -54,10 +55,10 @@ range_level v h = sym (fold_out-Value Bool range_step v) ∙ h
 -- numbers
 
 -- below 10 ^ 64, as those of 128 bits are
-small : (n k : ℕ) → k ≤ 2 ^ 128 → nat_lt n k ≡ true → n < 10 ^ 64
+pub small : (n k : ℕ) → k ≤ 2 ^ 128 → nat_lt n k ≡ true → n < 10 ^ 64
 small n k l h = omega (arith, l, ltb-true n k h)
 
-small_sign : (z : ℤ) (k : ℕ) → k ≤ 2 ^ 128 → nat_lt (mag z) k ≡ true → mag z + 1 < 10 ^ 64
+pub small_sign : (z : ℤ) (k : ℕ) → k ≤ 2 ^ 128 → nat_lt (mag z) k ≡ true → mag z + 1 < 10 ^ 64
 small_sign z k l h = omega (arith, l, ltb-true (mag z) k h)
 
 -- what is read of an integer's digits
@@ -78,21 +79,6 @@ integer_back (integers.I64 z) (integers.I64 y) e r h = ap integers.I64 (signed_b
 integer_back (integers.I64 z) _ e r h = absurd (cc e)
 integer_back (integers.I128 z) (integers.I128 y) e r h = ap integers.I128 (signed_back z y (small_sign z (2 ^ 127) (omega arith) r) h)
 integer_back (integers.I128 z) _ e r h = absurd (cc e)
-
--- a type of numbers
-abbrev pub IsNumberNode : Node → Type 0
-IsNumberNode node.Bool = ⊥
-IsNumberNode node.Char = ⊥
-IsNumberNode node.Text = ⊥
-IsNumberNode (node.TextUpTo n) = ⊥
-IsNumberNode node.Bytes = ⊥
-IsNumberNode (node.Option k) = ⊥
-IsNumberNode (node.List k) = ⊥
-IsNumberNode (node.ListUpTo n k) = ⊥
-IsNumberNode (node.Array n k) = ⊥
-IsNumberNode (node.Struct is) = ⊥
-IsNumberNode (node.Enum is) = ⊥
-IsNumberNode _ = Unit {0}
 
 -- what is read of a number's digits
 pub number_back : (has is : ℕ → Value → Type 0) (n : Node) (t u : Value-F Value) → IsNumberNode n → NodeHas has n t → NodeHas is n u → ranged t ≡ true → MeansNumber (plain_key t) u → level t ≡ level u
@@ -259,6 +245,10 @@ float_word false f w infinity below usual n m j i e a is means word h k =
     let read = word (word_of w infinity below usual n) (subst (λ z. MeansFloat z (Value-F.LE i)) h k) in
     word_back w infinity below usual n m e read.0 read.1
 
+without : {A B C : Type 0} → A ⊎ (B × C) → A ⊎ B
+without (inl a) = inl a
+without (inr b) = inr b.0
+
 digits_float : (o : Option (List ℕ)) (s : List ℕ) (l : Integer) → ((t : List ℕ) → MeansFloat (string t) (Value-F.LE l) → ⊥) → ((t : List ℕ) → MeansFloat (number t) (Value-F.LE l) → ⊥) → MeansFloat (digits_by o s) (Value-F.LE l) → ⊥
 digits_float None s l f g h = f s h
 digits_float (Some []) s l f g h = g s h
@@ -268,12 +258,12 @@ pub float_back : (i l : Integer) (j : Json) → type_of i ≡ type_of l → is_i
 float_back (integers.U32 n) (integers.U32 m) j e r h k =
     let a = ltb-true n (2 ^ 32) r in
     ap integers.U32 (float_word (float_is_finite (from_bits binary32 n)) binary32 w32 0x7f800000 0xff800000 0x7fc00000 n m j (integers.U32 m) (from_be_bytes-to_be_bytes_4 n a) (omega (arith, a)) refl
-    (λ s x. (omega (arith, x.0), x.1)) (λ s x. (from_be_bytes-to_be_bytes_4 m x.0, x.1)) h k)
+    (λ s x. (omega (arith, x.0), x.1.0)) (λ s x. (from_be_bytes-to_be_bytes_4 m x.0, without x.1.1)) h k)
 float_back (integers.U32 n) _ j e r h k = absurd (cc e)
 float_back (integers.U64 n) (integers.U64 m) j e r h k =
     let a = ltb-true n (2 ^ 64) r in
     ap integers.U64 (float_word (float_is_finite (from_bits binary64 n)) binary64 w64 0x7ff0000000000000 0xfff0000000000000 0x7ff8000000000000 n m j (integers.U64 m) (from_be_bytes-to_be_bytes_8 n a) (omega (arith, a)) refl
-    (λ s x. (omega (arith, x.0), x.1)) (λ s x. (from_be_bytes-to_be_bytes_8 m x.0, x.1)) h k)
+    (λ s x. (omega (arith, x.0), x.1.0)) (λ s x. (from_be_bytes-to_be_bytes_8 m x.0, without x.1.1)) h k)
 float_back (integers.U64 n) _ j e r h k = absurd (cc e)
 float_back (integers.U128 n) (integers.U128 m) j e r h k = absurd (digits_float (after_number (decimal n)) (decimal n) (integers.U128 m) (λ t x. x) (λ t x. x) (subst (λ z. MeansFloat z (Value-F.LE (integers.U128 m))) h k))
 float_back (integers.U128 n) _ j e r h k = absurd (cc e)

@@ -1,6 +1,7 @@
 -- The lines of answers, and the places that they say.
 use Rattle.std.proofs.Common.{◌≡◌, ℕ, zero, suc, ◌+◌, ◌-◌, ◌^◌, ◌<◌, ◌≤◌, Bool, true, false, min, cond, List, [], ◌∷◌, ◌++◌, length, take, drop, get_or, Some, Result, Ok, Err, OnOk, is_ok, is_some, codes, option_to_list, refl, sym, ap, ◌∙◌, subst, append_assoc, arith, ◌==◌, if◌then◌else◌}
 use Rattle.std.specs.List.{flat_map}
+use Rattle.std.specs.Str.{IsUtf8}
 use Rattle.std.proofs.lemmas.List.{append-nil, take-append-drop, take_more, length-append, length-take-le}
 use Rattle.std.proofs.lemmas.Slice.Zip.{AllZip-long}
 use Rattle.std.proofs.lemmas.Grind.{flat_map-append}
@@ -25,7 +26,7 @@ use Rattle.wire_lib.specs.Printed.{Shows}
 use Rattle.wire_lib.specs.Sent.{LacksFeed}
 use Rattle.wire_lib.specs.Said.{IsLineOf, IsTextFor, SaysLine, known_to, end_said, value_line}
 use Rattle.wire_lib.proofs.FeedLemmas.{text_lacks}
-use Rattle.wire_lib.proofs.PrintedLemmas.{text_shown, text_read}
+use Rattle.wire_lib.proofs.PrintedLemmas.{text_shown, text_read, text_utf8}
 use Rattle.wire_lib.proofs.ToldLemmas.{on_ok_as}
 use Rattle.wire_lib.specs.Received.{held_by, read_by, as_list, place_to, IsLineAt, AreSaid, TellsEach, TellsEnd}
 
@@ -40,13 +41,13 @@ value_appended lines first second third text part e f g h =
     ∙ append_assoc lines (codes "{\"value\":") (text ++ codes "}\n")
 
 -- what a writer that began with nothing leaves, is the text of the value that was printed
-pub text_written : {E : Type 0} (r : Result (Unit {0}) E) (reading : Reading) (v : Value) (text before : List ℕ) (old new : List Token) → before ≡ [] → old ≡ [] → text ≡ before ++ print new → tokens (print new) ≡ new
+pub text_written : {E : Type 0} (r : Result (Unit {0}) E) (reading : Reading) (v : Value) (text before : List ℕ) (old new : List Token) → before ≡ [] → old ≡ [] → text ≡ before ++ print new → tokens (print new) ≡ new → IsUtf8 (print new)
     → OnOk r ((j : Json) × (new ≡ old ++ json_tokens j) × Shows reading.hex reading.schema.now reading.depth reading.place v j) → OnOk r (IsTextFor reading v text)
-text_written r reading v text before old new none empty whole back h = on_ok_as r
+text_written r reading v text before old new none empty whole back utf8 h = on_ok_as r
     (λ k.
     let shown = text_shown text before old new (json_tokens k.0) whole none empty k.1 in
     let read = text_read text old new (json_tokens k.0) back empty k.1 shown in
-    ((k.0, shown, read, k.2), subst LacksFeed (sym shown) (text_lacks (json_tokens k.0) (ap tokens (sym shown) ∙ read)))) h
+    ((k.0, shown, read, k.2, text_utf8 text before new whole none utf8), subst LacksFeed (sym shown) (text_lacks (json_tokens k.0) (ap tokens (sym shown) ∙ read)))) h
 
 -- what was appended where that succeeded
 pub on_appended : {E : Type 0} (r : Result (Unit {0}) E) (x a b : List ℕ)

@@ -13,10 +13,10 @@ first_digit : (ds : List ℕ) → IsNumeral 10 ds → (48 ≤ get_or ds 0 0) × 
 first_digit [] h = absurd (omega (arith, h.0))
 first_digit (c ∷ cs) h = (omega (arith, digit_from_value c h.1.0), omega (arith, digit_from_value c h.1.0))
 
-no_plus : (ds : List ℕ) → IsNumeral 10 ds → without_leading_plus ds ≡ ds
+pub no_plus : (ds : List ℕ) → IsNumeral 10 ds → without_leading_plus ds ≡ ds
 no_plus ds h = without_leading_plus_none ds (λ e. omega (arith, e, first_digit ds h))
 
-no_minus : (ds : List ℕ) → IsNumeral 10 ds → starts_with_minus ds ≡ false
+pub no_minus : (ds : List ℕ) → IsNumeral 10 ds → starts_with_minus ds ≡ false
 no_minus [] h = absurd (omega (arith, h.0))
 no_minus (c ∷ cs) h = search (rules, digit_from_value c h.1.0)
 
@@ -25,7 +25,7 @@ unsigned_back n m l h =
     let k = decimal_is_IsNumeral_wide n (omega (arith, l)) in
     h.1 ∙ ap (digits_value 10) (no_plus (decimal n) k.0) ∙ k.1
 
-plain_sign : (ds : List ℕ) → IsNumeral 10 ds → signed_digits_value 10 ds ≡ pos (digits_value 10 ds)
+pub plain_sign : (ds : List ℕ) → IsNumeral 10 ds → signed_digits_value 10 ds ≡ pos (digits_value 10 ds)
 plain_sign ds h = rw (no_minus ds h) (ap (λ l. pos (digits_value 10 l)) (no_plus ds h))
 
 pub signed_back : (z y : ℤ) → mag z + 1 < 10 ^ 64 → IsSigned (signed_decimal z) y → y ≡ z

@@ -27,7 +27,7 @@ use Rattle.schemas.specs.Schemas.{SchemaTakes, SchemaHas, TakesFields, TakesNode
 use Rattle.json.specs.Json.{Json, null, boolean, number, string, array, object}
 use Rattle.wire_lib.specs.Floats.{NumberMeansFloat, WordMeansFloat}
 use Rattle.wire_lib.specs.Looks.{variant_named, names_at, node_at, is_byte_node, is_newtype_named, only_type, only_field, inside_of, two_types, pair_node, only_part, only_value}
-use Rattle.wire_lib.specs.Meant.{MeansFloat, Means, MeansNode, MeansEnum, MeansStruct, KeyMeans, KeyMeansBy, KeyMeansNode, chosen, AreBytesOf, MeansFields, IsInteger, MeansNumber, MeansPlain, KeyMeansPlain}
+use Rattle.wire_lib.specs.Meant.{MeansFloat, Means, MeansNode, MeansEnum, MeansStruct, KeyMeans, KeyMeansBy, KeyMeansNode, chosen, AreBytesOf, MeansFields, HasOnlyFields, HasShape, IsIndexOf, IsInteger, MeansHolding, MeansNumber, MeansPlain, KeyMeansPlain}
 use Rattle.wire_lib.specs.Printed.{two_in, two_values}
 use Rattle.wire_lib.specs.Parsed.{IsGroupOf, IsOfType, IsOfNode, IsOfStruct, IsOfEnum, IsOfLeaf}
 
@@ -39,7 +39,7 @@ tree-LE i = search (rules, the_lemmas)
 tree-BE : (i : _) → tree_of (BE i) ≡ big_tree_of i
 tree-BE i = search (rules, the_lemmas)
 
-tree-Text : (s : _) → tree_of (Text s) ≡ text_of (string_bytes s)
+pub tree-Text : (s : _) → tree_of (Text s) ≡ text_of (string_bytes s)
 tree-Text s = search (rules, the_lemmas)
 
 tree-Bytes : (v : _) → tree_of (Bytes v) ≡ text_of v.items
@@ -51,13 +51,13 @@ tree-Listed v = search (rules, the_lemmas)
 tree-Group : (v : _) → tree_of (Group v) ≡ group (trees_in v.items)
 tree-Group v = search (rules, the_lemmas)
 
-tree-Variant : (n : _) (v : _) → tree_of (Variant n v) ≡ group (part (number 32 n) (part (tree_of v.value) end))
+pub tree-Variant : (n : _) (v : _) → tree_of (Variant n v) ≡ group (part (number 32 n) (part (tree_of v.value) end))
 tree-Variant n v = search (rules, the_lemmas)
 
 pub top_by : (kind : Value-F Value → Type 0) (v : Value) (top : Value-F Value) → out-Value v ≡ top → kind top → AtTop kind v
 top_by kind v top e h = subst kind (sym e) h
 
-count_in : (vs : List Value) → count_of (trees_in vs) ≡ length vs
+pub count_in : (vs : List Value) → count_of (trees_in vs) ≡ length vs
 count_in [] = refl
 count_in (v ∷ vs) = omega (arith, count_in vs)
 
@@ -189,7 +189,7 @@ each_read : (s : List ℕ) → ReadsAll ReadsByte (bytes_of s) s
 each_read [] = tt
 each_read (b ∷ s) = (refl, each_read s)
 
-each_counted : (s : List ℕ) → count_of (bytes_of s) ≡ length s
+pub each_counted : (s : List ℕ) → count_of (bytes_of s) ≡ length s
 each_counted [] = refl
 each_counted (b ∷ s) = omega (arith, each_counted s)
 
@@ -311,15 +311,18 @@ text_key s n r f h k = ok_both r (λ v a b. text_named s (out-Value v) (f (out-V
 pub named_at : (named : Names) (v : Vec (String Global) Global) (n : ℕ) (s : String Global) (w : List ℕ) → named ≡ names.Variants v → slice_get v.items n ≡ Some s → string_bytes s ≡ w → variant_named (Some named) n ≡ Some w
 named_at named v n s w e f g = rw e (rw f (ap Some g))
 
-pub variant_means : (named : Option Names) (is : List ℕ) (means : ℕ → Json → Value → Type 0) (j : Json) (n : ℕ) (v : Box Value Global) (s : List ℕ) (k : Json) → chosen j ≡ Some (s, k) → variant_named named n ≡ Some s → n < length is
-    → means (get_or is n 0) k v.value → AtTop (MeansEnum named is means (chosen j)) (Variant n v)
-variant_means named is means j n v s k e f l h =
-    top_by (MeansEnum named is means (chosen j)) (Variant n v) (Value-F.Variant n v) (search (rules, the_lemmas)) (rw e (f, (get_or is n 0, slice_get_read is (length is) n (get_or is n 0) refl l (get_or_same is n 0 l), h)))
-  where
-    get_or_same : (xs : List ℕ) (m x : ℕ) → m < length xs → get_or xs m x ≡ get_or xs m (get_or xs m x)
-    get_or_same [] m x i = absurd (omega (arith, i))
-    get_or_same (y ∷ ys) zero x i = refl
-    get_or_same (y ∷ ys) (suc m) x i = get_or_same ys m x (omega (arith, i))
+get_or_same : (xs : List ℕ) (m x : ℕ) → m < length xs → get_or xs m x ≡ get_or xs m (get_or xs m x)
+get_or_same [] m x i = absurd (omega (arith, i))
+get_or_same (y ∷ ys) zero x i = refl
+get_or_same (y ∷ ys) (suc m) x i = get_or_same ys m x (omega (arith, i))
+
+pub read_at : (is : List ℕ) (n : ℕ) → n < length is → slice_get is n ≡ Some (get_or is n 0)
+read_at is n l = slice_get_read is (length is) n (get_or is n 0) refl l (get_or_same is n 0 l)
+
+pub variant_means : (schema : Schema) (named : Option Names) (is : List ℕ) (means : ℕ → Json → Value → Type 0) (j : Json) (n : ℕ) (v : Box Value Global) (s : List ℕ) (o : Option Json) → chosen j ≡ Some (s, o) → IsIndexOf named s n → n < length is
+    → MeansHolding schema means (get_or is n 0) o v.value → AtTop (MeansEnum schema named is means (chosen j)) (Variant n v)
+variant_means schema named is means j n v s o e f l h =
+    top_by (MeansEnum schema named is means (chosen j)) (Variant n v) (Value-F.Variant n v) (search (rules, the_lemmas)) (rw e (f, (get_or is n 0, read_at is n l, h)))
 
 -- values of nodes
 
@@ -341,8 +344,8 @@ list_means means w v e h = subst (AtTop (OfList means)) (sym e) (top_by (OfList 
 abbrev pub FieldsFrom : Names → Json → (ℕ → Json → Value → Type 0) → ℕ × List ℕ → List Value → Type 0
 FieldsFrom named j means p vs = MeansFields named j means p.0 p.1 vs
 
-pub struct_means : (m : Names) (is : List ℕ) (means : ℕ → Json → Value → Type 0) (j : Json) (w : Vec Value Global) → MeansFields m j means 0 is w.items → AtTop (OfGroup (MeansStruct (Some m) is means j)) (Group w)
-struct_means m is means j w h = top_by (OfGroup (MeansStruct (Some m) is means j)) (Group w) (Value-F.Group w) (search (rules, the_lemmas)) h
+pub struct_means : (m : Names) (is : List ℕ) (means : ℕ → Json → Value → Type 0) (j : Json) (w : Vec Value Global) → HasShape m (length is) j → HasOnlyFields m j → MeansFields m j means 0 is w.items → AtTop (OfGroup (MeansStruct (Some m) is means j)) (Group w)
+struct_means m is means j w a b h = top_by (OfGroup (MeansStruct (Some m) is means j)) (Group w) (Value-F.Group w) (search (rules, the_lemmas)) (a, b, h)
 
 -- members
 
@@ -369,7 +372,7 @@ one_out w v g =
     ap (λ y. only_part (out-Value y)) g.1 ∙ (ap only_part e ∙ ap only_value g.2)
 
 key_node : (schema : Schema) (depth i : ℕ) (o : Option ℕ) (s : List ℕ) (v : Value) → inside_of schema i ≡ o
-    → KeyMeansBy o (λ k w. KeyMeans schema depth k s w) (λ w. KeyMeansNode (names_at schema i) (node_at schema i) s (out-Value w)) v → KeyMeans schema (suc depth) i s v
+    → KeyMeansBy o (λ k w. KeyMeans schema depth k s w) (λ w. KeyMeansNode schema (names_at schema i) (node_at schema i) s (out-Value w)) v → KeyMeans schema (suc depth) i s v
 unfolding KeyMeans
 key_node schema depth i o s v e h = rw e h
 
@@ -378,14 +381,14 @@ key_inside schema zero i k s w v d e h g = absurd (d refl)
 key_inside schema (suc depth) i k s w v d e h g = key_node schema depth i (Some k) s v e (w, one_out w v g, subst (λ y. KeyMeans schema y k s w) (omega arith) h)
 
 pub key_at_node : (schema : Schema) (depth i : ℕ) (n : Node) (m : Names) (s : List ℕ) (v : Value) → depth ≢ 0 → inside_of schema i ≡ None → node_at schema i ≡ Some n → names_at schema i ≡ Some m
-    → AtTop (KeyMeansNode (Some m) (Some n) s) v → KeyMeans schema depth i s v
+    → AtTop (KeyMeansNode schema (Some m) (Some n) s) v → KeyMeans schema depth i s v
 key_at_node schema zero i n m s v d o e f h = absurd (d refl)
 key_at_node schema (suc depth) i n m s v d o e f h =
-    key_node schema depth i None s v o (subst (λ y. KeyMeansNode (names_at schema i) y s (out-Value v)) (sym e) (subst (λ x. KeyMeansNode x (Some n) s (out-Value v)) (sym f) h))
+    key_node schema depth i None s v o (subst (λ y. KeyMeansNode schema (names_at schema i) y s (out-Value v)) (sym e) (subst (λ x. KeyMeansNode schema x (Some n) s (out-Value v)) (sym f) h))
 
-pub plain_node_key : (named : Option Names) (n : Node) (s : List ℕ) (top : Value-F Value) → ((is : Vec ℕ Global) → n ≢ node.Enum is) → KeyMeansPlain s top → KeyMeansNode named (Some n) s top
-plain_node_key named (node.Enum is) s top f h = absurd (f is refl)
-plain_node_key named _ s top f h = h
+pub plain_node_key : (schema : Schema) (named : Names) (n : Node) (s : List ℕ) (top : Value-F Value) → ((is : Vec ℕ Global) → n ≢ node.Enum is) → KeyMeansPlain s top → KeyMeansNode schema (Some named) (Some n) s top
+plain_node_key schema named (node.Enum is) s top f h = absurd (f is refl)
+plain_node_key schema named _ s top f h = h
 
 -- floats
 

@@ -51,7 +51,7 @@ members_back has is shows means back (v ∷ vs) (w ∷ ws) (j ∷ js) h k a m =
 
 -- elements of a tuple
 
-item_at : (js : List Json) (j : Json) (more : List Json) → get_item (length js) (items_of (js ++ j ∷ more)) ≡ Some j
+pub item_at : (js : List Json) (j : Json) (more : List Json) → get_item (length js) (items_of (js ++ j ∷ more)) ≡ Some j
 item_at [] j more = refl
 item_at (k ∷ js) j more = item_at js j more
 
@@ -95,15 +95,15 @@ none_found s [] h = refl
 none_found s (m ∷ ms) h = rw (none_found s ms h.1) (rw (other_name m.0 s h.0) refl)
 
 -- the last of its name is found
-member_found : (before : List (List ℕ × Json)) (s : List ℕ) (m : List ℕ × Json) (ms : List (List ℕ × Json)) → m.0 ≡ s → HasNone s ms → get_member s (members_by (before ++ m ∷ ms)) ≡ Some m.1
+pub member_found : (before : List (List ℕ × Json)) (s : List ℕ) (m : List ℕ × Json) (ms : List (List ℕ × Json)) → m.0 ≡ s → HasNone s ms → get_member s (members_by (before ++ m ∷ ms)) ≡ Some m.1
 member_found [] s m ms e h = rw (none_found s ms h) (rw ((bytes_eq-Decides m.0 s).1 e) refl)
 member_found (p ∷ before) s m ms e h = rw (member_found before s m ms e h) refl
 
-apart_rest : {A : Type 0} (n : String A) (ns : List (String A)) → NamesDiffer (n ∷ ns) → NamesDiffer ns
+pub apart_rest : {A : Type 0} (n : String A) (ns : List (String A)) → NamesDiffer (n ∷ ns) → NamesDiffer ns
 apart_rest n ns h i j d l m = h (suc i) (suc j) d (omega (arith, l)) (omega (arith, m))
 
 -- no later one has the name of the first
-named_apart : {A : Type 0} (has : ℕ → Value → Type 0) (shows : ℕ → Value → Json → Type 0) (s : List ℕ) (ns : List (String A)) (types : List ℕ) (vs : List Value) (ms : List (List ℕ × Json)) → length ns ≡ length types
+pub named_apart : {A : Type 0} (has : ℕ → Value → Type 0) (shows : ℕ → Value → Json → Type 0) (s : List ℕ) (ns : List (String A)) (types : List ℕ) (vs : List Value) (ms : List (List ℕ × Json)) → length ns ≡ length types
     → ((k : ℕ) → k < length (map string_bytes ns) → slice_index_or (map string_bytes ns) k [] ≢ s) → FieldsHave has types vs → AllZip (ShowsField shows) (called ns (zip types vs)) ms → HasNone s ms
 named_apart has shows s ns [] [] [] e f h a = tt
 named_apart has shows s ns [] [] (m ∷ ms) e f h a = absurd a

@@ -3,6 +3,7 @@ use Rattle.std.proofs.Common.{◌≡◌, ℕ, suc, ◌+◌, ◌<◌, Bool, true,
 use Rattle.std.proofs.lemmas.List.{append-nil, drop_more}
 use Rattle.std.proofs.lemmas.Grind.{flat_map-append}
 use Rattle.std.specs.List.{AllZip}
+use Rattle.std.specs.Str.{IsUtf8}
 use Rattle.json.specs.Token.{Token, begin_object, end_object, begin_array, end_array, key}
 use Rattle.json.specs.Json.{Json, null, string, array, object, no_members, member}
 use Rattle.json.specs.Lex.{tokens}
@@ -25,10 +26,6 @@ use Rattle.wire_lib.proofs.ToldLemmas.{on_ok_as}
 abbrev pub Shown : {A B : Type 0} → (B → List Token) → (A → B → Type 0) → List Token → List Token → List A → List A → Type 0
 Shown {A} {B} f like old new all left =
     (done : List B) × (new ≡ old ++ flat_map f done) × ((more : List B) → AllZip like left more → AllZip like all (done ++ more))
-
--- none yet
-pub shown_none : {A B : Type 0} (f : B → List Token) (like : A → B → Type 0) (old : List Token) (all : List A) → Shown f like old old all all
-shown_none f like old all = ([], sym (append-nil old), λ more h. h)
 
 -- one more
 pub shown_more : {A B : Type 0} (f : B → List Token) (like : A → B → Type 0) (old mid new : List Token) (all left xs : List A) (x : A) → left ≡ x ∷ xs
@@ -131,6 +128,10 @@ text_shown text before old new ts shown nothing none all = shown ∙ ap (λ b. b
 -- it is read as that
 pub text_read : (text : List ℕ) (old new ts : List Token) → tokens (print new) ≡ new → old ≡ [] → new ≡ old ++ ts → text ≡ print ts → tokens text ≡ ts
 text_read text old new ts back none all shown = let same = all ∙ ap (λ t. t ++ ts) none in ap tokens (shown ∙ ap print (sym same)) ∙ back ∙ same
+
+-- and it is UTF-8
+pub text_utf8 : (text before : List ℕ) (new : List Token) → text ≡ before ++ print new → before ≡ [] → IsUtf8 (print new) → IsUtf8 text
+text_utf8 text before new shown nothing utf8 = subst IsUtf8 (sym (shown ∙ ap (λ b. b ++ print new) nothing)) utf8
 
 -- the first of some, with its name, and the others
 pub called_first : {A B : Type 0} (ns more : List (String A)) (xs : List B) (x : B) (ts : List B) → xs ≡ x ∷ ts → more ≡ other_names ns → called ns xs ≡ (first_name ns, x) ∷ called more ts

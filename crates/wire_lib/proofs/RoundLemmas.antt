@@ -26,16 +26,11 @@ use Rattle.schemas.specs.declared.value.Value.TheOpen.{Value-F}
 use Rattle.schemas.specs.Integers.{little_tree_of}
 use Rattle.schemas.specs.Schemas.{SchemaHas, NodeHas, PlaceHas, AtTop, OfU8, OfOption, OfList, OfGroup, OfVariant, EachHas, FieldsHave, PayloadHas}
 use Rattle.schemas.specs.Values.{tree_of, trees_in, AreOneTree}
+use Rattle.wire_lib.specs.InRange.{are_bytes, are_in_range, all_true}
 use Rattle.wire_lib.specs.Looks.{IsPresentBy, names_at, node_at, is_byte_node, is_empty_named, is_float_named, is_map_named, null_within, pair_node, first_is_key, key_text, variant_named}
-use Rattle.wire_lib.specs.Meant.{AreBytes, IsHex, KeyMeans, Means, MeansElements, MeansEnum, MeansFields, MeansFixed, MeansHeld, MeansLine, MeansList, MeansNode, MeansOption, MeansPlain, MeansStruct, MeansText, MeansValue, chosen, field_json}
+use Rattle.wire_lib.specs.Meant.{AreBytes, IsHex, KeyMeans, Means, MeansElements, MeansEnum, MeansFields, MeansFixed, MeansHeld, MeansLine, MeansList, MeansNamed, MeansNode, MeansOption, MeansPlain, MeansStruct, chosen, field_json, or_null}
 use Rattle.wire_lib.specs.Printed.{IsJsonOf, byte_before, bytes_in, two_in, two_values, Shows, ShowsAll, ShowsChosen, ShowsElements, ShowsHeld, ShowsList, ShowsMap, ShowsNamed, ShowsNode, ShowsOption, ShowsPair, ShowsStruct, ShowsVariant, ShowsEnum, ShowsFixed, ShowsInteger}
-use Rattle.cobs.specs.Sentinel.{frame_for}
-use Rattle.postcard_tree.specs.Spelling.{short}
-use Rattle.wire_lib.specs.Parsed.{IsOfType}
-use Rattle.wire_lib.specs.Summed.{message_with}
-use Rattle.wire_lib.specs.declared.receive.Reading.{Reading}
-use Rattle.wire_lib.specs.declared.send.Sending.{Sending}
-use Rattle.wire_lib.specs.RoundTrip.{TellsParts, NamesTellParts, ReadsPrinted, ReadsLine, SendsLine, SendsWhatIsRead, line_inside, are_bytes, are_in_range, all_true}
+use Rattle.wire_lib.specs.RoundTrip.{TellsParts, NamesTellParts, ReadsPrinted, line_inside}
 use Rattle.wire_lib.proofs.LeafLemmas.{level, ranged, same_level, range_level, both_true, hex_back, bytes_in_range, leaf_back, float_back}
 use Rattle.wire_lib.proofs.NullLemmas.{null_shown}
 use Rattle.wire_lib.proofs.KeyLemmas.{group_tree, group_range, list_tree, list_range, variant_tree, variant_range, empty_tree, one_variant, key_back}
@@ -46,11 +41,11 @@ use Rattle.wire_lib.proofs.PartsLemmas.{ReadsBack, items_back, members_back, tup
 abbrev pub HasKinds : Schema → ℕ → ℕ → Value → Type 0
 HasKinds schema d i v = SchemaHas d schema.nodes.items i v × (are_in_range v ≡ true)
 
-each_fits : (has : Value → Type 0) (vs : List Value) → EachHas has vs → all_true (map are_in_range vs) ≡ true → EachHas (λ v. has v × (are_in_range v ≡ true)) vs
+pub each_fits : (has : Value → Type 0) (vs : List Value) → EachHas has vs → all_true (map are_in_range vs) ≡ true → EachHas (λ v. has v × (are_in_range v ≡ true)) vs
 each_fits has [] h r = tt
 each_fits has (v ∷ vs) h r = let both = both_true (are_in_range v) (all_true (map are_in_range vs)) r in ((h.0, both.0), each_fits has vs h.1 both.1)
 
-fields_fit : (has : ℕ → Value → Type 0) (is : List ℕ) (vs : List Value) → FieldsHave has is vs → all_true (map are_in_range vs) ≡ true → FieldsHave (λ i v. has i v × (are_in_range v ≡ true)) is vs
+pub fields_fit : (has : ℕ → Value → Type 0) (is : List ℕ) (vs : List Value) → FieldsHave has is vs → all_true (map are_in_range vs) ≡ true → FieldsHave (λ i v. has i v × (are_in_range v ≡ true)) is vs
 fields_fit has [] [] h r = tt
 fields_fit has [] (v ∷ vs) h r = absurd h
 fields_fit has (i ∷ is) [] h r = absurd h
@@ -63,18 +58,18 @@ unfolding SchemaHas
 byte_top zero nodes k v e h = absurd h
 byte_top (suc d) nodes k v e h = subst (λ o. PlaceHas (SchemaHas d nodes) o v) e h
 
-byte_tops : (d : ℕ) (nodes : List Node) (k : ℕ) (vs : List Value) → slice_get nodes k ≡ Some node.U8 → EachHas (SchemaHas d nodes k) vs → EachHas (AtTop OfU8) vs
+pub byte_tops : (d : ℕ) (nodes : List Node) (k : ℕ) (vs : List Value) → slice_get nodes k ≡ Some node.U8 → EachHas (SchemaHas d nodes k) vs → EachHas (AtTop OfU8) vs
 byte_tops d nodes k [] e h = tt
 byte_tops d nodes k (v ∷ vs) e h = (byte_top d nodes k v e h.0, byte_tops d nodes k vs e h.1)
 
-byte_of : (v : Value) → AtTop OfU8 v → (b : ℕ) × (out-Value v ≡ Value-F.U8 b)
+pub byte_of : (v : Value) → AtTop OfU8 v → (b : ℕ) × (out-Value v ≡ Value-F.U8 b)
 byte_of v h = of_top (out-Value v) refl h
   where
     of_top : (t : Value-F Value) → out-Value v ≡ t → OfU8 t → (b : ℕ) × (out-Value v ≡ Value-F.U8 b)
     of_top (Value-F.U8 b) e x = (b, e)
     of_top _ e x = absurd x
 
-bytes_fit : (vs : List Value) → EachHas (AtTop OfU8) vs → all_true (map are_in_range vs) ≡ true → are_bytes (bytes_in vs) ≡ true
+pub bytes_fit : (vs : List Value) → EachHas (AtTop OfU8) vs → all_true (map are_in_range vs) ≡ true → are_bytes (bytes_in vs) ≡ true
 bytes_fit [] h r = refl
 bytes_fit (v ∷ vs) h r =
     let both = both_true (are_in_range v) (all_true (map are_in_range vs)) r in
@@ -103,18 +98,18 @@ hex_trees d k nodes vs ws e h r m =
 
 elements_back : (schema : Schema) (hex : Bool) (d f k : ℕ) (shows : Value → Json → Type 0) (means : Json → Value → Type 0) → ((v w : Value) (j : Json) → HasKinds schema d k v → SchemaHas f schema.nodes.items k w → shows v j → means j w → AreOneTree v w)
     → (vs ws : List Value) (j : Json) → EachHas (SchemaHas d schema.nodes.items k) vs → EachHas (SchemaHas f schema.nodes.items k) ws → all_true (map are_in_range vs) ≡ true
-    → ShowsElements hex (node_at schema k) shows vs j → MeansElements means j ws → trees_in vs ≡ trees_in ws
+    → ShowsElements hex (node_at schema k) shows vs j → MeansElements (node_at schema k) means j ws → trees_in vs ≡ trees_in ws
 elements_back schema hex d f k shows means back vs ws j h l r s m = by_hex (hex && is_byte_node (node_at schema k)) refl s
   where
     by_hex : (b : Bool) → (hex && is_byte_node (node_at schema k)) ≡ b → ShowsAll b shows vs j → trees_in vs ≡ trees_in ws
-    by_hex true e x = hex_trees d k schema.nodes.items vs ws (byte_node (node_at schema k) (both_true hex (is_byte_node (node_at schema k)) e).1) h r (subst (λ z. MeansElements means z ws) x m)
+    by_hex true e x = hex_trees d k schema.nodes.items vs ws (byte_node (node_at schema k) (both_true hex (is_byte_node (node_at schema k)) e).1) h r (subst (λ z. MeansElements (node_at schema k) means z ws) x m).1
     by_hex false e x =
         items_back (λ v. SchemaHas d schema.nodes.items k v × (are_in_range v ≡ true)) (SchemaHas f schema.nodes.items k) shows means back vs ws x.0 (each_fits (SchemaHas d schema.nodes.items k) vs h r) l x.2
-        (subst (λ z. MeansElements means z ws) x.1 m)
+        (subst (λ z. MeansElements (node_at schema k) means z ws) x.1 m)
 
 -- pairs
 
-two_fields : (has : ℕ → Value → Type 0) (n : Option Node) (p : ℕ × ℕ) (v : Value) → IsStruct (p.0 ∷ p.1 ∷ []) n → PlaceHas has n v
+pub two_fields : (has : ℕ → Value → Type 0) (n : Option Node) (p : ℕ × ℕ) (v : Value) → IsStruct (p.0 ∷ p.1 ∷ []) n → PlaceHas has n v
     → (w : Vec Value Global) × (x : Value) × (y : Value) × (out-Value v ≡ Value-F.Group w) × (w.items ≡ x ∷ y ∷ []) × has p.0 x × has p.1 y
 two_fields has n p v s h = group_of (out-Value v) refl (subst (λ o. PlaceHas has o v) s.1 h)
   where
@@ -131,7 +126,7 @@ two_fields has n p v s h = group_of (out-Value v) refl (subst (λ o. PlaceHas ha
         (w, o.0, o.1, e, o.2, o.3, o.4)
     group_of _ e f = absurd (subst (NodeHas has (node.Struct s.0)) e f)
 
-two_range : (v x y : Value) (w : Vec Value Global) → out-Value v ≡ Value-F.Group w → w.items ≡ x ∷ y ∷ [] → are_in_range v ≡ true → (are_in_range x ≡ true) × (are_in_range y ≡ true)
+pub two_range : (v x y : Value) (w : Vec Value Global) → out-Value v ≡ Value-F.Group w → w.items ≡ x ∷ y ∷ [] → are_in_range v ≡ true → (are_in_range x ≡ true) × (are_in_range y ≡ true)
 two_range v x y w e f r =
     let all : all_true (map are_in_range (x ∷ y ∷ [])) ≡ true = sym (ap (λ vs. all_true (map are_in_range vs)) f) ∙ (sym (group_range v w e) ∙ r) in
     let both = both_true (are_in_range x) (all_true (map are_in_range (y ∷ []))) all in
@@ -140,7 +135,7 @@ two_range v x y w e f r =
 two_tree : (v x y : Value) (w : Vec Value Global) → out-Value v ≡ Value-F.Group w → w.items ≡ x ∷ y ∷ [] → tree_of v ≡ group (part (tree_of x) (part (tree_of y) end))
 two_tree v x y w e f = group_tree v w e ∙ ap (λ vs. group (trees_in vs)) f
 
-two_seen : (v x y : Value) (w : Vec Value Global) → out-Value v ≡ Value-F.Group w → w.items ≡ x ∷ y ∷ [] → two_values (out-Value v) ≡ Some (x, y)
+pub two_seen : (v x y : Value) (w : Vec Value Global) → out-Value v ≡ Value-F.Group w → w.items ≡ x ∷ y ∷ [] → two_values (out-Value v) ≡ Some (x, y)
 two_seen v x y w e f = ap two_values e ∙ ap two_in f
 
 pair_step : (schema : Schema) (hex : Bool) (d e f i : ℕ) (v w : Value) (m : List ℕ × Json) → NamesTellParts schema
@@ -192,22 +187,22 @@ newtype_back has is shows means back (i ∷ x ∷ types) vs ws j l h k s m = abs
 struct_back : (has is : ℕ → Value → Type 0) (shows : ℕ → Value → Json → Type 0) (means : ℕ → Json → Value → Type 0) → ReadsBack has is shows means → (m : Option Names) (types : Vec ℕ Global) (vs ws : List Value) (j : Json)
     → TellsParts (Some (node.Struct types)) m → FieldsHave has types.items vs → FieldsHave is types.items ws → ShowsNamed m types.items shows vs j → MeansStruct m types.items means j ws → trees_in vs ≡ trees_in ws
 struct_back has is shows means back None types vs ws j t h k s m = absurd m
-struct_back has is shows means back (Some names.Newtype) types vs ws j t h k s m = newtype_back has is shows means back types.items vs ws j t h k s m
+struct_back has is shows means back (Some names.Newtype) types vs ws j t h k s m = newtype_back has is shows means back types.items vs ws j t h k s m.2
 struct_back has is shows means back (Some names.Tuple) types vs ws j t h k s m =
-    tuple_back has is shows means back 0 [] types.items vs ws s.0 refl h k s.2 (subst (λ z. MeansFields names.Tuple z means 0 types.items ws) s.1 m)
+    tuple_back has is shows means back 0 [] types.items vs ws s.0 refl h k s.2 (subst (λ z. MeansFields names.Tuple z means 0 types.items ws) s.1 m.2)
 struct_back has is shows means back (Some (names.Fields ns)) types vs ws j t h k s m =
-    fields_back has is shows means back ns 0 [] ns.items types.items vs ws s.0 (λ y. ap (slice_get ns.items) (omega arith)) t.0 t.1 h k s.2 (subst (λ z. MeansFields (names.Fields ns) z means 0 types.items ws) s.1 m)
-struct_back has is shows means back (Some n) types vs ws j t h k s m = no_fields has is n j means (λ y. refl) types.items vs ws h k m
+    fields_back has is shows means back ns 0 [] ns.items types.items vs ws s.0 (λ y. ap (slice_get ns.items) (omega arith)) t.0 t.1 h k s.2 (subst (λ z. MeansFields (names.Fields ns) z means 0 types.items ws) s.1 m.2)
+struct_back has is shows means back (Some n) types vs ws j t h k s m = no_fields has is n j means (λ y. refl) types.items vs ws h k m.2
 
 -- options
 
 present_tree : (v : Value) (x : Box Value Global) → out-Value v ≡ Value-F.Present x → tree_of v ≡ group (part (byte 1) (part (tree_of x.value) end))
 present_tree v x e = search (rules, the_lemmas)
 
-present_range : (v : Value) (x : Box Value Global) → out-Value v ≡ Value-F.Present x → are_in_range v ≡ are_in_range x.value
+pub present_range : (v : Value) (x : Box Value Global) → out-Value v ≡ Value-F.Present x → are_in_range v ≡ are_in_range x.value
 present_range v x e = search (rules, the_lemmas)
 
-present_null : (b : Bool) (shows : Json → Type 0) → (b ≡ false → shows null → ⊥) → IsPresentBy b shows null → ⊥
+pub present_null : (b : Bool) (shows : Json → Type 0) → (b ≡ false → shows null → ⊥) → IsPresentBy b shows null → ⊥
 present_null true shows f h = cc h.1
 present_null false shows f h = f refl h
 
@@ -236,10 +231,10 @@ option_step schema hex d e f k v w j _ u l back a b r h g s m = absurd h
 
 -- variants
 
-apart_names : (m : Option Names) (types : Vec ℕ Global) (a b : ℕ) (s : List ℕ) → TellsParts (Some (node.Enum types)) m → variant_named m a ≡ Some s → variant_named m b ≡ Some s → a ≡ b
+pub apart_names : (m : Option Names) (types : Vec ℕ Global) (a b : ℕ) (s : List ℕ) → TellsParts (Some (node.Enum types)) m → variant_named m a ≡ Some s → variant_named m b ≡ Some s → a ≡ b
 apart_names (Some (names.Variants ns)) types a b s t e f = one_variant ns.items a b s t.1 e f
-apart_names None types a b s t e f = absurd (cc e)
-apart_names (Some _) types a b s t e f = absurd (cc e)
+apart_names None types a b s t e f = absurd t
+apart_names (Some _) types a b s t e f = absurd t
 
 payload_of : (has : ℕ → Value → Type 0) (types : List ℕ) (n k : ℕ) (v : Value) → slice_get types n ≡ Some k → PayloadHas has types n v → has k v
 payload_of has [] n k v e h = absurd h
@@ -249,97 +244,103 @@ payload_of has (i ∷ types) (suc n) k v e h = payload_of has types n k v e h
 -- what is read of a variant of this name and this type
 variant_inner : (schema : Schema) (hex : Bool) (d e f k : ℕ) (b : Bool) (s : List ℕ) (x y : Value) (j : Json) → NamesTellParts schema
     → ((z : Json) → Shows hex schema e k x z → Means schema f k None z y → AreOneTree x y) → is_empty_named (names_at schema k) ≡ b → SchemaHas d schema.nodes.items k x → SchemaHas f schema.nodes.items k y
-    → ShowsChosen b s (Shows hex schema e k x) j → ((c : List ℕ × Json) → chosen j ≡ Some c → (c.0 ≡ s) × Means schema f k None c.1 y) → AreOneTree x y
+    → ShowsChosen b s (Shows hex schema e k x) j → ((o : Option Json) → chosen j ≡ Some (s, o) → Means schema f k None (or_null o) y) → AreOneTree x y
 variant_inner schema hex d e f k true s x y j t back n h l q m = empty_tree schema d k x t n h ∙ sym (empty_tree schema f k y t n l)
-variant_inner schema hex d e f k false s x y j t back n h l q m = back q.0 q.2 (m (s, q.0) (ap chosen q.1)).1
+variant_inner schema hex d e f k false s x y j t back n h l q m = back q.0 q.2 (m (Some q.0) (ap chosen q.1))
 
 -- the name that stands in the JSON
-chosen_name : (b : Bool) (s : List ℕ) (kind : Json → Type 0) (j : Json) → ShowsChosen b s kind j → (z : Json) × (chosen j ≡ Some (s, z))
-chosen_name true s kind j h = (null, ap chosen h)
-chosen_name false s kind j h = (h.0, ap chosen h.1)
+chosen_name : (b : Bool) (s : List ℕ) (kind : Json → Type 0) (j : Json) → ShowsChosen b s kind j → (o : Option Json) × (chosen j ≡ Some (s, o))
+chosen_name true s kind j h = (None, ap chosen h)
+chosen_name false s kind j h = (Some h.0, ap chosen h.1)
+
+same_second : (p q : List ℕ × Option Json) → Some p ≡ Some q → p.1 ≡ q.1
+same_second p q e = let f : p ≡ q = cc in ap (λ z. z.1) f
+
+same_held : (s : List ℕ) (p q : Option Json) (c : Option (List ℕ × Option Json)) → c ≡ Some (s, p) → c ≡ Some (s, q) → p ≡ q
+same_held s p q c e f = same_second (s, p) (s, q) (sym e ∙ f)
 
 enum_step : (schema : Schema) (hex : Bool) (d e f i : ℕ) (types : Vec ℕ Global) (v w : Value) (j : Json) (t u : Value-F Value) → NamesTellParts schema → node_at schema i ≡ Some (node.Enum types)
     → ((k : ℕ) (x y : Value) (z : Json) → HasKinds schema d k x → SchemaHas f schema.nodes.items k y → Shows hex schema e k x z → Means schema f k None z y → AreOneTree x y) → out-Value v ≡ t → out-Value w ≡ u → are_in_range v ≡ true
     → OfVariant (PayloadHas (SchemaHas d schema.nodes.items) types.items) t → OfVariant (PayloadHas (SchemaHas f schema.nodes.items) types.items) u
-    → ShowsEnum hex schema i types.items (Shows hex schema e) t j → MeansEnum (names_at schema i) types.items (λ k. Means schema f k None) (chosen j) u → AreOneTree v w
+    → ShowsEnum hex schema i types.items (Shows hex schema e) t j → MeansEnum schema (names_at schema i) types.items (λ k. Means schema f k None) (chosen j) u → AreOneTree v w
 enum_step schema hex d e f i types v w j (Value-F.Variant n x) (Value-F.Variant m y) t o back a b r h g s c = by_name (variant_named (names_at schema i) n) (slice_get types.items n) refl refl s
   where
     no_number : (l : List ℕ) → j ≡ number l → ⊥
-    no_number l z = subst (λ k. MeansEnum (names_at schema i) types.items (λ k. Means schema f k None) (chosen k) (Value-F.Variant m y)) z c
+    no_number l z = subst (λ k. MeansEnum schema (names_at schema i) types.items (λ k. Means schema f k None) (chosen k) (Value-F.Variant m y)) z c
 
     by_name : (name : Option (List ℕ)) (type : Option ℕ) → variant_named (names_at schema i) n ≡ name → slice_get types.items n ≡ type → ShowsVariant schema name type n (Shows hex schema e) x.value j → AreOneTree v w
     by_name None type z l k = absurd (no_number (decimal n) k)
     by_name (Some name) None z l k = absurd (no_number (decimal n) k)
     by_name (Some name) (Some type) z l k =
         let at = chosen_name (is_empty_named (names_at schema type)) name (Shows hex schema e type x.value) j k in
-        let read : (variant_named (names_at schema i) m ≡ Some name) × ((k' : ℕ) × (slice_get types.items m ≡ Some k') × Means schema f k' None at.0 y.value) =
-        subst (λ p. MeansEnum (names_at schema i) types.items (λ k. Means schema f k None) p (Value-F.Variant m y)) at.1 c in
-        let same : n ≡ m = apart_names (names_at schema i) types n m name (subst (λ p. TellsParts p (names_at schema i)) o (t i)) z read.0 in
+        let read : MeansNamed schema (names_at schema i) types.items (λ k. Means schema f k None) name at.0 (Value-F.Variant m y) =
+        subst (λ p. MeansEnum schema (names_at schema i) types.items (λ k. Means schema f k None) p (Value-F.Variant m y)) at.1 c in
+        let same : n ≡ m = apart_names (names_at schema i) types n m name (subst (λ p. TellsParts p (names_at schema i)) o (t i)) z read.0.0 in
         let type_is : read.1.0 ≡ type = (let p : Some read.1.0 ≡ Some type = sym read.1.1 ∙ (ap (slice_get types.items) (sym same) ∙ l) in cc) in
         let held = payload_of (SchemaHas d schema.nodes.items) types.items n type x.value l h in
         let other = payload_of (SchemaHas f schema.nodes.items) types.items m type y.value (ap (slice_get types.items) (sym same) ∙ l) g in
+        let inside : Means schema f type None (or_null at.0) y.value = subst (λ k'. Means schema f k' None (or_null at.0) y.value) type_is read.1.2.1 in
         let inner : tree_of x.value ≡ tree_of y.value =
         variant_inner schema hex d e f type (is_empty_named (names_at schema type)) name x.value y.value j t
         (λ p. back type x.value y.value p (held, sym (variant_range v n x a) ∙ r) other) refl held other k
-        (λ p u. let p_is : p ≡ (name, at.0) = (let eq : Some p ≡ Some (name, at.0) = sym u ∙ at.1 in cc) in
-        (ap (λ z'. z'.0) p_is, subst (λ z'. Means schema f type None z'.1 y.value) (sym p_is) (subst (λ k'. Means schema f k' None at.0 y.value) type_is read.1.2))) in
+        (λ p u. subst (λ z'. Means schema f type None (or_null z') y.value) (same_held name at.0 p (chosen j) at.1 u) inside) in
         variant_tree v n x a ∙ (ap (λ l'. group (part (wire_number 32 l') (part (tree_of x.value) end))) same ∙ (ap (λ l'. group (part (wire_number 32 m) (part l' end))) inner ∙ sym (variant_tree w m y b)))
 enum_step schema hex d e f i types v w j (Value-F.Variant n x) _ t o back a b r h g s c = absurd g
 enum_step schema hex d e f i types v w j _ u t o back a b r h g s c = absurd h
 
 -- lists
 
-list_step : (schema : Schema) (hex : Bool) (d e f i k : ℕ) (v w : Value) (j : Json) (t u : Value-F Value)
+list_step : (schema : Schema) (hex : Bool) (d e f i k : ℕ) (keys : Bool) (v w : Value) (j : Json) (t u : Value-F Value)
     → ((x y : Value) (z : Json) → HasKinds schema d k x → SchemaHas f schema.nodes.items k y → Shows hex schema e k x z → Means schema f k None z y → AreOneTree x y)
     → ((x y : Value) (m : List ℕ × Json) → first_is_key schema (pair_node (node_at schema k)) ≡ true → HasKinds schema d k x → SchemaHas f schema.nodes.items k y → ShowsPair schema k (Shows hex schema e) x m → Means schema f k (Some m.0) m.1 y → AreOneTree x y)
     → out-Value v ≡ t → out-Value w ≡ u → are_in_range v ≡ true → OfList (EachHas (SchemaHas d schema.nodes.items k)) t → OfList (EachHas (SchemaHas f schema.nodes.items k)) u
-    → ShowsList hex schema i k (Shows hex schema e) t j → OfList (MeansList (Means schema f k None) (λ s. Means schema f k (Some s)) j) u → AreOneTree v w
-list_step schema hex d e f i k v w j (Value-F.List x) (Value-F.List y) back pairs a b r h g s m =
+    → ShowsList hex schema i k (Shows hex schema e) t j → OfList (MeansList keys (node_at schema k) (Means schema f k None) (λ s. Means schema f k (Some s)) j) u → AreOneTree v w
+list_step schema hex d e f i k keys v w j (Value-F.List x) (Value-F.List y) back pairs a b r h g s m =
     list_tree v x a ∙ (ap sequence (by_map (is_map_named (names_at schema i) && first_is_key schema (pair_node (node_at schema k))) refl s) ∙ sym (list_tree w y b))
   where
     one : all_true (map are_in_range x.items) ≡ true
     one = sym (list_range v x a) ∙ r
 
     -- what isn't an object is read by its elements
-    no_object : (c : Bool) (z : Json) → ShowsAll c (Shows hex schema e k) x.items z → MeansList (Means schema f k None) (λ l. Means schema f k (Some l)) z y.items → MeansElements (Means schema f k None) z y.items
-    no_object true z n l = subst (λ o. MeansElements (Means schema f k None) o y.items) (sym n) (subst (λ o. MeansList (Means schema f k None) (λ p. Means schema f k (Some p)) o y.items) n l)
-    no_object false z n l = subst (λ o. MeansElements (Means schema f k None) o y.items) (sym n.1) (subst (λ o. MeansList (Means schema f k None) (λ p. Means schema f k (Some p)) o y.items) n.1 l)
+    no_object : (c : Bool) (z : Json) → ShowsAll c (Shows hex schema e k) x.items z → MeansList keys (node_at schema k) (Means schema f k None) (λ l. Means schema f k (Some l)) z y.items → MeansElements (node_at schema k) (Means schema f k None) z y.items
+    no_object true z n l = subst (λ o. MeansElements (node_at schema k) (Means schema f k None) o y.items) (sym n) (subst (λ o. MeansList keys (node_at schema k) (Means schema f k None) (λ p. Means schema f k (Some p)) o y.items) n l)
+    no_object false z n l = subst (λ o. MeansElements (node_at schema k) (Means schema f k None) o y.items) (sym n.1) (subst (λ o. MeansList keys (node_at schema k) (Means schema f k None) (λ p. Means schema f k (Some p)) o y.items) n.1 l)
 
     by_map : (c : Bool) → (is_map_named (names_at schema i) && first_is_key schema (pair_node (node_at schema k))) ≡ c → ShowsMap c hex schema k (Shows hex schema e) x.items j → trees_in x.items ≡ trees_in y.items
     by_map true n l =
         members_back (λ z. SchemaHas d schema.nodes.items k z × (are_in_range z ≡ true)) (SchemaHas f schema.nodes.items k) (ShowsPair schema k (Shows hex schema e)) (λ p. Means schema f k (Some p))
         (λ c p o. pairs c p o (both_true (is_map_named (names_at schema i)) (first_is_key schema (pair_node (node_at schema k))) n).1) x.items y.items l.0
         (each_fits (SchemaHas d schema.nodes.items k) x.items h one) g l.2
-        (subst (λ o. MeansList (Means schema f k None) (λ p. Means schema f k (Some p)) o y.items) l.1 m)
+        (subst (λ o. MeansList keys (node_at schema k) (Means schema f k None) (λ p. Means schema f k (Some p)) o y.items) l.1 m).1
     by_map false n l = elements_back schema hex d f k (Shows hex schema e k) (Means schema f k None) back x.items y.items j h g one l (no_object (hex && is_byte_node (node_at schema k)) j l m)
-list_step schema hex d e f i k v w j (Value-F.List x) _ back pairs a b r h g s m = absurd g
-list_step schema hex d e f i k v w j _ u back pairs a b r h g s m = absurd h
+list_step schema hex d e f i k keys v w j (Value-F.List x) _ back pairs a b r h g s m = absurd g
+list_step schema hex d e f i k keys v w j _ u back pairs a b r h g s m = absurd h
 
 -- arrays and structs
 
 group_back : (v w : Value) (x y : Vec Value Global) → out-Value v ≡ Value-F.Group x → out-Value w ≡ Value-F.Group y → trees_in x.items ≡ trees_in y.items → AreOneTree v w
 group_back v w x y a b h = group_tree v x a ∙ (ap group h ∙ sym (group_tree w y b))
 
-all_in_range : (v : Value) (x : Vec Value Global) → out-Value v ≡ Value-F.Group x → are_in_range v ≡ true → all_true (map are_in_range x.items) ≡ true
+pub all_in_range : (v : Value) (x : Vec Value Global) → out-Value v ≡ Value-F.Group x → are_in_range v ≡ true → all_true (map are_in_range x.items) ≡ true
 all_in_range v x a r = sym (group_range v x a) ∙ r
 
 array_step : (schema : Schema) (hex : Bool) (d e f k : ℕ) (v w : Value) (j : Json) (t u : Value-F Value)
     → ((x y : Value) (z : Json) → HasKinds schema d k x → SchemaHas f schema.nodes.items k y → Shows hex schema e k x z → Means schema f k None z y → AreOneTree x y) → out-Value v ≡ t → out-Value w ≡ u → are_in_range v ≡ true
-    → OfGroup (EachHas (SchemaHas d schema.nodes.items k)) t → OfGroup (EachHas (SchemaHas f schema.nodes.items k)) u → ShowsFixed hex schema k (Shows hex schema e k) t j → OfGroup (MeansElements (Means schema f k None) j) u → AreOneTree v w
+    → OfGroup (EachHas (SchemaHas d schema.nodes.items k)) t → OfGroup (EachHas (SchemaHas f schema.nodes.items k)) u → ShowsFixed hex schema k (Shows hex schema e k) t j → OfGroup (MeansElements (node_at schema k) (Means schema f k None) j) u → AreOneTree v w
 array_step schema hex d e f k v w j (Value-F.Group x) (Value-F.Group y) back a b r h g s m =
     group_back v w x y a b (elements_back schema hex d f k (Shows hex schema e k) (Means schema f k None) back x.items y.items j h g (all_in_range v x a r) s m)
 array_step schema hex d e f k v w j (Value-F.Group x) _ back a b r h g s m = absurd g
 array_step schema hex d e f k v w j _ u back a b r h g s m = absurd h
 
-struct_step : (schema : Schema) (hex : Bool) (d e f i : ℕ) (types : Vec ℕ Global) (v w : Value) (j : Json) (t u : Value-F Value) → TellsParts (Some (node.Struct types)) (names_at schema i)
+struct_step : (schema : Schema) (hex : Bool) (d e f : ℕ) (types : Vec ℕ Global) (m : Option Names) (v w : Value) (j : Json) (t u : Value-F Value) → TellsParts (Some (node.Struct types)) m
     → ((k : ℕ) (x y : Value) (z : Json) → HasKinds schema d k x → SchemaHas f schema.nodes.items k y → Shows hex schema e k x z → Means schema f k None z y → AreOneTree x y) → out-Value v ≡ t → out-Value w ≡ u → are_in_range v ≡ true
-    → OfGroup (FieldsHave (SchemaHas d schema.nodes.items) types.items) t → OfGroup (FieldsHave (SchemaHas f schema.nodes.items) types.items) u → ShowsStruct hex (names_at schema i) types.items (Shows hex schema e) t j
-    → OfGroup (MeansStruct (names_at schema i) types.items (λ k. Means schema f k None) j) u → AreOneTree v w
-struct_step schema hex d e f i types v w j (Value-F.Group x) (Value-F.Group y) t back a b r h g s m =
+    → OfGroup (FieldsHave (SchemaHas d schema.nodes.items) types.items) t → OfGroup (FieldsHave (SchemaHas f schema.nodes.items) types.items) u → ShowsStruct hex m types.items (Shows hex schema e) t j
+    → OfGroup (MeansStruct m types.items (λ k. Means schema f k None) j) u → AreOneTree v w
+struct_step schema hex d e f types m v w j (Value-F.Group x) (Value-F.Group y) t back a b r h g s n =
     group_back v w x y a b (struct_back (λ k z. SchemaHas d schema.nodes.items k z × (are_in_range z ≡ true)) (SchemaHas f schema.nodes.items) (Shows hex schema e) (λ k. Means schema f k None)
-    (λ k z o l n p. back k z o l n p) (names_at schema i) types x.items y.items j t (fields_fit (SchemaHas d schema.nodes.items) types.items x.items h (all_in_range v x a r)) g s m)
-struct_step schema hex d e f i types v w j (Value-F.Group x) _ t back a b r h g s m = absurd g
-struct_step schema hex d e f i types v w j _ u t back a b r h g s m = absurd h
+    (λ k z o l c p. back k z o l c p) m types x.items y.items j t (fields_fit (SchemaHas d schema.nodes.items) types.items x.items h (all_in_range v x a r)) g s n)
+struct_step schema hex d e f types m v w j (Value-F.Group x) _ t back a b r h g s n = absurd g
+struct_step schema hex d e f types m v w j _ u t back a b r h g s n = absurd h
 
 -- integers as their bytes, and floats
 
@@ -353,22 +354,29 @@ fixed_step schema hex d f k false v w j t u a b r h g s m =
 
 -- values of a node
 
-node_step : (schema : Schema) (hex : Bool) (d e f i : ℕ) (v w : Value) (j : Json) (o : Option Node) → NamesTellParts schema → d ≤ e
+node_step : (schema : Schema) (hex : Bool) (d e f i : ℕ) (v w : Value) (j : Json) (o : Option Node) (named : Option Names) → NamesTellParts schema → d ≤ e
     → ((k : ℕ) (x y : Value) (z : Json) → HasKinds schema d k x → SchemaHas f schema.nodes.items k y → Shows hex schema e k x z → Means schema f k None z y → AreOneTree x y)
     → ((k : ℕ) (x y : Value) (m : List ℕ × Json) → first_is_key schema (pair_node (node_at schema k)) ≡ true → HasKinds schema d k x → SchemaHas f schema.nodes.items k y → ShowsPair schema k (Shows hex schema e) x m
-    → Means schema f k (Some m.0) m.1 y → AreOneTree x y) → node_at schema i ≡ o → are_in_range v ≡ true → PlaceHas (SchemaHas d schema.nodes.items) o v → PlaceHas (SchemaHas f schema.nodes.items) o w
-    → ShowsNode hex schema i (Shows hex schema e) o (out-Value v) j → MeansNode schema (names_at schema i) (Means schema f) o j (out-Value w) → AreOneTree v w
-node_step schema hex d e f i v w j None t l back pairs n r h g s m = absurd h
-node_step schema hex d e f i v w j (Some (node.Option k)) t l back pairs n r h g s m = option_step schema hex d e f k v w j (out-Value v) (out-Value w) l (back k) refl refl r h g s m
-node_step schema hex d e f i v w j (Some (node.List k)) t l back pairs n r h g s m = list_step schema hex d e f i k v w j (out-Value v) (out-Value w) (back k) (pairs k) refl refl r h g s m
-node_step schema hex d e f i v w j (Some (node.ListUpTo p k)) t l back pairs n r h g s m = list_step schema hex d e f i k v w j (out-Value v) (out-Value w) (back k) (pairs k) refl refl r h g s m
-node_step schema hex d e f i v w j (Some (node.Array p k)) t l back pairs n r h g s m = array_step schema hex d e f k v w j (out-Value v) (out-Value w) (back k) refl refl r h g s m
-node_step schema hex d e f i v w j (Some (node.Struct types)) t l back pairs n r h g s m =
-    struct_step schema hex d e f i types v w j (out-Value v) (out-Value w) (subst (λ o. TellsParts o (names_at schema i)) n (t i)) back refl refl r h g s m
-node_step schema hex d e f i v w j (Some (node.Enum types)) t l back pairs n r h g s m = enum_step schema hex d e f i types v w j (out-Value v) (out-Value w) t n back refl refl r h g s m
-node_step schema hex d e f i v w j (Some (node.LE k)) t l back pairs n r h g s m =
-    same_level v w (fixed_step schema hex d f k (is_float_named (names_at schema i)) v w j (out-Value v) (out-Value w) refl refl (range_level v r) h g s m)
-node_step schema hex d e f i v w j (Some o) t l back pairs n r h g s m =
+    → Means schema f k (Some m.0) m.1 y → AreOneTree x y) → node_at schema i ≡ o → names_at schema i ≡ named → are_in_range v ≡ true → PlaceHas (SchemaHas d schema.nodes.items) o v → PlaceHas (SchemaHas f schema.nodes.items) o w
+    → ShowsNode hex schema i (Shows hex schema e) o (out-Value v) j → MeansNode schema named (Means schema f) o j (out-Value w) → AreOneTree v w
+node_step schema hex d e f i v w j None named t l back pairs n q r h g s m = absurd h
+node_step schema hex d e f i v w j (Some o) None t l back pairs n q r h g s m = absurd m
+node_step schema hex d e f i v w j (Some (node.Option k)) (Some named) t l back pairs n q r h g s m = option_step schema hex d e f k v w j (out-Value v) (out-Value w) l (back k) refl refl r h g s m
+node_step schema hex d e f i v w j (Some (node.List k)) (Some named) t l back pairs n q r h g s m =
+    list_step schema hex d e f i k (is_map_named (Some named) && first_is_key schema (pair_node (node_at schema k))) v w j (out-Value v) (out-Value w) (back k) (pairs k) refl refl r h g s m
+node_step schema hex d e f i v w j (Some (node.ListUpTo p k)) (Some named) t l back pairs n q r h g s m =
+    list_step schema hex d e f i k (is_map_named (Some named) && first_is_key schema (pair_node (node_at schema k))) v w j (out-Value v) (out-Value w) (back k) (pairs k) refl refl r h g s m
+node_step schema hex d e f i v w j (Some (node.Array p k)) (Some named) t l back pairs n q r h g s m = array_step schema hex d e f k v w j (out-Value v) (out-Value w) (back k) refl refl r h g s m
+node_step schema hex d e f i v w j (Some (node.Struct types)) (Some named) t l back pairs n q r h g s m =
+    struct_step schema hex d e f types (names_at schema i) v w j (out-Value v) (out-Value w) (subst (λ o. TellsParts o (names_at schema i)) n (t i)) back refl refl r h g s
+    (subst (λ z. OfGroup (MeansStruct z types.items (λ k. Means schema f k None) j) (out-Value w)) (sym q) m)
+node_step schema hex d e f i v w j (Some (node.Enum types)) (Some named) t l back pairs n q r h g s m =
+    enum_step schema hex d e f i types v w j (out-Value v) (out-Value w) t n back refl refl r h g s
+    (subst (λ z. MeansEnum schema z types.items (λ k. Means schema f k None) (chosen j) (out-Value w)) (sym q) m)
+node_step schema hex d e f i v w j (Some (node.LE k)) (Some named) t l back pairs n q r h g s m =
+    same_level v w (fixed_step schema hex d f k (is_float_named (names_at schema i)) v w j (out-Value v) (out-Value w) refl refl (range_level v r) h g s
+    (subst (λ z. MeansFixed (is_float_named z) j (out-Value w)) (sym q) m))
+node_step schema hex d e f i v w j (Some o) (Some named) t l back pairs n q r h g s m =
     same_level v w (leaf_back (SchemaHas d schema.nodes.items) (SchemaHas f schema.nodes.items) hex o (out-Value v) (out-Value w) tt h g (range_level v r) (subst (λ z. MeansPlain z (out-Value w)) s m))
 
 mutual
@@ -380,8 +388,8 @@ mutual
   value_back schema hex (suc d) zero f i v w j t l h g s m = absurd (omega (arith, l))
   value_back schema hex (suc d) (suc e) zero i v w j t l h g s m = absurd g
   value_back schema hex (suc d) (suc e) (suc f) i v w j t l h g s m =
-      node_step schema hex d e f i v w j (node_at schema i) t (omega (arith, l)) (λ k x y z a b. value_back schema hex d e f k x y z t (omega (arith, l)) a b)
-      (λ k x y n z a b. pair_back schema hex d e f k x y n t (omega (arith, l)) z a b) refl h.1 h.0 g s m
+      node_step schema hex d e f i v w j (node_at schema i) (names_at schema i) t (omega (arith, l)) (λ k x y z a b. value_back schema hex d e f k x y z t (omega (arith, l)) a b)
+      (λ k x y n z a b. pair_back schema hex d e f k x y n t (omega (arith, l)) z a b) refl refl h.1 h.0 g s m
 
   pair_back : (schema : Schema) (hex : Bool) (d e f i : ℕ) (v w : Value) (m : List ℕ × Json) → NamesTellParts schema → d ≤ e → first_is_key schema (pair_node (node_at schema i)) ≡ true → HasKinds schema d i v → SchemaHas f schema.nodes.items i w
       → ShowsPair schema i (Shows hex schema e) v m → Means schema f i (Some m.0) m.1 w → AreOneTree v w
@@ -407,14 +415,14 @@ pub read_json : (text : List ℕ) (j k : Json) (n : ℕ) → IsJsonOf text j →
 read_json text j k n e f = one_json j k (sym e ∙ (value-json_tokens_back n (tokens text) [] k f ∙ append-nil (json_tokens k)))
 
 pub printed_back : (schema : Schema) (i : ℕ) → NamesTellParts schema → ReadsPrinted schema i
-printed_back schema i t hex d f v w text h g s bare m = by_line m.2
+printed_back schema i t hex d f v w text h g s bare m = by_line m.1.2
   where
-    same : s.0 ≡ m.0
-    same = read_json text s.0 m.0 (2 * f + 2) s.2 m.1
+    same : s.0 ≡ m.1.0
+    same = read_json text s.0 m.1.0 (2 * f + 2) s.2 m.1.1
 
-    by_line : MeansLine (MeansValue schema f i) m.0 w → AreOneTree v w
-    by_line (inl x) = value_back schema hex d d f i v w s.0 t (omega arith) (h.0.2, h.1) g.2 s.3 (subst (λ j. Means schema f i None j w) (sym same) x)
-    by_line (inr x) = absurd (bare s.0 x.0 s.2 (same ∙ x.1))
+    by_line : MeansLine schema f i m.1.0 w → AreOneTree v w
+    by_line (inl x) = absurd (bare s.0 x.0 s.2 (same ∙ x.1))
+    by_line (inr x) = value_back schema hex d d f i v w s.0 t (omega arith) (h.0.2, h.1) g.2 s.3 (subst (λ j. Means schema f i None j w) (sym same) x.1)
 
 closed : (b : Bool) → separator b end_object ≡ []
 closed true = refl
@@ -428,34 +436,8 @@ object_text j =
     ap (λ t. codes "{\"value\":" ++ t) (more ∙ ap (λ t. print (json_tokens j) ++ (t ++ codes "}")) (closed (fold (λ _ u. ends u) false (json_tokens j))))
 
 -- the JSON of a receiver's line
-line_json : (text : List ℕ) (j : Json) → text ≡ print (json_tokens j) → IsJsonOf text j → IsJsonOf (line_inside text) (object (member (codes "value") j no_members))
+pub line_json : (text : List ℕ) (j : Json) → text ≡ print (json_tokens j) → IsJsonOf text j → IsJsonOf (line_inside text) (object (member (codes "value") j no_members))
 line_json text j e h =
     let printable = subst ArePrintableOrBad h (ArePrintableOrBad-tokens text) in
     let numbers = value-HasNumbers (depth j) (json_tokens j ++ []) [] j (subst ArePrintableOrBad (sym (append-nil (json_tokens j))) printable) (value-json_tokens j (depth j) [] (omega arith)) in
     ap (λ t. tokens (line_inside t)) e ∙ (ap tokens (sym (object_text j)) ∙ tokens-print (json_tokens (object (member (codes "value") j no_members))) (ArePrintable-json_tokens (object (member (codes "value") j no_members)) (numbers, tt)))
-
-pub line_back : (schema : Schema) (i : ℕ) → NamesTellParts schema → ReadsLine schema i
-line_back schema i t hex d f v w text h g s none m = by_line m.2
-  where
-    json : IsJsonOf (line_inside text) (object (member (codes "value") s.0 no_members))
-    json = line_json text s.0 s.1 s.2
-
-    same : object (member (codes "value") s.0 no_members) ≡ m.0
-    same = read_json (line_inside text) (object (member (codes "value") s.0 no_members)) m.0 (2 * f + 2) json m.1
-
-    by_line : MeansLine (MeansValue schema f i) m.0 w → AreOneTree v w
-    by_line (inl x) = absurd (none (object (member (codes "value") s.0 no_members)) w json (subst (λ j. Means schema f i None j w) (sym same) x))
-    by_line (inr x) =
-        let inside : object (member (codes "value") x.0 no_members) ≡ object (member (codes "value") s.0 no_members) = sym x.1 ∙ sym same in
-        let one : x.0 ≡ s.0 = cc in
-        value_back schema hex d d f i v w s.0 t (omega arith) (h.0.2, h.1) g.2 s.3 (subst (λ j. Means schema f i None j w) one x.2)
-
--- what is sent of a receiver's line
-pub line_sent : (r : Reading) (s : Sending) → NamesTellParts r.schema.now → SendsWhatIsRead r s → SendsLine r s
-line_sent r s t same v text frame h is none sent =
-    let means : MeansText r.schema.now s.depth r.place (line_inside text) sent.value =
-    subst (λ i. MeansText r.schema.now s.depth i (line_inside text) sent.value) same.1 (subst (λ x. MeansText x s.depth s.place (line_inside text) sent.value) same.0 sent.means) in
-    let of_type : IsOfType s.depth r.schema.now.nodes.items r.place sent.value =
-    subst (λ i. IsOfType s.depth r.schema.now.nodes.items i sent.value) same.1 (subst (λ x. IsOfType s.depth x.nodes.items s.place sent.value) same.0 sent.of_type) in
-    let back : tree_of v ≡ tree_of sent.value = line_back r.schema.now r.place t r.hex r.depth s.depth v sent.value text h of_type is.0 none means in
-    sent.framed ∙ ap (λ x. frame_for s.sentinel (message_with s.summed (short x)) ++ s.sentinel ∷ []) (sym back)

@@ -5,7 +5,7 @@ use Rattle.std.specs.Prelude.{slice_index}
 use Rattle.std.proofs.lemmas.List.{append-nil, get_or-take, length-append, length-take-le}
 use Rattle.std.proofs.lemmas.List.Elements.{All-append}
 use Rattle.std.proofs.lemmas.Grind.{flat_map-append}
-use Rattle.wire_lib.specs.Sent.{LineMade, framed, refused, IsTextMade, IsLineWith, IsLineMade, last_line, is_framed, framed_bytes, refused_bytes, are_all_framed, number_behind, AreLinesMade, LacksFeed, with_feed, IsTextOf, HasMadeBy, AppendedApart, IsFrameToSend, refusal_text}
+use Rattle.wire_lib.specs.Sent.{LineMade, framed, refused, IsTextMade, IsUnsendable, IsLineWith, IsLineMade, last_line, is_framed, framed_bytes, refused_bytes, are_all_framed, number_behind, AreLinesMade, LacksFeed, with_feed, IsTextOf, HasMadeBy, AppendedApart, IsFrameToSend, refusal_text}
 use Rattle.wire_lib.specs.declared.send.Sending.{Sending}
 
 -- one line more
@@ -107,11 +107,11 @@ sent_framed s number line frames frames' wrongs bytes good is e = (
     still false = refl
 
 -- a line was refused
-pub sent_refused : (s : Sending) (number number' : ℕ) (line frames wrongs wrongs' : List ℕ) (good good' : Bool) → number' ≡ number → good' ≡ false → (why : List ℕ) × (wrongs' ≡ wrongs ++ refusal_text number why)
+pub sent_refused : (s : Sending) (number number' : ℕ) (line frames wrongs wrongs' : List ℕ) (good good' : Bool) → number' ≡ number → good' ≡ false → IsUnsendable s line → (why : List ℕ) × (wrongs' ≡ wrongs ++ refusal_text number why)
     → (m : LineMade) × IsTextMade s number' line m × AppendedApart frames frames wrongs wrongs' (m ∷ []) × (good' ≡ (good && is_framed m))
-sent_refused s number number' line frames wrongs wrongs' good good' e bad (why, said) = (
+sent_refused s number number' line frames wrongs wrongs' good good' e bad owed (why, said) = (
   refused (refusal_text number why),
-  (why, ap (λ n. refusal_text n why) (sym e)),
+  (owed, (why, ap (λ n. refusal_text n why) (sym e))),
   record { to_frames = sym (append-nil frames); to_wrongs = said ∙ ap (λ x. wrongs ++ x) (sym (append-nil (refusal_text number why))) },
   bad ∙ sym (never good),
 )
@@ -119,11 +119,6 @@ sent_refused s number number' line frames wrongs wrongs' good good' e bad (why, 
     never : (g : Bool) → (g && false) ≡ false
     never true = refl
     never false = refl
-
--- nothing is begun
-pub none_begun : (xs : List ℕ) → length xs ≡ 0 → xs ≡ []
-none_begun [] e = refl
-none_begun (x ∷ xs) e = absurd (omega (arith, e))
 
 -- what a line's text became, the line did
 pub line_made : (s : Sending) (number : ℕ) (line text : List ℕ) (m : LineMade) → IsLineWith text line → IsTextMade s number text m → IsLineMade s number line m

@@ -282,9 +282,6 @@ node_at_most takes sizes k (node.Enum is) m e = variant_at_most takes sizes k is
 
 -- Tables
 
-pub none_known : (nodes : List Node) (sizes : List (Option ℕ)) → ((place : ℕ) → known_size sizes place ≡ None) → AreSizesOf nodes sizes
-none_known nodes sizes h depth place n e = let k = h place in cc
-
 pub none_then : (sizes : List (Option ℕ)) → ((place : ℕ) → known_size sizes place ≡ None)
     → (place : ℕ) → known_size (sizes ++ None ∷ []) place ≡ None
 none_then [] h zero = refl

@@ -2,6 +2,7 @@ pub mod Damages
 pub mod Drawn
 pub mod Floats
 pub mod Fronts
+pub mod InRange
 pub mod Kinds
 pub mod Looks
 pub mod Meant
@@ -12,11 +13,12 @@ pub mod Printed
 pub mod Rates
 pub mod Raw
 pub mod Received
+pub mod Refused
 pub mod RoundTrip
 pub mod Said
 pub mod Seen
 pub mod Sent
 pub mod Sizes
 pub mod Summed
-pub mod Tables
 pub mod TableJson
+pub mod Tables

@@ -52,6 +52,11 @@ is_unit_named (Some names.Unit) = true
 is_unit_named (Some names.Empty) = true
 is_unit_named _ = false
 
+-- a type is a struct without fields
+abbrev pub HasNoFields : Option Node → Type 0
+HasNoFields (Some (node.Struct is)) = is.items ≡ []
+HasNoFields _ = ⊥
+
 -- the only one of some types
 abbrev pub only_type : List ℕ → Option ℕ
 only_type [] = None

@@ -1,6 +1,7 @@
 -- Which value a JSON means, by its type.
-use Rattle.std.specs.Prelude.{◌≡◌, ◌≢◌, ◌⊎◌, ℕ, zero, suc, ◌+◌, ◌*◌, ℤ, List, [], ◌∷◌, length, Bool, true, false, Option, Some, None, option_and_then, Ok, codes, string_bytes, encode_utf8}
+use Rattle.std.specs.Prelude.{◌≡◌, ◌≢◌, ◌⊎◌, ◌<◌, ℕ, zero, suc, ◌+◌, ◌*◌, ℤ, List, [], ◌∷◌, length, Bool, true, false, ◌&&◌, Option, Some, None, option_and_then, Ok, codes, String, string_bytes, encode_utf8}
 use Rattle.std.specs.List.{slice_get}
+use Rattle.std.specs.Str.{IsUtf8}
 use Rattle.std.specs.Str.Parse.{IsNumeral, digits_value, signed_digits_value, without_leading_plus, without_leading_sign}
 use Rattle.hex.specs.Hex.{decode_of}
 use Rattle.json.specs.Json.{Json, value as json_value, null, boolean, number, string, array, object, Items, no_items, item, Members, no_members, member}
@@ -20,7 +21,8 @@ use Rattle.schemas.specs.declared.value.Value.{Value, out-Value}
 use Rattle.schemas.specs.declared.value.Value.TheOpen.{Value-F}
 use Rattle.schemas.specs.Schemas.{OfList, OfGroup}
 use Rattle.wire_lib.specs.Floats.{NumberMeansFloat, WordMeansFloat}
-use Rattle.wire_lib.specs.Looks.{IsPresentBy, IsUnder, names_at, node_at, is_float_named, inside_of, null_within, only_part, pair_node, truth_key, variant_named}
+use Rattle.wire_lib.specs.InRange.{Fits}
+use Rattle.wire_lib.specs.Looks.{HasNoFields, IsPresentBy, IsUnder, names_at, node_at, is_byte_node, is_empty_named, is_float_named, is_map_named, inside_of, first_is_key, null_within, only_part, pair_node, truth_key, variant_named}
 use Rattle.wire_lib.specs.Printed.{two_values}
 
 -- Values without parts
@@ -99,15 +101,20 @@ KeyMeansPlain s (Value-F.Char c) = s ≡ encode_utf8 c
 KeyMeansPlain s (Value-F.Text t) = string_bytes t ≡ s
 KeyMeansPlain s v = MeansNumber s v
 
--- a variant of this name
-abbrev pub IsNamed : Option Names → List ℕ → Value-F Value → Type 0
-IsNamed named s (Value-F.Variant n w) = variant_named named n ≡ Some s
-IsNamed named s _ = ⊥
+-- the first variant of this name
+abbrev pub IsIndexOf : Option Names → List ℕ → ℕ → Type 0
+IsIndexOf named s n = (variant_named named n ≡ Some s) × ((m : ℕ) → m < n → variant_named named m ≢ Some s)
+
+-- a variant of this name, without fields
+abbrev pub IsNamed : Schema → Option Names → List ℕ → List ℕ → Value-F Value → Type 0
+IsNamed schema named is s (Value-F.Variant n w) = IsIndexOf named s n × ((k : ℕ) × (slice_get is n ≡ Some k) × HasNoFields (node_at schema k))
+IsNamed schema named is s _ = ⊥
 
 -- a value of a node
-abbrev pub KeyMeansNode : Option Names → Option Node → List ℕ → Value-F Value → Type 0
-KeyMeansNode named (Some (node.Enum is)) s v = IsNamed named s v
-KeyMeansNode named _ s v = KeyMeansPlain s v
+abbrev pub KeyMeansNode : Schema → Option Names → Option Node → List ℕ → Value-F Value → Type 0
+KeyMeansNode schema None _ s v = ⊥
+KeyMeansNode schema (Some named) (Some (node.Enum is)) s v = IsNamed schema (Some named) is.items s v
+KeyMeansNode schema (Some named) _ s v = KeyMeansPlain s v
 
 -- the only part of a value
 abbrev pub MeansInside : (Value → Type 0) → Value → Type 0
@@ -122,7 +129,7 @@ KeyMeansBy (Some k) inside here v = MeansInside (inside k) v
 unfoldable pub KeyMeans : Schema → ℕ → ℕ → List ℕ → Value → Type 0
 KeyMeans schema zero i s v = ⊥
 KeyMeans schema (suc depth) i s v =
-    KeyMeansBy (inside_of schema i) (λ k w. KeyMeans schema depth k s w) (λ w. KeyMeansNode (names_at schema i) (node_at schema i) s (out-Value w)) v
+    KeyMeansBy (inside_of schema i) (λ k w. KeyMeans schema depth k s w) (λ w. KeyMeansNode schema (names_at schema i) (node_at schema i) s (out-Value w)) v
 
 -- Values with parts
 
@@ -148,11 +155,11 @@ AreBytes [] [] = Unit {0}
 AreBytes (b ∷ bs) (v ∷ vs) = (out-Value v ≡ Value-F.U8 b) × AreBytes bs vs
 AreBytes _ _ = ⊥
 
--- values of one type: bytes also by hexadecimal digits
-abbrev pub MeansElements : (Json → Value → Type 0) → Json → List Value → Type 0
-MeansElements means (array js) vs = MeansItems means js vs
-MeansElements means (string s) vs = (bs : List ℕ) × IsHex s bs × AreBytes bs vs
-MeansElements means _ vs = ⊥
+-- values of one type, by its node: bytes also by hexadecimal digits
+abbrev pub MeansElements : Option Node → (Json → Value → Type 0) → Json → List Value → Type 0
+MeansElements n means (array js) vs = MeansItems means js vs
+MeansElements n means (string s) vs = (is_byte_node n ≡ true) × ((bs : List ℕ) × IsHex s bs × AreBytes bs vs)
+MeansElements n means _ vs = ⊥
 
 -- two values by their types, the first by a name
 abbrev pub MeansHeld : (ℕ → List ℕ → Value → Type 0) → (ℕ → Json → Value → Type 0) → Option (ℕ × ℕ) → Option (Value × Value) → List ℕ → Json → Type 0
@@ -165,10 +172,54 @@ MeansMembers pair no_members [] = Unit {0}
 MeansMembers pair (member s j ms) (v ∷ vs) = pair s j v × MeansMembers pair ms vs
 MeansMembers pair _ _ = ⊥
 
--- the elements of a list; of a map also its members
-abbrev pub MeansList : (Json → Value → Type 0) → (List ℕ → Json → Value → Type 0) → Json → List Value → Type 0
-MeansList means pair (object ms) vs = MeansMembers pair ms vs
-MeansList means pair j vs = MeansElements means j vs
+-- the elements of a list; also the members of a map, if its keys can be texts
+abbrev pub MeansList : Bool → Option Node → (Json → Value → Type 0) → (List ℕ → Json → Value → Type 0) → Json → List Value → Type 0
+MeansList keys n means pair (object ms) vs = (keys ≡ true) × MeansMembers pair ms vs
+MeansList keys n means pair j vs = MeansElements n means j vs
+
+-- a name is one of these
+abbrev pub IsOneOf : {A : Type 0} → List ℕ → List (String A) → Type 0
+IsOneOf s [] = ⊥
+IsOneOf s (n ∷ ns) = (string_bytes n ≡ s) ⊎ IsOneOf s ns
+
+-- a member has this name
+abbrev pub HasMember : List ℕ → Members → Type 0
+HasMember s no_members = ⊥
+HasMember s (member t j ms) = (t ≡ s) ⊎ HasMember s ms
+
+-- each member has one of these names
+abbrev pub AreNamed : {A : Type 0} → List (String A) → Members → Type 0
+AreNamed ns no_members = Unit {0}
+AreNamed ns (member s j ms) = IsOneOf s ns × AreNamed ns ms
+
+-- no two members have one name
+abbrev pub AreNamedOnce : Members → Type 0
+AreNamedOnce no_members = Unit {0}
+AreNamedOnce (member s j ms) = (HasMember s ms → ⊥) × AreNamedOnce ms
+
+-- how many elements
+abbrev pub count_items : Items → ℕ
+count_items no_items = 0
+count_items (item j js) = count_items js + 1
+
+-- how many members
+abbrev pub count_members : Members → ℕ
+count_members no_members = 0
+count_members (member s j ms) = count_members ms + 1
+
+-- the JSON of a struct of so many fields, whatever these are
+abbrev pub HasShape : Names → ℕ → Json → Type 0
+HasShape names.Newtype n j = Unit {0}
+HasShape names.Unit n j = j ≡ null
+HasShape names.Empty n j = j ≡ null
+HasShape names.Tuple n (array js) = count_items js ≡ n
+HasShape (names.Fields ns) n (object ms) = n ≡ 0 → ms ≡ no_members
+HasShape _ n j = ⊥
+
+-- each member is a field, and no field is there twice; so it is, if there are as many as names, and each name is there
+abbrev pub HasOnlyFields : Names → Json → Type 0
+HasOnlyFields (names.Fields ns) (object ms) = (count_members ms ≡ length ns.items) ⊎ (AreNamed ns.items ms × AreNamedOnce ms)
+HasOnlyFields _ j = Unit {0}
 
 -- the JSON of a field: of a newtype all, of a tuple the element, else the member of its name
 abbrev pub field_json : Names → ℕ → Json → Option Json
@@ -187,31 +238,47 @@ MeansFields named j means n [] [] = Unit {0}
 MeansFields named j means n (i ∷ is) (v ∷ vs) = MeansField named j (means i) n v × MeansFields named j means (n + 1) is vs
 MeansFields named j means n _ _ = ⊥
 
--- the name of a variant, and the JSON of what it holds
-abbrev pub chosen : Json → Option (List ℕ × Json)
-chosen (string s) = Some (s, null)
-chosen (object (member s j no_members)) = Some (s, j)
+-- the name of a variant, and the JSON of what it holds, if there is any
+abbrev pub chosen : Json → Option (List ℕ × Option Json)
+chosen (string s) = Some (s, None)
+chosen (object (member s j no_members)) = Some (s, Some j)
 chosen _ = None
 
--- the JSON of what a variant holds: `null` for its name alone
-abbrev pub held_json : {A : Type 0} → Option (Bor (Parsed A)) → Json
-held_json None = null
-held_json (Some j) = value_view j.now
+-- the JSON of what a variant holds
+abbrev pub held_json : {A : Type 0} → Option (Bor (Parsed A)) → Option Json
+held_json None = None
+held_json (Some j) = Some (value_view j.now)
+
+-- a variant without fields holds `null` at most, another has JSON for them
+abbrev pub MayHold : Bool → Option Json → Type 0
+MayHold true None = Unit {0}
+MayHold true (Some j) = j ≡ null
+MayHold false None = ⊥
+MayHold false (Some j) = Unit {0}
+
+-- this JSON, or `null`
+abbrev pub or_null : Option Json → Json
+or_null None = null
+or_null (Some j) = j
+
+-- what a variant holds, by its type
+abbrev pub MeansHolding : Schema → (ℕ → Json → Value → Type 0) → ℕ → Option Json → Value → Type 0
+MeansHolding schema means k o v = MayHold (is_empty_named (names_at schema k)) o × means k (or_null o) v
 
 -- a variant of this name, by what it holds
-abbrev pub MeansNamed : Option Names → List ℕ → (ℕ → Json → Value → Type 0) → List ℕ → Json → Value-F Value → Type 0
-MeansNamed named is means s j (Value-F.Variant n w) = (variant_named named n ≡ Some s) × ((k : ℕ) × (slice_get is n ≡ Some k) × means k j w.value)
-MeansNamed named is means s j _ = ⊥
+abbrev pub MeansNamed : Schema → Option Names → List ℕ → (ℕ → Json → Value → Type 0) → List ℕ → Option Json → Value-F Value → Type 0
+MeansNamed schema named is means s o (Value-F.Variant n w) = IsIndexOf named s n × ((k : ℕ) × (slice_get is n ≡ Some k) × MeansHolding schema means k o w.value)
+MeansNamed schema named is means s o _ = ⊥
 
 -- an enum
-abbrev pub MeansEnum : Option Names → List ℕ → (ℕ → Json → Value → Type 0) → Option (List ℕ × Json) → Value-F Value → Type 0
-MeansEnum named is means None v = ⊥
-MeansEnum named is means (Some c) v = MeansNamed named is means c.0 c.1 v
+abbrev pub MeansEnum : Schema → Option Names → List ℕ → (ℕ → Json → Value → Type 0) → Option (List ℕ × Option Json) → Value-F Value → Type 0
+MeansEnum schema named is means None v = ⊥
+MeansEnum schema named is means (Some c) v = MeansNamed schema named is means c.0 c.1 v
 
 -- a struct or a tuple
 abbrev pub MeansStruct : Option Names → List ℕ → (ℕ → Json → Value → Type 0) → Json → List Value → Type 0
 MeansStruct None is means j vs = ⊥
-MeansStruct (Some named) is means j vs = MeansFields named j means 0 is vs
+MeansStruct (Some named) is means j vs = HasShape named (length is) j × HasOnlyFields named j × MeansFields named j means 0 is vs
 
 -- a float
 abbrev pub MeansFloat : Json → Value-F Value → Type 0
@@ -224,16 +291,18 @@ abbrev pub MeansFixed : Bool → Json → Value-F Value → Type 0
 MeansFixed true j v = MeansFloat j v
 MeansFixed false j v = MeansPlain j v
 
--- a value of a node
+-- a value of a node; without names nothing is
 abbrev pub MeansNode : Schema → Option Names → (ℕ → Option (List ℕ) → Json → Value → Type 0) → Option Node → Json → Value-F Value → Type 0
-MeansNode schema named means (Some (node.Option k)) j = MeansOption schema k (means k None) j
-MeansNode schema named means (Some (node.List k)) j = OfList (MeansList (means k None) (λ s. means k (Some s)) j)
-MeansNode schema named means (Some (node.ListUpTo n k)) j = OfList (MeansList (means k None) (λ s. means k (Some s)) j)
-MeansNode schema named means (Some (node.Array n k)) j = OfGroup (MeansElements (means k None) j)
-MeansNode schema named means (Some (node.Struct is)) j = OfGroup (MeansStruct named is.items (λ i. means i None) j)
-MeansNode schema named means (Some (node.Enum is)) j = MeansEnum named is.items (λ i. means i None) (chosen j)
-MeansNode schema named means (Some (node.LE k)) j = MeansFixed (is_float_named named) j
-MeansNode schema named means _ j = MeansPlain j
+MeansNode schema None means _ j v = ⊥
+MeansNode schema (Some named) means (Some (node.Option k)) j v = MeansOption schema k (means k None) j v
+MeansNode schema (Some named) means (Some (node.List k)) j v = OfList (MeansList (is_map_named (Some named) && first_is_key schema (pair_node (node_at schema k))) (node_at schema k) (means k None) (λ s. means k (Some s)) j) v
+MeansNode schema (Some named) means (Some (node.ListUpTo n k)) j v =
+    OfList (MeansList (is_map_named (Some named) && first_is_key schema (pair_node (node_at schema k))) (node_at schema k) (means k None) (λ s. means k (Some s)) j) v
+MeansNode schema (Some named) means (Some (node.Array n k)) j v = OfGroup (MeansElements (node_at schema k) (means k None) j) v
+MeansNode schema (Some named) means (Some (node.Struct is)) j v = OfGroup (MeansStruct (Some named) is.items (λ i. means i None) j) v
+MeansNode schema (Some named) means (Some (node.Enum is)) j v = MeansEnum schema (Some named) is.items (λ i. means i None) (chosen j) v
+MeansNode schema (Some named) means (Some (node.LE k)) j v = MeansFixed (is_float_named (Some named)) j v
+MeansNode schema (Some named) means _ j v = MeansPlain j v
 
 -- the value of the type at a place, with at most so many nested nodes, that a JSON means, or a member of an object of this name: a pair
 unfoldable pub Means : Schema → ℕ → ℕ → Option (List ℕ) → Json → Value → Type 0
@@ -249,10 +318,15 @@ MeansValue schema depth i j v = Means schema depth i None j v
 abbrev pub MeansMember : Schema → ℕ → ℕ → List ℕ → Json → Value → Type 0
 MeansMember schema depth i s j v = Means schema depth i (Some s) j v
 
--- a line: the value, or an object with it alone
-abbrev pub MeansLine : (Json → Value → Type 0) → Json → Value → Type 0
-MeansLine means j v = means j v ⊎ IsUnder (codes "value") (λ k. means k v) j
+-- no value of the type is meant
+abbrev pub IsUnread : Schema → ℕ → ℕ → Json → Type 0
+IsUnread schema depth i j = (v : Value) → Fits schema depth i v → MeansValue schema depth i j v → ⊥
 
--- a text: a line, whose JSON nests in so many brackets at most
+-- a line: an object with the value alone, else the value
+abbrev pub MeansLine : Schema → ℕ → ℕ → Json → Value → Type 0
+MeansLine schema depth i j v =
+    IsUnder (codes "value") (λ k. MeansValue schema depth i k v) j ⊎ (((k : Json) → j ≡ object (member (codes "value") k no_members) → IsUnread schema depth i k) × MeansValue schema depth i j v)
+
+-- a text: UTF-8 and a line, whose JSON nests in so many brackets at most
 abbrev pub MeansText : Schema → ℕ → ℕ → List ℕ → Value → Type 0
-MeansText schema depth i text v = (j : Json) × (json_value (2 * depth + 2) (tokens text) ≡ Some (j, [])) × MeansLine (MeansValue schema depth i) j v
+MeansText schema depth i text v = IsUtf8 text × ((j : Json) × (json_value (2 * depth + 2) (tokens text) ≡ Some (j, [])) × MeansLine schema depth i j v)

@@ -2,6 +2,7 @@
 use Rattle.std.specs.Prelude.{◌≡◌, ℕ, zero, suc, List, [], ◌∷◌, length, zip, Bool, true, false, ◌&&◌, Option, Some, None, OnOk, Result, ◌++◌, String, string_bytes, decimal, encode_utf8}
 use Rattle.std.specs.Fmt.{signed_decimal}
 use Rattle.std.specs.List.{AllZip, slice_get}
+use Rattle.std.specs.Str.{IsUtf8}
 use Rattle.hex.specs.Hex.{encode_lower}
 use Rattle.json.specs.Json.{Json, null, boolean, number, string, array, object, Items, no_items, item, Members, no_members, member}
 use Rattle.json.specs.Lex.{tokens}
@@ -273,6 +274,6 @@ Shows hex schema (suc depth) i v j = ShowsNode hex schema i (Shows hex schema de
 abbrev pub IsJsonOf : List ℕ → Json → Type 0
 IsJsonOf text j = tokens text ≡ json_tokens j
 
--- a text is what is printed of the value of the type at a place, with at most so many nested nodes
+-- a text is what is printed of the value of the type at a place, with at most so many nested nodes; it is UTF-8
 abbrev pub Prints : Bool → Schema → ℕ → ℕ → Value → List ℕ → Type 0
-Prints hex schema depth i v text = (j : Json) × (text ≡ print (json_tokens j)) × IsJsonOf text j × Shows hex schema depth i v j
+Prints hex schema depth i v text = (j : Json) × (text ≡ print (json_tokens j)) × IsJsonOf text j × Shows hex schema depth i v j × IsUtf8 text

@@ -5,8 +5,10 @@ use Rattle.postcard_tree.specs.Tree.{IsTree}
 use Rattle.postcard_tree.specs.Spelling.{short}
 use Rattle.schemas.specs.declared.value.Value.{Value}
 use Rattle.schemas.specs.Values.{tree_of}
+use Rattle.wire_lib.specs.InRange.{Fits}
 use Rattle.wire_lib.specs.Meant.{MeansText}
 use Rattle.wire_lib.specs.Parsed.{IsOfType}
+use Rattle.wire_lib.specs.Refused.{NoneOf}
 use Rattle.wire_lib.specs.Summed.{message_with}
 use Rattle.wire_lib.specs.declared.send.Sending.{Sending}
 use Rattle.wire_lib.specs.declared.send.FramesOfLines.{FramesOfLines}
@@ -37,10 +39,22 @@ abbrev pub refusal_text : ℕ → List ℕ → List ℕ
 refusal_text number why =
     codes "line " ++ (decimal number ++ (codes ": " ++ (why ++ 10 ∷ [])))
 
+-- a line means nothing of the type
+abbrev pub MeansNothing : Sending → List ℕ → Type 0
+MeansNothing s line = NoneOf (Fits s.schema.now s.depth s.place) (MeansText s.schema.now s.depth s.place line)
+
+-- a line means a value whose frame is past the limit
+abbrev pub IsTooLong : Sending → List ℕ → Type 0
+IsTooLong s line = (v : Value) × MeansText s.schema.now s.depth s.place line v × (65536 < length (frame_for s.sentinel (message_with s.summed (short (tree_of v)))))
+
+-- a line to refuse
+abbrev pub IsUnsendable : Sending → List ℕ → Type 0
+IsUnsendable s line = MeansNothing s line ⊎ IsTooLong s line
+
 -- The text of the line of that number became this: the frame of the value that it means, or a refusal with that number.
 abbrev pub IsTextMade : Sending → ℕ → List ℕ → LineMade → Type 0
 IsTextMade s number text (framed bytes) = IsFrameToSend s text bytes
-IsTextMade s number text (refused bytes) = (why : List ℕ) × (bytes ≡ refusal_text number why)
+IsTextMade s number text (refused bytes) = IsUnsendable s text × ((why : List ℕ) × (bytes ≡ refusal_text number why))
 
 -- a line is this text, with or without a carriage return at its end
 abbrev pub IsLineWith : List ℕ → List ℕ → Type 0

@@ -1,10 +1,11 @@
 //! Floats by their bits, from JSON numbers and strings, and the strings for those that JSON has no number for.
-ghost use Rattle.std.specs.Prelude.{◌≡◌, false, true, None, Some, IfOk, IfSome, from_bits, string_bytes};
+ghost use Rattle.std.specs.Prelude.{◌≡◌, ◌<◌, ◌%◌, ◌^◌, ℕ, List, false, true, None, Some, IfOk, IfSome, from_bits, length, string_bytes};
 ghost use Rattle.std.specs.Float.{binary32, binary64, float_is_finite};
 ghost use Rattle.schemas.specs.Integers.{type_of};
 ghost use Rattle.std.specs.Int.{w32, w64};
-ghost use Rattle.fast_float.specs.Parse.{parse_float};
-ghost use Rattle.wire_lib.specs.Floats.{IsNanOf, IsNanWord, NumberMeansFloat, WordMeansDouble, WordMeansFloat, WordMeansSingle, double_word, nan_word, single_word};
+ghost use Rattle.wire_lib.specs.Floats.{IsNanOf, IsNanWord, IsNearest, NumberMeansFloat, WordMeansDouble, WordMeansFloat, WordMeansSingle, double_word, nan_word, single_word};
+ghost use Rattle.wire_lib.specs.InRange.{IsIntegerOf};
+ghost use Rattle.wire_lib.specs.Refused.{IfNone, NoneOf};
 
 use schemas::{Integer, IntegerType};
 use std::alloc::{AllocError, Global};
@@ -82,7 +83,9 @@ pub fn word_of_double(alloc: Global, bits: u64) -> Result<String, AllocError>
 
 /// Whether a word is `NaN:` and the hexadecimal digits of all these bytes, which it sets.
 fn has_bits(word: &str, bytes: &mut [u8]) -> bool
-    ensures { result ≡ true → IsNanWord word.now bytes.new }
+    ensures yes { result ≡ true → IsNanWord word.now bytes.new }
+    ensures no { result ≡ false → (bs : List ℕ) → length bs ≡ length bytes.old
+        → IsNanWord word.now bs → ⊥ }
 {
     match word.strip_prefix(BITS) {
         Some(digits) => hex::decode_to_slice(digits.as_bytes(), bytes).is_ok(),
@@ -92,7 +95,10 @@ fn has_bits(word: &str, bytes: &mut [u8]) -> bool
 
 /// The bits of an `f32` that is a NaN, after `NaN:`.
 fn bits_of_nan(word: &str) -> Option<u32>
-    ensures { IfSome result (IsNanOf w32 word.now) }
+    ensures some { IfSome result
+        (λ n. IsNanOf w32 word.now n × (0x7f800000 < n % 2 ^ 31)) }
+    ensures none { IfNone result
+        ((n : ℕ) → IsNanOf w32 word.now n → 0x7f800000 < n % 2 ^ 31 → ⊥) }
 {
     let mut bytes = [0u8; 4];
     if !has_bits(word, &mut bytes) {
@@ -108,7 +114,10 @@ fn bits_of_nan(word: &str) -> Option<u32>
 
 /// The same of an `f64`.
 fn bits_of_nan_double(word: &str) -> Option<u64>
-    ensures { IfSome result (IsNanOf w64 word.now) }
+    ensures some { IfSome result
+        (λ n. IsNanOf w64 word.now n × (0x7ff0000000000000 < n % 2 ^ 63)) }
+    ensures none { IfNone result
+        ((n : ℕ) → IsNanOf w64 word.now n → 0x7ff0000000000000 < n % 2 ^ 63 → ⊥) }
 {
     let mut bytes = [0u8; 8];
     if !has_bits(word, &mut bytes) {
@@ -124,7 +133,9 @@ fn bits_of_nan_double(word: &str) -> Option<u64>
 
 /// The bits of an `f32` from its string.
 fn bits_of_word(word: &str) -> Option<u32>
-    ensures { IfSome result (WordMeansSingle word.now) }
+    ensures some { IfSome result (WordMeansSingle word.now) }
+    ensures none { IfNone result
+        (NoneOf (λ n. n < 2 ^ 32) (WordMeansSingle word.now)) }
 {
     match word {
         "Infinity" => Some(0x7f80_0000),
@@ -136,7 +147,9 @@ fn bits_of_word(word: &str) -> Option<u32>
 
 /// The bits of an `f64` from its string.
 fn bits_of_word_of_double(word: &str) -> Option<u64>
-    ensures { IfSome result (WordMeansDouble word.now) }
+    ensures some { IfSome result (WordMeansDouble word.now) }
+    ensures none { IfNone result
+        (NoneOf (λ n. n < 2 ^ 64) (WordMeansDouble word.now)) }
 {
     match word {
         "Infinity" => Some(0x7ff0_0000_0000_0000),
@@ -148,7 +161,9 @@ fn bits_of_word_of_double(word: &str) -> Option<u64>
 
 /// The bits of an `f32`, if it is finite.
 fn single_bits(number: f32) -> Option<u32>
-    ensures { IfSome result (λ n. from_bits binary32 n ≡ number) }
+    ensures some { IfSome result
+        (λ n. (from_bits binary32 n ≡ number) × (float_is_finite number ≡ true)) }
+    ensures none { IfNone result (float_is_finite number ≡ false) }
 {
     if number.is_finite() {
         Some(number.to_bits())
@@ -159,7 +174,9 @@ fn single_bits(number: f32) -> Option<u32>
 
 /// The bits of an `f64`, if it is finite.
 fn double_bits(number: f64) -> Option<u64>
-    ensures { IfSome result (λ n. from_bits binary64 n ≡ number) }
+    ensures some { IfSome result
+        (λ n. (from_bits binary64 n ≡ number) × (float_is_finite number ≡ true)) }
+    ensures none { IfNone result (float_is_finite number ≡ false) }
 {
     if number.is_finite() {
         Some(number.to_bits())
@@ -170,7 +187,8 @@ fn double_bits(number: f64) -> Option<u64>
 
 /// The bits of the `f32` nearest to a number, or `None` if that is an infinity.
 fn bits_of_number(text: &str) -> Option<u32>
-    ensures { IfSome result (λ n. parse_float binary32 text.now ≡ Some (from_bits binary32 n)) }
+    ensures some { IfSome result (IsNearest binary32 text.now) }
+    ensures none { IfNone result ((n : ℕ) → IsNearest binary32 text.now n → ⊥) }
 {
     match fast_float::parse::<f32, &str>(text) {
         Ok(number) => single_bits(number),
@@ -180,7 +198,8 @@ fn bits_of_number(text: &str) -> Option<u32>
 
 /// The bits of the `f64` nearest to a number, or `None` if that is an infinity.
 fn bits_of_double(text: &str) -> Option<u64>
-    ensures { IfSome result (λ n. parse_float binary64 text.now ≡ Some (from_bits binary64 n)) }
+    ensures some { IfSome result (IsNearest binary64 text.now) }
+    ensures none { IfNone result ((n : ℕ) → IsNearest binary64 text.now n → ⊥) }
 {
     match fast_float::parse::<f64, &str>(text) {
         Ok(number) => double_bits(number),
@@ -194,6 +213,7 @@ fn bits_of_double(text: &str) -> Option<u64>
 pub fn float_of_number(of: IntegerType, text: &str) -> Option<Integer>
     ensures of_type { IfSome result (λ i. type_of i ≡ of) }
     ensures means { IfSome result (NumberMeansFloat text.now) }
+    ensures none { IfNone result (NoneOf (IsIntegerOf of) (NumberMeansFloat text.now)) }
 {
     match of {
         IntegerType::U32 => Some(Integer::U32(bits_of_number(text)?)),
@@ -206,6 +226,7 @@ pub fn float_of_number(of: IntegerType, text: &str) -> Option<Integer>
 pub fn float_of_word(of: IntegerType, word: &str) -> Option<Integer>
     ensures of_type { IfSome result (λ i. type_of i ≡ of) }
     ensures means { IfSome result (WordMeansFloat word.now) }
+    ensures none { IfNone result (NoneOf (IsIntegerOf of) (WordMeansFloat word.now)) }
 {
     match of {
         IntegerType::U32 => Some(Integer::U32(bits_of_word(word)?)),

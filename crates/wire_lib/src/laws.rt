@@ -1,15 +1,15 @@
 //! Laws of printing and parsing: functions without a body. Call one where a proof needs its contract.
 ghost use Rattle.std.specs.Prelude.{ℕ};
 ghost use Rattle.schema_table.specs.declared.schema.Schema.{Schema as Tables};
-ghost use Rattle.wire_lib.specs.RoundTrip.{NamesTellParts, ReadsLine, ReadsPrinted, SendsLine, SendsWhatIsRead};
+ghost use Rattle.wire_lib.specs.RoundTrip.{NamesTellParts, ReadsLine, ReadsPrinted, SendsLine, SendsWhatIsRead, TakesLine, TakesPrinted};
 ghost use Rattle.wire_lib.specs.declared.receive.Reading.{Reading as Readings};
 ghost use Rattle.wire_lib.specs.declared.send.Sending.{Sending as Sendings};
 
 /// What [`parse`](crate::parse::parse) reads from the text that [`print`](crate::print::print) wrote of a value has the bytes of
-/// that value.
+/// that value. And that text means the value, so `parse` doesn't refuse it.
 ///
-/// `printed` says it of the text itself, unless that is an object with the only member `value`, which `parse` takes for a line of a
-/// receiver. `line` says it of that line, `{"value": ..}` round the text, unless the line itself is a value of the type too.
+/// `printed` and `printed_taken` say it of the text itself, unless that is an object with the only member `value`, which `parse`
+/// takes for a line of a receiver. `line` and `line_taken` say it of that line, `{"value": ..}` round the text, whatever it is.
 ///
 /// `sent` says what a sender makes of it: the shortest frame of that value.
 ///
@@ -18,8 +18,12 @@ ghost use Rattle.wire_lib.specs.declared.send.Sending.{Sending as Sendings};
 pub fn parsed_as_printed()
     ensures printed { (schema : Tables) (place : ℕ) → NamesTellParts schema
         → ReadsPrinted schema place }
+    ensures printed_taken { (schema : Tables) (place : ℕ) → NamesTellParts schema
+        → TakesPrinted schema place }
     ensures line { (schema : Tables) (place : ℕ) → NamesTellParts schema
         → ReadsLine schema place }
+    ensures line_taken { (schema : Tables) (place : ℕ) → NamesTellParts schema
+        → TakesLine schema place }
     ensures sent { (reading : Readings) (sending : Sendings)
         → NamesTellParts reading.schema.now → SendsWhatIsRead reading sending
         → SendsLine reading sending }

@@ -1,14 +1,16 @@
 //! Values from JSON.
-ghost use Rattle.std.specs.Prelude.{◌≡◌, ◌+◌, ◌*◌, ◌≤◌, [], ◌∷◌, IfOk, IfSome, None, Some, codes, length};
-ghost use Rattle.json.specs.Json.{value as json_value, member, no_members, object, string};
+ghost use Rattle.std.specs.Prelude.{◌≡◌, ◌≢◌, ◌<◌, ◌+◌, ◌*◌, ◌≤◌, ◌^◌, ◌&&◌, ℕ, List, [], ◌∷◌, true, false, IfErr, IfOk, IfSome, OnOk, None, Some, codes, length};
+ghost use Rattle.json.specs.Json.{Json as Tree, value as json_value, member, no_members, object, string};
 ghost use Rattle.json.specs.Value.{items_view, members_view, value_view};
 ghost use Rattle.schema_table.specs.declared.node.Node.TheVariants as kind;
 ghost use Rattle.schemas.specs.declared.value.Value.{Group, List as Listed};
 ghost use Rattle.schemas.specs.Integers.{type_of};
 ghost use Rattle.schemas.specs.Schemas.{AtTop, EachHas, OfGroup};
-ghost use Rattle.wire_lib.specs.Looks.{variant_named};
-ghost use Rattle.wire_lib.specs.Meant.{AreBytes, AreBytesOf, IsHex, IsInteger, IsNamed, IsPresent, KeyMeans, KeyMeansPlain, Means, MeansByte, MeansBytes, MeansElements, MeansEnum, MeansField, MeansFloat, MeansItems, MeansLine, MeansList, MeansMember, MeansMembers, MeansNode, MeansNumber, MeansOption, MeansPlain, MeansStruct, MeansText, MeansValue, chosen, field_json, held_json};
+ghost use Rattle.wire_lib.specs.InRange.{AreAllBytes, Fits, InRange, IsByte, IsIntegerOf};
+ghost use Rattle.wire_lib.specs.Looks.{HasNoFields, first_is_key, is_byte_node, is_map_named, node_at, pair_node, variant_named};
+ghost use Rattle.wire_lib.specs.Meant.{AreNamedOnce, AreBytes, AreBytesOf, HasMember, HasOnlyFields, HasShape, IsHex, IsIndexOf, IsInteger, IsNamed, IsOneOf, IsPresent, KeyMeans, KeyMeansPlain, Means, MeansByte, MeansBytes, MeansElements, MeansEnum, MeansField, MeansFloat, MeansHolding, MeansItems, MeansLine, MeansList, MeansMember, MeansMembers, MeansNode, MeansNumber, MeansOption, MeansPlain, MeansStruct, MeansText, MeansValue, chosen, field_json, held_json};
 ghost use Rattle.wire_lib.specs.Parsed.{AreOfType, IsGroupOf, IsOfEnum, IsOfLeaf, IsOfNode, IsOfStruct, IsOfType};
+ghost use Rattle.wire_lib.specs.Refused.{IfNone, IfWrong, IsNumberNode, IsWrong, NoneOf};
 
 use crate::floats::{float_of_number, float_of_word};
 use crate::looks::{
@@ -34,6 +36,8 @@ const NO_TYPE: &str = "the schema has no such type";
 fn boolean(json: &Json<'_>) -> Parsed
     ensures of_type { IfOk result (IsOfLeaf kind.Bool) }
     ensures means { IfOk result (AtTop (MeansPlain (value_view json.now))) }
+    ensures refused { IfWrong result
+        (NoneOf (InRange (IsOfLeaf kind.Bool)) (AtTop (MeansPlain (value_view json.now)))) }
 {
     match json {
         Json::Bool(b) => Ok(Value::Bool(*b)),
@@ -45,6 +49,8 @@ fn boolean(json: &Json<'_>) -> Parsed
 fn character(json: &Json<'_>) -> Parsed
     ensures of_type { IfOk result (IsOfLeaf kind.Char) }
     ensures means { IfOk result (AtTop (MeansPlain (value_view json.now))) }
+    ensures refused { IfWrong result
+        (NoneOf (InRange (IsOfLeaf kind.Char)) (AtTop (MeansPlain (value_view json.now)))) }
 {
     match json {
         Json::String(text) => char_of(text),
@@ -56,6 +62,8 @@ fn character(json: &Json<'_>) -> Parsed
 fn char_of(text: &str) -> Parsed
     ensures of_type { IfOk result (IsOfLeaf kind.Char) }
     ensures means { IfOk result (AtTop (MeansPlain (string text.now))) }
+    ensures refused { IfWrong result
+        (NoneOf (InRange (IsOfLeaf kind.Char)) (AtTop (MeansPlain (string text.now)))) }
 {
     let mut characters = text.chars();
     match (characters.next(), characters.next()) {
@@ -68,6 +76,7 @@ fn char_of(text: &str) -> Parsed
 fn text_of(alloc: Global, held: &str) -> Parsed
     ensures of_type { IfOk result (IsOfLeaf kind.Text) }
     ensures means { IfOk result (AtTop (MeansPlain (string held.now))) }
+    ensures never_wrong { IfWrong result ⊥ }
 {
     Ok(Value::Text(String::from_str(alloc, held)?))
 }
@@ -75,6 +84,8 @@ fn text_of(alloc: Global, held: &str) -> Parsed
 fn text(alloc: Global, json: &Json<'_>) -> Parsed
     ensures of_type { IfOk result (IsOfLeaf kind.Text) }
     ensures means { IfOk result (AtTop (MeansPlain (value_view json.now))) }
+    ensures refused { IfWrong result
+        (NoneOf (InRange (IsOfLeaf kind.Text)) (AtTop (MeansPlain (value_view json.now)))) }
 {
     match json {
         Json::String(held) => text_of(alloc, held),
@@ -86,6 +97,8 @@ fn text(alloc: Global, json: &Json<'_>) -> Parsed
 fn text_up_to(alloc: Global, most: u64, held: &str) -> Parsed
     ensures of_type { IfOk result (IsOfLeaf (kind.TextUpTo most)) }
     ensures means { IfOk result (AtTop (MeansPlain (string held.now))) }
+    ensures refused { IfWrong result
+        (NoneOf (InRange (IsOfLeaf (kind.TextUpTo most))) (AtTop (MeansPlain (string held.now)))) }
 {
     if held.len() as u64 > most {
         return Err(refusal("the string is too long"));
@@ -97,6 +110,8 @@ fn text_up_to(alloc: Global, most: u64, held: &str) -> Parsed
 fn short_text(alloc: Global, most: u64, json: &Json<'_>) -> Parsed
     ensures of_type { IfOk result (IsOfLeaf (kind.TextUpTo most)) }
     ensures means { IfOk result (AtTop (MeansPlain (value_view json.now))) }
+    ensures refused { IfWrong result
+        (NoneOf (InRange (IsOfLeaf (kind.TextUpTo most))) (AtTop (MeansPlain (value_view json.now)))) }
 {
     match json {
         Json::String(held) => text_up_to(alloc, most, held),
@@ -106,7 +121,8 @@ fn short_text(alloc: Global, most: u64, json: &Json<'_>) -> Parsed
 
 /// A byte from a number.
 fn byte(json: &Json<'_>) -> Result<u8, ParseError>
-    ensures { IfOk result (MeansByte (value_view json.now)) }
+    ensures means { IfOk result (MeansByte (value_view json.now)) }
+    ensures refused { IfWrong result (NoneOf IsByte (MeansByte (value_view json.now))) }
 {
     match json {
         Json::Number(text) => match text.parse::<u8>() {
@@ -119,7 +135,8 @@ fn byte(json: &Json<'_>) -> Result<u8, ParseError>
 
 /// Bytes from an array of numbers.
 fn bytes_of_numbers(alloc: Global, elements: &[Json<'_>]) -> Result<Vec<u8>, ParseError>
-    ensures { IfOk result (λ v. MeansBytes (items_view elements.now) v.items) }
+    ensures means { IfOk result (λ v. MeansBytes (items_view elements.now) v.items) }
+    ensures refused { IfWrong result (NoneOf AreAllBytes (MeansBytes (items_view elements.now))) }
 {
     let mut bytes = Vec::new(alloc);
     for element in elements {
@@ -133,7 +150,8 @@ fn bytes_of_numbers(alloc: Global, elements: &[Json<'_>]) -> Result<Vec<u8>, Par
 
 /// Bytes from hexadecimal digits.
 fn bytes_of_digits(alloc: Global, digits: &str) -> Result<Vec<u8>, ParseError>
-    ensures { IfOk result (λ v. IsHex digits.now v.items) }
+    ensures means { IfOk result (λ v. IsHex digits.now v.items) }
+    ensures refused { IfWrong result (NoneOf AreAllBytes (IsHex digits.now)) }
 {
     match hex::decode(alloc, digits) {
         Ok(bytes) => Ok(bytes),
@@ -144,7 +162,8 @@ fn bytes_of_digits(alloc: Global, digits: &str) -> Result<Vec<u8>, ParseError>
 
 /// Bytes from an array of numbers or from hexadecimal digits.
 fn bytes_of(alloc: Global, json: &Json<'_>) -> Result<Vec<u8>, ParseError>
-    ensures { IfOk result (λ v. AreBytesOf (value_view json.now) v.items) }
+    ensures means { IfOk result (λ v. AreBytesOf (value_view json.now) v.items) }
+    ensures refused { IfWrong result (NoneOf AreAllBytes (AreBytesOf (value_view json.now))) }
 {
     match json {
         Json::Array(elements) => bytes_of_numbers(alloc, elements),
@@ -156,6 +175,8 @@ fn bytes_of(alloc: Global, json: &Json<'_>) -> Result<Vec<u8>, ParseError>
 fn bytes(alloc: Global, json: &Json<'_>) -> Parsed
     ensures of_type { IfOk result (IsOfLeaf kind.Bytes) }
     ensures means { IfOk result (AtTop (MeansPlain (value_view json.now))) }
+    ensures refused { IfWrong result
+        (NoneOf (InRange (IsOfLeaf kind.Bytes)) (AtTop (MeansPlain (value_view json.now)))) }
 {
     match bytes_of(alloc, json) {
         Ok(bytes) => Ok(Value::Bytes(bytes)),
@@ -167,6 +188,7 @@ fn bytes(alloc: Global, json: &Json<'_>) -> Parsed
 fn integer_of(of: IntegerType, text: &str) -> Option<Integer>
     ensures of_type { IfSome result (λ i. type_of i ≡ of) }
     ensures means { IfSome result (IsInteger text.now) }
+    ensures none { IfNone result (NoneOf (IsIntegerOf of) (IsInteger text.now)) }
 {
     match of {
         IntegerType::U16 => text.parse().ok().map(Integer::U16),
@@ -184,6 +206,8 @@ fn integer_of(of: IntegerType, text: &str) -> Option<Integer>
 fn number_of(node: &Node, text: &str) -> Option<Value>
     ensures of_type { IfSome result (IsOfLeaf node.now) }
     ensures means { IfSome result (AtTop (MeansNumber text.now)) }
+    ensures none { IfNone result
+        (NoneOf (InRange (IsOfLeaf node.now)) (AtTop (MeansNumber text.now))) }
 {
     match node {
         Node::U8 => text.parse().ok().map(Value::U8),
@@ -238,6 +262,9 @@ fn is_of_fraction(c: char) -> bool {
 fn number(node: &Node, json: &Json<'_>) -> Parsed
     ensures of_type { IfOk result (IsOfLeaf node.now) }
     ensures means { IfOk result (AtTop (MeansPlain (value_view json.now))) }
+    ensures refused { IfWrong result
+        (IsNumberNode node.now → NoneOf (InRange (IsOfLeaf node.now)) (AtTop
+        (MeansPlain (value_view json.now)))) }
 {
     let Json::Number(text) = json else {
         return Err(refusal("expected a number"));
@@ -255,6 +282,8 @@ fn number(node: &Node, json: &Json<'_>) -> Parsed
 fn float(of: IntegerType, json: &Json<'_>) -> Parsed
     ensures of_type { IfOk result (IsOfLeaf (kind.LE of)) }
     ensures means { IfOk result (AtTop (MeansFloat (value_view json.now))) }
+    ensures refused { IfWrong result
+        (NoneOf (InRange (IsOfLeaf (kind.LE of))) (AtTop (MeansFloat (value_view json.now)))) }
 {
     let bits = match json {
         Json::Number(text) => float_of_number(of, text),
@@ -271,8 +300,10 @@ fn float(of: IntegerType, json: &Json<'_>) -> Parsed
 
 /// The only member of an object.
 fn only_member<'a, 'b>(json: &'b Json<'a>) -> Option<(&'a str, &'b Json<'a>)>
-    ensures { IfSome result
+    ensures some { IfSome result
         (λ m. value_view json.now ≡ object (member m.0.now (value_view m.1.now) no_members)) }
+    ensures none { IfNone result
+        ((s : List ℕ) (j : Tree) → value_view json.now ≢ object (member s j no_members)) }
 {
     let Json::Object(members) = json else {
         return None;
@@ -289,8 +320,10 @@ fn present<'a, 'b>(
     place: usize,
     json: &'b Json<'a>,
 ) -> Result<&'b Json<'a>, ParseError>
-    ensures { IfOk result
+    ensures present { IfOk result
         (λ held. IsPresent schema.now place (value_view held.now) (value_view json.now)) }
+    ensures refused { IfWrong result
+        ((j : Tree) → IsPresent schema.now place j (value_view json.now) → ⊥) }
 {
     if !may_be_null(schema, place) {
         return Ok(json);
@@ -309,6 +342,10 @@ fn option(alloc: Global, schema: &Schema, place: usize, depth: u32, json: &Json<
     ensures means { IfOk result
         (AtTop (MeansOption schema.now place (MeansValue schema.now depth place) (value_view
         json.now))) }
+    ensures refused { IfWrong result
+        (NoneOf (InRange (IsOfNode depth schema.now.nodes.items (kind.Option place))) (AtTop
+        (MeansOption schema.now place (MeansValue schema.now depth place) (value_view
+        json.now)))) }
 {
     if json.is_null() {
         return Ok(Value::Absent);
@@ -330,6 +367,9 @@ fn items(
     ensures of_type { IfOk result (λ v. AreOfType depth schema.now.nodes.items place v.items) }
     ensures means { IfOk result
         (λ v. MeansItems (MeansValue schema.now depth place) (items_view elements.now) v.items) }
+    ensures refused { IfWrong result
+        (NoneOf (EachHas (Fits schema.now depth place)) (MeansItems (MeansValue schema.now depth
+        place) (items_view elements.now))) }
 {
     let mut items = Vec::new(alloc);
     for element in elements {
@@ -345,6 +385,7 @@ fn items(
 fn byte_values(alloc: Global, bytes: &[u8]) -> Result<Vec<Value>, ParseError>
     ensures of_type { IfOk result (λ v. EachHas (IsOfLeaf kind.U8) v.items) }
     ensures means { IfOk result (λ v. AreBytes bytes.now v.items) }
+    ensures never_wrong { IfWrong result ⊥ }
 {
     let mut items = Vec::new(alloc);
     for byte in bytes {
@@ -353,29 +394,64 @@ fn byte_values(alloc: Global, bytes: &[u8]) -> Result<Vec<Value>, ParseError>
     Ok(items)
 }
 
+/// Bytes as values, from hexadecimal digits.
+fn byte_values_of_digits(
+    alloc: Global,
+    schema: &Schema,
+    place: usize,
+    depth: u32,
+    digits: &str,
+) -> Result<Vec<Value>, ParseError>
+    ensures of_type { is_byte_node (node_at schema.now place) ≡ true
+        → IfOk result (λ v. AreOfType depth schema.now.nodes.items place v.items) }
+    ensures means { IfOk result
+        (λ v. (bs : List ℕ) × IsHex digits.now bs × AreBytes bs v.items) }
+    ensures refused { IfWrong result
+        (NoneOf (EachHas (Fits schema.now depth place))
+        (λ vs. (bs : List ℕ) × IsHex digits.now bs × AreBytes bs vs)) }
+{
+    if depth == 0 && !digits.is_empty() {
+        return Err(refusal(TOO_DEEP));
+    }
+    let bytes = bytes_of_digits(alloc, digits)?;
+    byte_values(alloc, &bytes)
+}
+
+/// What the JSON of a list has to be, for the error.
+fn no_list(schema: &Schema, names: &Names, place: usize) -> &'static str {
+    match names {
+        Names::Map => "expected an object or an array of pairs",
+        _ if is_byte(schema, place) => {
+            "expected an array of bytes or a string of hexadecimal digits"
+        }
+        _ => "expected an array",
+    }
+}
+
 /// Values of one type: from an array, or from hexadecimal digits if the type is `u8`.
 #[cycle(parse)]
 fn elements(
     alloc: Global,
     schema: &Schema,
+    names: &Names,
     place: usize,
     depth: u32,
     json: &Json<'_>,
 ) -> Result<Vec<Value>, ParseError>
     ensures of_type { IfOk result (λ v. AreOfType depth schema.now.nodes.items place v.items) }
     ensures means { IfOk result
-        (λ v. MeansElements (MeansValue schema.now depth place) (value_view json.now) v.items) }
+        (λ v. MeansElements (node_at schema.now place) (MeansValue schema.now depth place)
+        (value_view json.now) v.items) }
+    ensures refused { IfWrong result
+        (NoneOf (EachHas (Fits schema.now depth place)) (MeansElements (node_at schema.now place)
+        (MeansValue schema.now depth place) (value_view json.now))) }
 {
     match json {
         Json::Array(elements) => items(alloc, schema, place, depth, elements),
-        Json::String(digits) if depth > 0 && is_byte(schema, place) => {
-            let bytes = bytes_of_digits(alloc, digits)?;
-            byte_values(alloc, &bytes)
+        Json::String(digits) if is_byte(schema, place) => {
+            byte_values_of_digits(alloc, schema, place, depth, digits)
         }
-        _ if is_byte(schema, place) => {
-            Err(refusal("expected an array of bytes or a string of hexadecimal digits"))
-        }
-        _ => Err(refusal("expected an array")),
+        _ => Err(refusal(no_list(schema, names, place))),
     }
 }
 
@@ -383,6 +459,8 @@ fn elements(
 fn truth_of(key: &str) -> Parsed
     ensures of_type { IfOk result (IsOfLeaf kind.Bool) }
     ensures means { IfOk result (AtTop (KeyMeansPlain key.now)) }
+    ensures refused { IfWrong result
+        (NoneOf (InRange (IsOfLeaf kind.Bool)) (AtTop (KeyMeansPlain key.now))) }
 {
     match key {
         "true" => Ok(Value::Bool(true)),
@@ -395,6 +473,8 @@ fn truth_of(key: &str) -> Parsed
 fn number_key(node: &Node, key: &str) -> Parsed
     ensures of_type { IfOk result (IsOfLeaf node.now) }
     ensures means { IfOk result (AtTop (MeansNumber key.now)) }
+    ensures refused { IfWrong result
+        (NoneOf (InRange (IsOfLeaf node.now)) (AtTop (MeansNumber key.now))) }
 {
     match number_of(node, key) {
         Some(value) => Ok(value),
@@ -406,6 +486,8 @@ fn number_key(node: &Node, key: &str) -> Parsed
 fn plain_key(alloc: Global, node: &Node, key: &str) -> Parsed
     ensures of_type { IfOk result (IsOfLeaf node.now) }
     ensures means { IfOk result (AtTop (KeyMeansPlain key.now)) }
+    ensures refused { IfWrong result
+        (NoneOf (InRange (IsOfLeaf node.now)) (AtTop (KeyMeansPlain key.now))) }
 {
     match node {
         Node::Bool => truth_of(key),
@@ -416,8 +498,23 @@ fn plain_key(alloc: Global, node: &Node, key: &str) -> Parsed
     }
 }
 
+/// A struct without fields.
+fn no_fields(alloc: Global, schema: &Schema, place: usize, depth: u32) -> Parsed
+    ensures of_type { IfOk result (IsOfType depth schema.now.nodes.items place) }
+    ensures none { IfOk result (λ v. HasNoFields (node_at schema.now place)) }
+    ensures refused { IfWrong result
+        (NoneOf (Fits schema.now depth place) (λ v. HasNoFields (node_at schema.now place))) }
+{
+    if depth == 0 {
+        return Err(refusal(TOO_DEEP));
+    }
+    match node_of(schema, place) {
+        Some(Node::Struct(fields)) if fields.is_empty() => Ok(Value::Group(Vec::new(alloc))),
+        _ => Err(refusal(NO_TYPE)),
+    }
+}
+
 /// A variant without fields from a key.
-#[cycle(parse)]
 fn variant_key(
     alloc: Global,
     schema: &Schema,
@@ -427,7 +524,11 @@ fn variant_key(
     key: &str,
 ) -> Parsed
     ensures of_type { IfOk result (IsOfEnum depth schema.now.nodes.items payloads.now) }
-    ensures means { IfOk result (AtTop (IsNamed (Some names.now) key.now)) }
+    ensures means { IfOk result
+        (AtTop (IsNamed schema.now (Some names.now) payloads.now key.now)) }
+    ensures refused { IfWrong result
+        (NoneOf (InRange (IsOfEnum depth schema.now.nodes.items payloads.now)) (AtTop
+        (IsNamed schema.now (Some names.now) payloads.now key.now))) }
 {
     let Some(index) = index_of(names, key) else {
         return Err(refusal("the type has no such variant"));
@@ -435,15 +536,16 @@ fn variant_key(
     if index as usize >= payloads.len() {
         return Err(refusal(NO_TYPE));
     }
-    let held = value(alloc, schema, payloads[index as usize], depth, &Json::Null)?;
+    let held = no_fields(alloc, schema, payloads[index as usize], depth)?;
     Ok(Value::Variant(index, Box::new(alloc, held)?))
 }
 
 /// The key of a map from a member's name.
-#[cycle(parse)]
 fn key_of(alloc: Global, schema: &Schema, place: usize, depth: u32, key: &str) -> Parsed
     ensures of_type { IfOk result (IsOfType depth schema.now.nodes.items place) }
     ensures means { IfOk result (KeyMeans schema.now depth place key.now) }
+    ensures refused { IfWrong result
+        (NoneOf (Fits schema.now depth place) (KeyMeans schema.now depth place key.now)) }
 {
     if depth == 0 {
         return Err(refusal(TOO_DEEP));
@@ -466,7 +568,8 @@ fn key_of(alloc: Global, schema: &Schema, place: usize, depth: u32, key: &str) -
 
 /// A struct of one field.
 fn one_part(alloc: Global, held: Value) -> Parsed
-    ensures { IfOk result (IsGroupOf (held ∷ [])) }
+    ensures group { IfOk result (IsGroupOf (held ∷ [])) }
+    ensures never_wrong { IfWrong result ⊥ }
 {
     let mut parts = Vec::new(alloc);
     parts.push(held)?;
@@ -475,7 +578,8 @@ fn one_part(alloc: Global, held: Value) -> Parsed
 
 /// A pair.
 fn two_parts(alloc: Global, first: Value, second: Value) -> Parsed
-    ensures { IfOk result (IsGroupOf (first ∷ second ∷ [])) }
+    ensures group { IfOk result (IsGroupOf (first ∷ second ∷ [])) }
+    ensures never_wrong { IfWrong result ⊥ }
 {
     let mut parts = Vec::new(alloc);
     parts.push(first)?;
@@ -495,6 +599,9 @@ fn member(
 ) -> Parsed
     ensures of_type { IfOk result (IsOfType depth schema.now.nodes.items place) }
     ensures means { IfOk result (MeansMember schema.now depth place key.now (value_view json.now)) }
+    ensures refused { IfWrong result
+        (NoneOf (Fits schema.now depth place) (MeansMember schema.now depth place key.now
+        (value_view json.now))) }
 {
     if depth == 0 {
         return Err(refusal(TOO_DEEP));
@@ -520,6 +627,9 @@ fn pairs(
     ensures means { IfOk result
         (λ v. MeansMembers (MeansMember schema.now depth place) (members_view members.now)
         v.items) }
+    ensures refused { IfWrong result
+        (NoneOf (EachHas (Fits schema.now depth place)) (MeansMembers (MeansMember schema.now depth
+        place) (members_view members.now))) }
 {
     let mut items = Vec::new(alloc);
     for (key, json) in members {
@@ -542,23 +652,28 @@ fn list(
     json: &Json<'_>,
 ) -> Result<Vec<Value>, ParseError>
     ensures of_type { IfOk result (λ v. AreOfType depth schema.now.nodes.items place v.items) }
-    ensures means { IfOk result
-        (λ v. MeansList (MeansValue schema.now depth place) (MeansMember schema.now depth place)
-        (value_view json.now) v.items) }
+    ensures means { IfOk result (λ v. MeansList (is_map_named (Some names.now)
+        && first_is_key schema.now (pair_node (node_at schema.now place)))
+        (node_at schema.now place) (MeansValue schema.now depth place) (MeansMember schema.now depth
+        place) (value_view json.now) v.items) }
+    ensures refused { IfWrong result (NoneOf (EachHas (Fits schema.now depth place))
+        (MeansList (is_map_named (Some names.now)
+        && first_is_key schema.now (pair_node (node_at schema.now place)))
+        (node_at schema.now place) (MeansValue schema.now depth place) (MeansMember schema.now depth
+        place) (value_view json.now))) }
 {
     match (names, json) {
         (Names::Map, Json::Object(members)) if has_text_keys(schema, place) => {
             pairs(alloc, schema, place, depth, members)
         }
-        (Names::Map, Json::Array(elements)) => items(alloc, schema, place, depth, elements),
-        (Names::Map, _) => Err(refusal("expected an object or an array of pairs")),
-        _ => elements(alloc, schema, place, depth, json),
+        _ => elements(alloc, schema, names, place, depth, json),
     }
 }
 
 /// A list of at most `most` elements.
 fn list_up_to(most: u64, items: Vec<Value>) -> Parsed
-    ensures { IfOk result (λ v. (v ≡ Listed items) × (length items.items ≤ most)) }
+    ensures short { IfOk result (λ v. (v ≡ Listed items) × (length items.items ≤ most)) }
+    ensures refused { IfWrong result (most < length items.items) }
 {
     if items.len() as u64 > most {
         return Err(refusal("the list has more elements than the type allows"));
@@ -568,7 +683,8 @@ fn list_up_to(most: u64, items: Vec<Value>) -> Parsed
 
 /// An array of `count` elements.
 fn array(count: u64, items: Vec<Value>) -> Parsed
-    ensures { IfOk result (λ v. (v ≡ Group items) × (length items.items ≡ count)) }
+    ensures counted { IfOk result (λ v. (v ≡ Group items) × (length items.items ≡ count)) }
+    ensures refused { IfWrong result (length items.items ≢ count) }
 {
     if items.len() as u64 != count {
         return Err(refusal("the array has another length than the type's"));
@@ -578,8 +694,9 @@ fn array(count: u64, items: Vec<Value>) -> Parsed
 
 /// The JSON of field `i`.
 fn part<'a, 'b>(names: &Names, i: usize, json: &'b Json<'a>) -> Result<&'b Json<'a>, &'static str>
-    ensures { IfOk result
+    ensures held { IfOk result
         (λ held. field_json names.now i (value_view json.now) ≡ Some (value_view held.now)) }
+    ensures refused { IfErr result (λ why. field_json names.now i (value_view json.now) ≡ None) }
 {
     match names {
         Names::Newtype => Ok(json),
@@ -593,7 +710,11 @@ fn part<'a, 'b>(names: &Names, i: usize, json: &'b Json<'a>) -> Result<&'b Json<
 }
 
 /// Why this isn't the JSON of a struct of `count` fields, whatever these are.
-fn misfit(names: &Names, count: usize, json: &Json<'_>) -> Option<&'static str> {
+fn misfit(names: &Names, count: usize, json: &Json<'_>) -> Option<&'static str>
+    ensures fits { IfNone result (HasShape names.now count (value_view json.now)) }
+    ensures misfits { IfSome result
+        (λ why. HasShape names.now count (value_view json.now) → ⊥) }
+{
     match (names, json) {
         (Names::Newtype, _) => None,
         (Names::Unit | Names::Empty, Json::Null) => None,
@@ -618,7 +739,9 @@ fn field_name(names: &Names, i: usize) -> &str {
 }
 
 /// An error with the field where it is.
-fn inside_field(alloc: Global, names: &Names, i: usize, error: ParseError) -> ParseError {
+fn inside_field(alloc: Global, names: &Names, i: usize, error: ParseError) -> ParseError
+    ensures { IsWrong result → IsWrong error }
+{
     match names {
         Names::Newtype => error,
         Names::Tuple => inside_element(alloc, i, error),
@@ -627,7 +750,10 @@ fn inside_field(alloc: Global, names: &Names, i: usize, error: ParseError) -> Pa
 }
 
 /// Whether `wanted` is one of these names.
-fn has_name(names: &[String], wanted: &str) -> bool {
+fn has_name(names: &[String], wanted: &str) -> bool
+    ensures found { result ≡ true → IsOneOf wanted.now names.now }
+    ensures absent { result ≡ false → IsOneOf wanted.now names.now → ⊥ }
+{
     for name in names {
         if name.as_str() == wanted {
             return true;
@@ -637,7 +763,10 @@ fn has_name(names: &[String], wanted: &str) -> bool {
 }
 
 /// Whether a member has this name.
-fn has_member(members: &[(&str, Json<'_>)], wanted: &str) -> bool {
+fn has_member(members: &[(&str, Json<'_>)], wanted: &str) -> bool
+    ensures found { result ≡ true → HasMember wanted.now (members_view members.now) }
+    ensures absent { result ≡ false → HasMember wanted.now (members_view members.now) → ⊥ }
+{
     for (name, _) in members {
         if *name == wanted {
             return true;
@@ -647,7 +776,10 @@ fn has_member(members: &[(&str, Json<'_>)], wanted: &str) -> bool {
 }
 
 /// The first name that appears twice.
-fn doubled<'a>(members: &[(&'a str, Json<'a>)]) -> Option<&'a str> {
+fn doubled<'a>(members: &[(&'a str, Json<'a>)]) -> Option<&'a str>
+    ensures some { IfSome result (λ s. AreNamedOnce (members_view members.now) → ⊥) }
+    ensures none { IfNone result (AreNamedOnce (members_view members.now)) }
+{
     let mut rest = members;
     for _ in 0..members.len() {
         let [(name, _), behind @ ..] = rest else {
@@ -662,7 +794,10 @@ fn doubled<'a>(members: &[(&'a str, Json<'a>)]) -> Option<&'a str> {
 }
 
 /// Refuses a member that is none of the fields, or that appears twice.
-fn check_members(alloc: Global, names: &Names, json: &Json<'_>) -> Result<(), ParseError> {
+fn check_members(alloc: Global, names: &Names, json: &Json<'_>) -> Result<(), ParseError>
+    ensures known { OnOk result (HasOnlyFields names.now (value_view json.now)) }
+    ensures refused { IfWrong result (HasOnlyFields names.now (value_view json.now) → ⊥) }
+{
     let (Names::Fields(names), Json::Object(members)) = (names, json) else {
         return Ok(());
     };
@@ -694,6 +829,10 @@ fn group(
     ensures means { IfOk result
         (AtTop (OfGroup (MeansStruct (Some names.now) fields.now (MeansValue schema.now depth)
         (value_view json.now)))) }
+    ensures refused { IfWrong result
+        (NoneOf (InRange (IsOfStruct depth schema.now.nodes.items fields.now)) (AtTop (OfGroup
+        (MeansStruct (Some names.now) fields.now (MeansValue schema.now depth) (value_view
+        json.now))))) }
 {
     if let Some(why) = misfit(names, fields.len(), json) {
         return Err(refusal(why));
@@ -723,6 +862,9 @@ fn field(
     ensures of_type { IfOk result (IsOfType depth schema.now.nodes.items place) }
     ensures means { IfOk result
         (MeansField names.now (value_view json.now) (MeansValue schema.now depth place) i) }
+    ensures refused { IfWrong result
+        (NoneOf (Fits schema.now depth place) (MeansField names.now (value_view json.now)
+        (MeansValue schema.now depth place) i)) }
 {
     match part(names, i, json) {
         Ok(held) => value(alloc, schema, place, depth, held),
@@ -732,7 +874,9 @@ fn field(
 
 /// The name of a variant, and the JSON of its payload, if there is any.
 fn choice<'a, 'b>(json: &'b Json<'a>) -> Option<(&'a str, Option<&'b Json<'a>>)>
-    ensures { IfSome result (λ c. chosen (value_view json.now) ≡ Some (c.0.now, held_json c.1)) }
+    ensures some { IfSome result
+        (λ c. chosen (value_view json.now) ≡ Some (c.0.now, held_json c.1)) }
+    ensures none { IfNone result (chosen (value_view json.now) ≡ None) }
 {
     if let Json::String(name) = json {
         return Some((name, None));
@@ -745,7 +889,9 @@ fn choice<'a, 'b>(json: &'b Json<'a>) -> Option<(&'a str, Option<&'b Json<'a>>)>
 
 /// The index of the variant with this name.
 fn index_of(names: &Names, wanted: &str) -> Option<u32>
-    ensures { IfSome result (λ n. variant_named (Some names.now) n ≡ Some wanted.now) }
+    ensures some { IfSome result (IsIndexOf (Some names.now) wanted.now) }
+    ensures none { IfNone result
+        ((n : ℕ) → n < 2 ^ 32 → variant_named (Some names.now) n ≢ Some wanted.now) }
 {
     let Names::Variants(names) = names else {
         return None;
@@ -771,8 +917,12 @@ fn variant(
 ) -> Parsed
     ensures of_type { IfOk result (IsOfEnum depth schema.now.nodes.items payloads.now) }
     ensures means { IfOk result
-        (AtTop (MeansEnum (Some names.now) payloads.now (MeansValue schema.now depth) (chosen
-        (value_view json.now)))) }
+        (AtTop (MeansEnum schema.now (Some names.now) payloads.now (MeansValue schema.now depth)
+        (chosen (value_view json.now)))) }
+    ensures refused { IfWrong result
+        (NoneOf (InRange (IsOfEnum depth schema.now.nodes.items payloads.now)) (AtTop
+        (MeansEnum schema.now (Some names.now) payloads.now (MeansValue schema.now depth) (chosen
+        (value_view json.now))))) }
 {
     let Some((name, held)) = choice(json) else {
         return Err(refusal("expected a variant"));
@@ -799,7 +949,11 @@ fn payload(
     held: Option<&Json<'_>>,
 ) -> Parsed
     ensures of_type { IfOk result (IsOfType depth schema.now.nodes.items place) }
-    ensures means { IfOk result (MeansValue schema.now depth place (held_json held.entry)) }
+    ensures means { IfOk result
+        (MeansHolding schema.now (MeansValue schema.now depth) place (held_json held.entry)) }
+    ensures refused { IfWrong result
+        (NoneOf (Fits schema.now depth place) (MeansHolding schema.now (MeansValue schema.now depth)
+        place (held_json held.entry))) }
 {
     let is_empty = is_empty(schema, place);
     match held {
@@ -826,6 +980,10 @@ fn of_node(
     ensures means { IfOk result
         (AtTop (MeansNode schema.now (Some names.now) (Means schema.now depth) (Some node.now)
         (value_view json.now))) }
+    ensures refused { IfWrong result
+        (NoneOf (InRange (IsOfNode depth schema.now.nodes.items node.now)) (AtTop
+        (MeansNode schema.now (Some names.now) (Means schema.now depth) (Some node.now) (value_view
+        json.now)))) }
 {
     match node {
         Node::Bool => boolean(json),
@@ -839,7 +997,7 @@ fn of_node(
             list_up_to(*most, list(alloc, schema, names, *inner, depth, json)?)
         }
         Node::Array(count, inner) => {
-            array(*count, elements(alloc, schema, *inner, depth, json)?)
+            array(*count, elements(alloc, schema, names, *inner, depth, json)?)
         }
         Node::Struct(fields) => group(alloc, schema, names, fields, depth, json),
         Node::Enum(payloads) => variant(alloc, schema, names, payloads, depth, json),
@@ -853,6 +1011,9 @@ fn of_node(
 fn value(alloc: Global, schema: &Schema, place: usize, depth: u32, json: &Json<'_>) -> Parsed
     ensures of_type { IfOk result (IsOfType depth schema.now.nodes.items place) }
     ensures means { IfOk result (MeansValue schema.now depth place (value_view json.now)) }
+    ensures refused { IfWrong result
+        (NoneOf (Fits schema.now depth place) (MeansValue schema.now depth place (value_view
+        json.now))) }
 {
     if depth == 0 {
         return Err(refusal(TOO_DEEP));
@@ -868,9 +1029,11 @@ fn value(alloc: Global, schema: &Schema, place: usize, depth: u32, json: &Json<'
 
 /// The value of an object whose only member is `value`.
 fn value_in<'a, 'b>(json: &'b Json<'a>) -> Option<&'b Json<'a>>
-    ensures { IfSome result
+    ensures some { IfSome result
         (λ held. value_view json.now ≡ object (member (codes "value") (value_view held.now)
         no_members)) }
+    ensures none { IfNone result
+        ((j : Tree) → value_view json.now ≢ object (member (codes "value") j no_members)) }
 {
     match only_member(json) {
         Some((name, held)) if name == "value" => Some(held),
@@ -887,8 +1050,10 @@ fn value_of_line(
     json: &Json<'_>,
 ) -> Parsed
     ensures of_type { IfOk result (IsOfType depth schema.now.nodes.items place) }
-    ensures means { IfOk result
-        (MeansLine (MeansValue schema.now depth place) (value_view json.now)) }
+    ensures means { IfOk result (MeansLine schema.now depth place (value_view json.now)) }
+    ensures refused { IfWrong result
+        (NoneOf (Fits schema.now depth place) (MeansLine schema.now depth place (value_view
+        json.now))) }
 {
     let Some(held) = value_in(json) else {
         return value(alloc, schema, place, depth, json);
@@ -915,9 +1080,13 @@ fn json_of<'a>(
     depth: u32,
     reader: &mut Reader<'a>,
 ) -> Result<Option<Json<'a>>, ParseError>
-    ensures { IfOk result
+    ensures some { IfOk result
         (λ o. IfSome o
         (λ json. json_value (2 * depth + 2) reader.old ≡ Some (value_view json, []))) }
+    ensures none { IfOk result
+        (λ o. IfNone o
+        ((j : Tree) → json_value (2 * depth + 2) reader.old ≢ Some (j, []))) }
+    ensures never_wrong { IfWrong result ⊥ }
 {
     match Json::read(alloc, reader, json_depth(depth)) {
         Ok(json) if reader.next().is_none() => Ok(Some(json)),
@@ -959,6 +1128,8 @@ fn no_json(alloc: Global, depth: u32, text: &str, offset: usize) -> ParseError {
 fn value_of_text(alloc: Global, schema: &Schema, place: usize, depth: u32, text: &str) -> Parsed
     ensures of_type { IfOk result (IsOfType depth schema.now.nodes.items place) }
     ensures means { IfOk result (MeansText schema.now depth place text.now) }
+    ensures refused { IfWrong result
+        (NoneOf (Fits schema.now depth place) (MeansText schema.now depth place text.now)) }
 {
     let mut scratch = Scratch::new(alloc);
     let mut reader = Reader::new(text, &mut scratch)?;
@@ -977,11 +1148,13 @@ fn value_of_text(alloc: Global, schema: &Schema, place: usize, depth: u32, text:
 ///
 /// # Errors
 /// - `Wrong`: the line isn't UTF-8 or JSON, or isn't of the type, such as a number out of range, an unknown, repeated or missing
-///   field, or another number of elements. It has the path to the fault.
+///   field, or another number of elements; no value of the type is meant then (`refused`). It has the path to the fault.
 /// - `OutOfMemory`.
 pub fn parse(alloc: Global, schema: &Schema, place: usize, depth: u32, line: &[u8]) -> Parsed
     ensures of_type { IfOk result (IsOfType depth schema.now.nodes.items place) }
     ensures means { IfOk result (MeansText schema.now depth place line.now) }
+    ensures refused { IfWrong result
+        (NoneOf (Fits schema.now depth place) (MeansText schema.now depth place line.now)) }
 {
     let Ok(text) = from_utf8(line) else {
         return Err(refusal("the line isn't UTF-8"));

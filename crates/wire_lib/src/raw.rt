@@ -3,6 +3,8 @@ ghost use Rattle.std.specs.Prelude.{◌≡◌, true, IfOk, OnOk};
 ghost use Rattle.postcard_de.specs.Answer.{ReadsFront};
 ghost use Rattle.wire_lib.specs.Received.{read_by};
 ghost use Rattle.wire_lib.specs.Raw.{ShowsWhole, IsMessageToSend};
+ghost use Rattle.wire_lib.specs.Refused.{IfWrong};
+ghost use Rattle.wire_lib.specs.Sent.{MeansNothing};
 
 use crate::parse::parse;
 use crate::receive::{Reading, put_stretch_line, put_value_line};
@@ -120,7 +122,8 @@ pub fn put_message(
 /// # Errors
 /// Those of [`parse`](crate::parse::parse).
 pub fn message_of(sending: Sending<'_>, line: &[u8]) -> Result<Vec<u8>, ParseError>
-    ensures { IfOk result (λ message. IsMessageToSend sending.entry line.now message.items) }
+    ensures sent { IfOk result (λ message. IsMessageToSend sending.entry line.now message.items) }
+    ensures refused { IfWrong result (MeansNothing sending.entry line.now) }
 {
     let Sending {
         alloc,

@@ -1,6 +1,7 @@
 //! Lines of JSON as a stream of frames.
 ghost use Rattle.std.specs.Prelude.{◌≡◌, ℕ, ◌<◌, ◌≤◌, ◌&&◌, false, List, [], ◌∷◌, ◌++◌, length, take, string_bytes, IfOk, OnOk};
-ghost use Rattle.wire_lib.specs.Sent.{IsFrameToSend, LineMade, refusal_text, IsTextMade, IsLineMade, IsLineWith, AreLinesMade, last_line, is_framed, are_all_framed, number_behind, sending_of, begun_line, HasMade, AppendedApart};
+ghost use Rattle.wire_lib.specs.Refused.{IfWrong};
+ghost use Rattle.wire_lib.specs.Sent.{IsFrameToSend, IsUnsendable, LineMade, refusal_text, IsTextMade, IsLineMade, IsLineWith, AreLinesMade, last_line, is_framed, are_all_framed, number_behind, sending_of, begun_line, HasMade, AppendedApart};
 
 use crate::raw::message_of;
 use crate::receive::LIMIT;
@@ -41,7 +42,8 @@ fn append(to: &mut Vec<u8>, bytes: &[u8]) -> Sent
 /// # Errors
 /// Those of [`parse`](crate::parse::parse); `Wrong` too if the frame has more than [`LIMIT`] bytes.
 pub fn frame_of(sending: Sending<'_>, line: &[u8]) -> Result<Vec<u8>, ParseError>
-    ensures { IfOk result (λ frame. IsFrameToSend sending.entry line.now frame.items) }
+    ensures sent { IfOk result (λ frame. IsFrameToSend sending.entry line.now frame.items) }
+    ensures refused { IfWrong result (IsUnsendable sending.entry line.now) }
 {
     let message = message_of(sending, line)?;
     let Sending {

@@ -1,6 +1,8 @@
 //! What is wrong with a line, and the path to it.
 ghost use Rattle.std.specs.Prelude.{◌≡◌, ℕ, List, ◌++◌, string_bytes, OnOk};
+ghost use Rattle.wire_lib.specs.Refused.{IsWrong};
 ghost use Rattle.wire_lib.specs.Sent.{refusal_text};
+ghost use Rattle.wire_lib.specs.declared.wrong.ParseError.TheVariants.{OutOfMemory};
 
 use std::alloc::{AllocError, AllocFailed, Global};
 use std::fmt::Write;
@@ -24,12 +26,16 @@ pub enum ParseError {
 }
 
 impl From<AllocError> for ParseError {
+    ghost from_gives = { λ _ e. e ≡ OutOfMemory };
+
     fn from(_: AllocError) -> ParseError {
         ParseError::OutOfMemory
     }
 }
 
 impl<T: Drop> From<AllocFailed<T>> for ParseError {
+    ghost from_gives = { λ _ e. e ≡ OutOfMemory };
+
     fn from(_: AllocFailed<T>) -> ParseError {
         ParseError::OutOfMemory
     }
@@ -68,7 +74,9 @@ fn joined(alloc: Global, name: &str, path: &Option<String>) -> Result<String, Al
 
 // The path is made on the way out, so a line without a fault costs nothing.
 /// Returns the error with the name of the part in which it is put before its path.
-pub fn inside(alloc: Global, name: &str, error: ParseError) -> ParseError {
+pub fn inside(alloc: Global, name: &str, error: ParseError) -> ParseError
+    ensures { IsWrong result → IsWrong error }
+{
     let ParseError::Wrong(Wrong { path, why }) = error else {
         return ParseError::OutOfMemory;
     };
@@ -82,7 +90,9 @@ pub fn inside(alloc: Global, name: &str, error: ParseError) -> ParseError {
 }
 
 /// Returns the error with the index of the element in which it is put before its path.
-pub fn inside_element(alloc: Global, index: usize, error: ParseError) -> ParseError {
+pub fn inside_element(alloc: Global, index: usize, error: ParseError) -> ParseError
+    ensures { IsWrong result → IsWrong error }
+{
     match format!(in alloc; "[{index}]") {
         Ok(name) => inside(alloc, name.as_str(), error),
         Err(_) => ParseError::OutOfMemory,

@@ -1,23 +1,23 @@
-use Rattle.std.proofs.Common.{◌≡◌, ◌+◌, ◌-◌, ◌++◌, ◌∷◌, [], Some, None, ap, sym, subst, arith, rules, drop, get_or}
+use Rattle.std.proofs.Common.{◌≡◌, ◌≢◌, ◌&&◌, true, false, ◌+◌, ◌-◌, ◌++◌, ◌∷◌, [], Some, None, ap, refl, sym, ◌∙◌, subst, arith, rules, drop, get_or, length}
 use Rattle.std.specs.List.{slice_get}
 use Rattle.std.proofs.Math.ListN.{drop_of_length-le}
 use Rattle.std.proofs.lemmas.Grind.{common_steps}
 use Rattle.std.proofs.lemmas.List.{drop_more}
-use Rattle.json.specs.Json.{no_items, no_members}
+use Rattle.json.specs.Json.{array, no_items, no_members, null, object}
+use Rattle.json.specs.declared.value.Value.{the_lemmas}
 use Rattle.json.specs.Value.{items_view, members_view, value_view}
 use Rattle.schema_table.specs.declared.node.Node.TheVariants as node
-use Rattle.schemas.specs.declared.value.Value.{out-Value}
-use Rattle.schemas.specs.Schemas.{FieldsHave}
-use Rattle.wire_lib.specs.Looks.{inside_of, names_at, node_at, pair_node}
-use Rattle.wire_lib.specs.Meant.{Means, MeansFields, MeansItems, MeansMembers, held_json}
+use Rattle.schemas.specs.Schemas.{EachHas, FieldsHave}
+use Rattle.wire_lib.specs.Looks.{first_is_key, is_float_named, is_map_named, names_at, node_at, pair_node}
+use Rattle.wire_lib.specs.Meant.{HasOnlyFields, HasShape, IsPresent, KeyMeans, Means, MeansElements, MeansField, MeansFields, MeansItems, MeansList, MeansMember, MeansMembers, MeansStruct, MeansValue, held_json}
 use Rattle.wire_lib.specs.Parsed.{IsOfNode, IsOfType}
-use Rattle.wire_lib.proofs.ParsedLemmas.{at_place, ok_as, leaf_ok, byte_node, each_byte, so_more, so_all, of_struct, of_list, of_list_up_to, of_array, of_variant, of_newtype, of_pair, FieldsFrom, struct_means, key_inside, key_at_node, plain_node_key, member_means, list_means, means_at, variant_means}
+use Rattle.wire_lib.specs.InRange.{Fits}
+use Rattle.wire_lib.specs.Refused.{IfWrong, IsNumberNode, NoneOf}
+use Rattle.wire_lib.proofs.NumberRefusals.{number_node}
+use Rattle.wire_lib.proofs.RefusedLemmas.{array_none, both_hold, field_none, item_none, list_none, list_up_to_none, long_none, map_means, map_none, member_none, no_held, no_key, no_float, no_pair, none_at, none_deep, none_named, none_place, number_node_none, option_none, other_length_none, payload_none, struct_none, wrong_as}
+use Rattle.wire_lib.proofs.ParsedLemmas.{at_place, ok_as, leaf_ok, so_more, so_all, of_struct, of_list, of_list_up_to, of_array, of_variant, of_pair, FieldsFrom, struct_means, member_means, list_means, means_at, variant_means}
+use Rattle.wire_lib.proofs.parse.+parse.Goals.{of_node-in_default-via-in-LE+else-matches, of_node-in-Float, of_node-in_default-matches, of_node-in_default-via-in_default}
 use Rattle.wire_lib.proofs.parse.+parse.Goals as goal
-
-pub elements-returns-in_ok-bytes-in-String-clause-of_type : goal.elements-returns-in_ok-bytes-in-String-clause-of_type
-elements-returns-in_ok-bytes-in-String-clause-of_type t c =
-    let e : slice_get c.args.schema.now.nodes.items c.args.place ≡ Some node.U8 = byte_node (node_at c.args.schema.now c.args.place) (search rules) in
-    ok_as c.byte_values.result (λ v h. each_byte c.args.depth c.args.schema.now.nodes.items c.args.place v.items (omega (arith, c.if-depth-gt0.true)) e h) c.byte_values.ensures.of_type
 
 pub group-returns-clause-of_type : goal.group-returns-clause-of_type
 group-returns-clause-of_type t c =
@@ -28,7 +28,7 @@ group-returns-clause-of_type t c =
 pub member-returns-clause-of_type : goal.member-returns-clause-of_type
 member-returns-clause-of_type t c =
     let e : pair_node (node_at c.args.schema.now c.args.place) ≡ Some (c.in-Some.first, c.in-Some.second) = search rules in
-    ok_as c.two_parts.result (λ v h. of_pair c.args.schema.now c.args.depth c.args.place (c.in-Some.first, c.in-Some.second) _ _ v (omega (arith, c.if-depth-eq0.false)) e c.in_ok-key.ensures.of_type c.in_ok-held.ensures.of_type h) c.two_parts.ensures
+    ok_as c.two_parts.result (λ v h. of_pair c.args.schema.now c.args.depth c.args.place (c.in-Some.first, c.in-Some.second) _ _ v (omega (arith, c.if-depth-eq0.false)) e c.in_ok-key.ensures.of_type c.in_ok-held.ensures.of_type h) c.two_parts.ensures.group
 
 pub of_node-returns-in-Bool-clause-of_type : goal.of_node-returns-in-Bool-clause-of_type
 of_node-returns-in-Bool-clause-of_type t c = rw c.in-Bool.is (leaf_ok c.args.depth c.args.schema.now.nodes.items node.Bool c.boolean.result c.boolean.ensures.of_type)
@@ -56,34 +56,19 @@ of_node-returns-in_ok-list-in-ListUpTo-clause-of_type t c =
     let n = node.ListUpTo c.in-ListUpTo.most c.in-ListUpTo.inner in
     rw c.in-ListUpTo.is
     (ok_as c.list_up_to.result (λ v h. subst (IsOfNode c.args.depth c.args.schema.now.nodes.items n) (sym h.0)
-    (of_list_up_to c.args.depth c.args.schema.now.nodes.items c.in-ListUpTo.most c.in-ListUpTo.inner c.in_ok-list-in-ListUpTo.field-0 h.1 c.in_ok-list-in-ListUpTo.ensures.of_type)) c.list_up_to.ensures)
+    (of_list_up_to c.args.depth c.args.schema.now.nodes.items c.in-ListUpTo.most c.in-ListUpTo.inner c.in_ok-list-in-ListUpTo.field-0 h.1 c.in_ok-list-in-ListUpTo.ensures.of_type)) c.list_up_to.ensures.short)
 
 pub of_node-returns-in_ok-elements-in-Array-clause-of_type : goal.of_node-returns-in_ok-elements-in-Array-clause-of_type
 of_node-returns-in_ok-elements-in-Array-clause-of_type t c =
     let n = node.Array c.in-Array.count c.in-Array.inner in
     rw c.in-Array.is
     (ok_as c.array.result (λ v h. subst (IsOfNode c.args.depth c.args.schema.now.nodes.items n) (sym h.0)
-    (of_array c.args.depth c.args.schema.now.nodes.items c.in-Array.count c.in-Array.inner c.in_ok-elements-in-Array.field-0 h.1 c.in_ok-elements-in-Array.ensures.of_type)) c.array.ensures)
+    (of_array c.args.depth c.args.schema.now.nodes.items c.in-Array.count c.in-Array.inner c.in_ok-elements-in-Array.field-0 h.1 c.in_ok-elements-in-Array.ensures.of_type)) c.array.ensures.counted)
 
 pub variant-returns-in_ok-new-in-Ok-clause-of_type : goal.variant-returns-in_ok-new-in-Ok-clause-of_type
 variant-returns-in_ok-new-in-Ok-clause-of_type t c =
     of_variant c.args.depth c.args.schema.now.nodes.items c.args.payloads.now c.in-Some-index_of.index c.in_ok-new-in-Ok.field-0 (omega (arith, c.if-index-payloads.false)) (omega arith)
     (rw c.in_ok-new-in-Ok.ensures.ok c.in-Ok.ensures.of_type)
-
-pub variant_key-returns-clause-of_type : goal.variant_key-returns-clause-of_type
-variant_key-returns-clause-of_type t c =
-    of_variant c.args.depth c.args.schema.now.nodes.items c.args.payloads.now c.in-Some.index c.in_ok-new.field-0 (omega (arith, c.if-index-payloads.false)) (omega arith)
-    (rw c.in_ok-new.ensures.ok c.in_ok-held.ensures.of_type)
-
-pub key_of-returns-in-Some-clause-of_type : goal.key_of-returns-in-Some-clause-of_type
-key_of-returns-in-Some-clause-of_type t c =
-    let e : inside_of c.args.schema.now c.args.place ≡ Some c.in-Some.only = search rules in
-    ok_as c.one_part.result (λ v h. of_newtype c.args.schema.now c.args.depth c.args.place c.in-Some.only c.in_ok-held.held v (omega (arith, c.if-depth-eq0.false)) e c.in_ok-held.ensures.of_type h) c.one_part.ensures
-
-pub key_of-returns-in-Enum-clause-of_type : goal.key_of-returns-in-Enum-clause-of_type
-key_of-returns-in-Enum-clause-of_type t c =
-    let e : slice_get c.args.schema.now.nodes.items c.args.place ≡ Some (node.Enum c.in-Enum.payloads) = search rules in
-    ok_as c.variant_key.result (λ v h. at_place c.args.depth c.args.schema.now.nodes.items c.args.place (node.Enum c.in-Enum.payloads) v (omega (arith, c.if-depth-eq0.false)) e (rw c.deref.ensures.value at h)) c.variant_key.ensures.of_type
 
 pub value-returns-clause-of_type : goal.value-returns-clause-of_type
 value-returns-clause-of_type t c =
@@ -106,7 +91,9 @@ pub group-returns-clause-means : goal.group-returns-clause-means
 group-returns-clause-means t c =
     let all = c.args.fields.now in
     let left = drop c.loop-place.place-index all in
-    struct_means c.args.names.now all (λ i. Means c.args.schema.now c.args.depth i None) (value_view c.args.json.now) c.loop-place.items
+    let shape : HasShape c.args.names.now (length all) (value_view c.args.json.now) = search rules in
+    let only : HasOnlyFields c.args.names.now (value_view c.args.json.now) = search rules in
+    struct_means c.args.names.now all (λ i. Means c.args.schema.now c.args.depth i None) (value_view c.args.json.now) c.loop-place.items shape only
     (so_all (FieldsFrom c.args.names.now (value_view c.args.json.now) (λ i. Means c.args.schema.now c.args.depth i None)) (0, all) (c.loop-place.place-index, left) (c.loop-place.place-index, []) c.loop-place.items.items (ap (λ z. (c.loop-place.place-index, z)) (drop_of_length-le all c.loop-place-test.false)) tt c.loop-place.invariant.2)
 
 pub items-returns-clause-means : goal.items-returns-clause-means
@@ -121,42 +108,16 @@ pairs-returns-clause-means t c =
     so_all (MeansMembers (λ s. Means c.args.schema.now c.args.depth c.args.place (Some s))) (members_view all) (members_view (drop c.loop-key.key-index all)) no_members c.loop-key.items.items
     (ap members_view (drop_of_length-le all c.loop-key-test.false)) tt c.loop-key.invariant.1
 
-pub key_of-returns-in-Some-clause-means : goal.key_of-returns-in-Some-clause-means
-key_of-returns-in-Some-clause-means t c =
-    let e : inside_of c.args.schema.now c.args.place ≡ Some c.in-Some.only = search rules in
-    ok_as c.one_part.result (λ v h. key_inside c.args.schema.now c.args.depth c.args.place c.in-Some.only c.args.key.now c.in_ok-held.held v (omega (arith, c.if-depth-eq0.false)) e c.in_ok-held.ensures.means h) c.one_part.ensures
-
-pub key_of-returns-in-Enum-clause-means : goal.key_of-returns-in-Enum-clause-means
-key_of-returns-in-Enum-clause-means t c =
-    let o : inside_of c.args.schema.now c.args.place ≡ None = search rules in
-    let e : node_at c.args.schema.now c.args.place ≡ Some (node.Enum c.in-Enum.payloads) = search rules in
-    let m : names_at c.args.schema.now c.args.place ≡ Some c.in-Some-names_of.names.now = search rules in
-    ok_as c.variant_key.result (λ v h. key_at_node c.args.schema.now c.args.depth c.args.place (node.Enum c.in-Enum.payloads) c.in-Some-names_of.names.now c.args.key.now v (omega (arith, c.if-depth-eq0.false)) o e m h)
-    c.variant_key.ensures.means
-
-pub key_of-returns-in_default-node : goal.key_of-returns-in_default-node
-key_of-returns-in_default-node t c =
-    let o : inside_of c.args.schema.now c.args.place ≡ None = search rules in
-    let n = c.in-Some-node_of.node.now in
-    let e : node_at c.args.schema.now c.args.place ≡ Some n = search rules in
-    let m : names_at c.args.schema.now c.args.place ≡ Some c.in-Some-names_of.names.now = search rules in
-    record {
-      of_type = ok_as c.plain_key.result (λ v h. at_place c.args.depth c.args.schema.now.nodes.items c.args.place n v (omega (arith, c.if-depth-eq0.false)) e (h (c.args.depth - 1) c.args.schema.now.nodes.items)) c.plain_key.ensures.of_type;
-      means =
-          ok_as c.plain_key.result (λ v h. key_at_node c.args.schema.now c.args.depth c.args.place n c.in-Some-names_of.names.now c.args.key.now v (omega (arith, c.if-depth-eq0.false)) o e m
-          (plain_node_key (Some c.in-Some-names_of.names.now) n c.args.key.now (out-Value v) c.in_default-node.not-Enum h)) c.plain_key.ensures.means;
-    }
-
 pub member-returns-clause-means : goal.member-returns-clause-means
 member-returns-clause-means t c =
     let e : pair_node (node_at c.args.schema.now c.args.place) ≡ Some (c.in-Some.first, c.in-Some.second) = search rules in
     ok_as c.two_parts.result (λ v h. member_means c.args.schema.now c.args.depth c.args.place (c.in-Some.first, c.in-Some.second) c.args.key.now (value_view c.args.json.now) c.in_ok-key.key c.in_ok-held.held v
-    (omega (arith, c.if-depth-eq0.false)) e c.in_ok-key.ensures.means c.in_ok-held.ensures.means h) c.two_parts.ensures
+    (omega (arith, c.if-depth-eq0.false)) e c.in_ok-key.ensures.means c.in_ok-held.ensures.means h) c.two_parts.ensures.group
 
 pub of_node-returns-in_ok-list-in-ListUpTo-clause-means : goal.of_node-returns-in_ok-list-in-ListUpTo-clause-means
 of_node-returns-in_ok-list-in-ListUpTo-clause-means t c =
     rw c.in-ListUpTo.is
-    (ok_as c.list_up_to.result (λ v h. list_means _ c.in_ok-list-in-ListUpTo.field-0 v h.0 c.in_ok-list-in-ListUpTo.ensures.means) c.list_up_to.ensures)
+    (ok_as c.list_up_to.result (λ v h. list_means _ c.in_ok-list-in-ListUpTo.field-0 v h.0 c.in_ok-list-in-ListUpTo.ensures.means) c.list_up_to.ensures.short)
 
 pub value-returns-clause-means : goal.value-returns-clause-means
 value-returns-clause-means t c =
@@ -166,5 +127,158 @@ value-returns-clause-means t c =
 
 pub variant-returns-in_ok-new-in-Ok-clause-means : goal.variant-returns-in_ok-new-in-Ok-clause-means
 variant-returns-in_ok-new-in-Ok-clause-means t c =
-    variant_means (Some c.args.names.now) c.args.payloads.now (λ i. Means c.args.schema.now c.args.depth i None) (value_view c.args.json.now) c.in-Some-index_of.index c.in_ok-new-in-Ok.field-0 c.in-Some.name.now (held_json c.in-Some.held)
-    (search rules) c.in-Some-index_of.ensures (omega (arith, c.if-index-payloads.false)) (rw c.in_ok-new-in-Ok.ensures.ok c.in-Ok.ensures.means)
+    variant_means c.args.schema.now (Some c.args.names.now) c.args.payloads.now (λ i. Means c.args.schema.now c.args.depth i None) (value_view c.args.json.now) c.in-Some-index_of.index c.in_ok-new-in-Ok.field-0 c.in-Some.name.now (held_json c.in-Some.held)
+    (search rules) (search rules) (omega (arith, c.if-index-payloads.false)) (rw c.in_ok-new-in-Ok.ensures.ok c.in-Ok.ensures.means)
+
+pub elements-returns-in-Array-clause-means : goal.elements-returns-in-Array-clause-means
+elements-returns-in-Array-clause-means t c =
+    let e : value_view c.args.json.now ≡ array (items_view c.in-Array.elements.items) = search (rules, the_lemmas) in
+    rw e (rw c.deref.ensures.value at c.items.ensures.means)
+
+pub elements-returns-in-Array-clause-refused : goal.elements-returns-in-Array-clause-refused
+elements-returns-in-Array-clause-refused t c =
+    let e : value_view c.args.json.now ≡ array (items_view c.in-Array.elements.items) = search (rules, the_lemmas) in
+    rw e (rw c.deref.ensures.value at c.items.ensures.refused)
+
+pub group-returns-in_err-push-in-Ok-clause-refused : goal.group-returns-in_err-push-in-Ok-clause-refused
+group-returns-in_err-push-in-Ok-clause-refused t c = let f : IfWrong c.from_residual.result ⊥ = search rules in wrong_as c.from_residual.result (λ x. absurd x) f
+
+pub group-returns-in-Err-clause-refused : goal.group-returns-in-Err-clause-refused
+group-returns-in-Err-clause-refused t c wrong =
+    let all = c.args.fields.now in
+    let n = c.loop-place.place-index in
+    let means = MeansValue c.args.schema.now c.args.depth in
+    let here : c.len.result ≡ 0 + n = omega (arith, c.loop-place.invariant.0) in
+    let none : NoneOf (Fits c.args.schema.now c.args.depth (get_or all n 0)) (MeansField c.args.names.now (value_view c.args.json.now) (means (get_or all n 0)) c.len.result) = c.in-Err.ensures.refused (c.inside_field.ensures wrong) in
+    struct_none c.args.depth c.args.schema.now.nodes.items all (MeansStruct (Some c.args.names.now) all means (value_view c.args.json.now)) (λ vs h m. field_none (Fits c.args.schema.now c.args.depth) c.args.names.now (value_view c.args.json.now) means 0 n all (drop (n + 1) all) (get_or all n 0)
+    (drop_more all n 0 c.loop-place-test.true) (subst (λ z. NoneOf (Fits c.args.schema.now c.args.depth (get_or all n 0)) (MeansField c.args.names.now (value_view c.args.json.now) (means (get_or all n 0)) z)) here none) vs h m.2)
+
+pub items-returns-in_err-push-in-Ok-clause-refused : goal.items-returns-in_err-push-in-Ok-clause-refused
+items-returns-in_err-push-in-Ok-clause-refused t c = let f : IfWrong c.from_residual.result ⊥ = search rules in wrong_as c.from_residual.result (λ x. absurd x) f
+
+pub items-returns-in-Err-clause-refused : goal.items-returns-in-Err-clause-refused
+items-returns-in-Err-clause-refused t c wrong =
+    item_none (Fits c.args.schema.now c.args.depth c.args.place) (MeansValue c.args.schema.now c.args.depth c.args.place) c.args.elements.now c.loop-element.element-index c.element-item.result c.loop-element-test.true c.element-item.is (c.in-Err.ensures.refused (c.inside_element.ensures wrong))
+
+pub list-returns-in-Map-Object-clause-means : goal.list-returns-in-Map-Object-clause-means
+list-returns-in-Map-Object-clause-means t c =
+    let keys = first_is_key c.args.schema.now (pair_node (node_at c.args.schema.now c.args.place)) in
+    let map : is_map_named (Some c.args.names.now) ≡ true = rw c.in-Map-Object.is-0 refl in
+    let text : keys ≡ true = sym c.has_text_keys.ensures ∙ c.if-has_text_keys.true in
+    let e : value_view c.args.json.now ≡ object (members_view c.in-Map-Object.members.items) = search (rules, the_lemmas) in
+    map_means (is_map_named (Some c.args.names.now) && keys) (node_at c.args.schema.now c.args.place) (MeansValue c.args.schema.now c.args.depth c.args.place) (MeansMember c.args.schema.now c.args.depth c.args.place) (value_view c.args.json.now) (members_view c.in-Map-Object.members.items) c.pairs.result e
+    (both_hold (is_map_named (Some c.args.names.now)) keys map text) (rw c.deref.ensures.value at c.pairs.ensures.means)
+
+pub list-returns-in-Map-Object-clause-refused : goal.list-returns-in-Map-Object-clause-refused
+list-returns-in-Map-Object-clause-refused t c =
+    let keys = first_is_key c.args.schema.now (pair_node (node_at c.args.schema.now c.args.place)) in
+    let e : value_view c.args.json.now ≡ object (members_view c.in-Map-Object.members.items) = search (rules, the_lemmas) in
+    wrong_as c.pairs.result (map_none (is_map_named (Some c.args.names.now) && keys) (node_at c.args.schema.now c.args.place) (MeansValue c.args.schema.now c.args.depth c.args.place) (MeansMember c.args.schema.now c.args.depth c.args.place) (value_view c.args.json.now) (members_view c.in-Map-Object.members.items)
+    (EachHas (Fits c.args.schema.now c.args.depth c.args.place)) e) (rw c.deref.ensures.value at c.pairs.ensures.refused)
+
+pub member-returns-then-depth-eq0-clause-refused : goal.member-returns-then-depth-eq0-clause-refused
+member-returns-then-depth-eq0-clause-refused t c wrong = none_deep c.args.schema.now c.args.depth c.args.place (MeansMember c.args.schema.now c.args.depth c.args.place c.args.key.now (value_view c.args.json.now)) c.if-depth-eq0.true
+
+pub member-returns-in_default-clause-refused : goal.member-returns-in_default-clause-refused
+member-returns-in_default-clause-refused t c wrong = no_pair c.args.schema.now c.args.depth c.args.place c.args.key.now (value_view c.args.json.now) (search rules)
+
+pub member-returns-in_err-key-clause-refused : goal.member-returns-in_err-key-clause-refused
+member-returns-in_err-key-clause-refused t c =
+    let e : pair_node (node_at c.args.schema.now c.args.place) ≡ Some (c.in-Some.first, c.in-Some.second) = search rules in
+    let f : IfWrong c.from_residual.result (NoneOf (Fits c.args.schema.now (c.args.depth - 1) c.in-Some.first) (KeyMeans c.args.schema.now (c.args.depth - 1) c.in-Some.first c.args.key.now)) = search rules in
+    wrong_as c.from_residual.result (no_key c.args.schema.now c.args.depth c.args.place c.args.key.now (value_view c.args.json.now) (c.in-Some.first, c.in-Some.second) (omega (arith, c.if-depth-eq0.false)) e) f
+
+pub member-returns-in_err-held-clause-refused : goal.member-returns-in_err-held-clause-refused
+member-returns-in_err-held-clause-refused t c =
+    let e : pair_node (node_at c.args.schema.now c.args.place) ≡ Some (c.in-Some.first, c.in-Some.second) = search rules in
+    let f : IfWrong c.from_residual-in_err-held.result (NoneOf (Fits c.args.schema.now (c.args.depth - 1) c.in-Some.second) (MeansValue c.args.schema.now (c.args.depth - 1) c.in-Some.second (value_view c.args.json.now))) = search rules in
+    wrong_as c.from_residual-in_err-held.result (no_held c.args.schema.now c.args.depth c.args.place c.args.key.now (value_view c.args.json.now) (c.in-Some.first, c.in-Some.second) (omega (arith, c.if-depth-eq0.false)) e) f
+
+pub value-returns-then-depth-eq0-clause-refused : goal.value-returns-then-depth-eq0-clause-refused
+value-returns-then-depth-eq0-clause-refused t c wrong = none_deep c.args.schema.now c.args.depth c.args.place (MeansValue c.args.schema.now c.args.depth c.args.place (value_view c.args.json.now)) c.if-depth-eq0.true
+
+pub value-returns-in_default-clause-refused : goal.value-returns-in_default-clause-refused
+value-returns-in_default-clause-refused t c wrong = none_place c.args.schema.now c.args.depth c.args.place (MeansValue c.args.schema.now c.args.depth c.args.place (value_view c.args.json.now)) (search rules)
+
+pub value-returns-in_default-names_of-clause-refused : goal.value-returns-in_default-names_of-clause-refused
+value-returns-in_default-names_of-clause-refused t c wrong = none_named c.args.schema.now c.args.depth c.args.place (value_view c.args.json.now) (Fits c.args.schema.now c.args.depth c.args.place) (search rules)
+
+pub value-returns-clause-refused : goal.value-returns-clause-refused
+value-returns-clause-refused t c =
+    let e : node_at c.args.schema.now c.args.place ≡ Some c.in-Some.node.now = search rules in
+    let m : names_at c.args.schema.now c.args.place ≡ Some c.in-Some-names_of.names.now = search rules in
+    wrong_as c.of_node.result (none_at c.args.schema.now c.args.depth c.args.place c.in-Some.node.now c.in-Some-names_of.names.now (value_view c.args.json.now) (omega (arith, c.if-depth-eq0.false)) e m) c.of_node.ensures.refused
+
+pub variant-returns-in_err-new-in-Ok-clause-refused : goal.variant-returns-in_err-new-in-Ok-clause-refused
+variant-returns-in_err-new-in-Ok-clause-refused t c = let f : IfWrong c.from_residual.result ⊥ = search rules in wrong_as c.from_residual.result (λ x. absurd x) f
+
+pub variant-returns-in-Err-clause-refused : goal.variant-returns-in-Err-clause-refused
+variant-returns-in-Err-clause-refused t c wrong =
+    payload_none c.args.schema.now c.args.depth (Some c.args.names.now) c.args.payloads.now c.in-Some.name.now c.in-Some-index_of.index (value_view c.args.json.now) (held_json c.in-Some.held) (search rules) (search rules) (omega (arith, c.if-index-payloads.false))
+    (c.in-Err.ensures.refused (c.inside-in-Err.ensures wrong))
+
+pub pairs-returns-in_err-push-in-Ok-clause-refused : goal.pairs-returns-in_err-push-in-Ok-clause-refused
+pairs-returns-in_err-push-in-Ok-clause-refused t c = let f : IfWrong c.from_residual.result ⊥ = search rules in wrong_as c.from_residual.result (λ x. absurd x) f
+
+pub pairs-returns-in-Err-clause-refused : goal.pairs-returns-in-Err-clause-refused
+pairs-returns-in-Err-clause-refused t c wrong =
+    member_none (Fits c.args.schema.now c.args.depth c.args.place) (MeansMember c.args.schema.now c.args.depth c.args.place) c.args.members.now c.loop-key.key-index c.loop-key-item.result c.loop-key-test.true c.loop-key-item.is (c.in-Err.ensures.refused (c.inside.ensures wrong))
+
+pub option-returns-in_err-new-clause-refused : goal.option-returns-in_err-new-clause-refused
+option-returns-in_err-new-clause-refused t c = let f : IfWrong c.from_residual-in_err-new.result ⊥ = search rules in wrong_as c.from_residual-in_err-new.result (λ x. absurd x) f
+
+pub option-returns-in_err-held-clause-refused : goal.option-returns-in_err-held-clause-refused
+option-returns-in_err-held-clause-refused t c =
+    let n : value_view c.args.json.now ≢ null = search rules in
+    let f : IfWrong c.from_residual.result ((j : _) → IsPresent c.args.schema.now c.args.place j (value_view c.args.json.now) → ⊥) = search rules in
+    wrong_as c.from_residual.result (λ g. option_none c.args.schema.now c.args.depth c.args.place (value_view c.args.json.now) (MeansValue c.args.schema.now c.args.depth c.args.place) n (λ k p. absurd (g k p))) f
+
+pub of_node-returns-in_err-list-in-List-clause-refused : goal.of_node-returns-in_err-list-in-List-clause-refused
+of_node-returns-in_err-list-in-List-clause-refused t c =
+    let k = c.in-List.inner in
+    let means = MeansList (is_map_named (Some c.args.names.now) && first_is_key c.args.schema.now (pair_node (node_at c.args.schema.now k))) (node_at c.args.schema.now k) (MeansValue c.args.schema.now c.args.depth k) (MeansMember c.args.schema.now c.args.depth k) (value_view c.args.json.now) in
+    let f : IfWrong c.from_residual.result (NoneOf (EachHas (Fits c.args.schema.now c.args.depth k)) means) = search rules in
+    rw c.in-List.is (wrong_as c.from_residual.result (list_none c.args.depth c.args.schema.now.nodes.items k means) f)
+
+pub of_node-returns-in_err-list-in-ListUpTo-clause-refused : goal.of_node-returns-in_err-list-in-ListUpTo-clause-refused
+of_node-returns-in_err-list-in-ListUpTo-clause-refused t c =
+    let k = c.in-ListUpTo.inner in
+    let means = MeansList (is_map_named (Some c.args.names.now) && first_is_key c.args.schema.now (pair_node (node_at c.args.schema.now k))) (node_at c.args.schema.now k) (MeansValue c.args.schema.now c.args.depth k) (MeansMember c.args.schema.now c.args.depth k) (value_view c.args.json.now) in
+    let f : IfWrong c.from_residual-in_err-list-in-ListUpTo.result (NoneOf (EachHas (Fits c.args.schema.now c.args.depth k)) means) = search rules in
+    rw c.in-ListUpTo.is (wrong_as c.from_residual-in_err-list-in-ListUpTo.result (list_up_to_none c.args.depth c.args.schema.now.nodes.items c.in-ListUpTo.most k means) f)
+
+pub of_node-returns-in_err-elements-in-Array-clause-refused : goal.of_node-returns-in_err-elements-in-Array-clause-refused
+of_node-returns-in_err-elements-in-Array-clause-refused t c =
+    let k = c.in-Array.inner in
+    let means = MeansElements (node_at c.args.schema.now k) (MeansValue c.args.schema.now c.args.depth k) (value_view c.args.json.now) in
+    let f : IfWrong c.from_residual-in_err-elements-in-Array.result (NoneOf (EachHas (Fits c.args.schema.now c.args.depth k)) means) = search rules in
+    rw c.in-Array.is (wrong_as c.from_residual-in_err-elements-in-Array.result (array_none c.args.depth c.args.schema.now.nodes.items c.in-Array.count k means) f)
+
+pub of_node-returns-in_ok-list-in-ListUpTo-clause-refused : goal.of_node-returns-in_ok-list-in-ListUpTo-clause-refused
+of_node-returns-in_ok-list-in-ListUpTo-clause-refused t c =
+    let k = c.in-ListUpTo.inner in
+    rw c.in-ListUpTo.is
+    (wrong_as c.list_up_to.result (long_none (is_map_named (Some c.args.names.now) && first_is_key c.args.schema.now (pair_node (node_at c.args.schema.now k))) (node_at c.args.schema.now k) (MeansValue c.args.schema.now c.args.depth k) (MeansMember c.args.schema.now c.args.depth k) (value_view c.args.json.now) c.args.depth c.args.schema.now.nodes.items c.in-ListUpTo.most k
+    c.in_ok-list-in-ListUpTo.field-0.items c.in_ok-list-in-ListUpTo.ensures.means) c.list_up_to.ensures.refused)
+
+pub of_node-returns-in_ok-elements-in-Array-clause-refused : goal.of_node-returns-in_ok-elements-in-Array-clause-refused
+of_node-returns-in_ok-elements-in-Array-clause-refused t c =
+    let k = c.in-Array.inner in
+    rw c.in-Array.is
+    (wrong_as c.array.result (other_length_none (node_at c.args.schema.now k) (MeansValue c.args.schema.now c.args.depth k) (value_view c.args.json.now) c.args.depth c.args.schema.now.nodes.items c.in-Array.count k c.in_ok-elements-in-Array.field-0.items c.in_ok-elements-in-Array.ensures.means) c.array.ensures.refused)
+
+pub of_node-returns-in_default-clause-refused : goal.of_node-returns-in_default-clause-refused
+of_node-returns-in_default-clause-refused t c =
+    let n = c.args.node.now in
+    let number : IsNumberNode n = elim c.in_default.branch [
+      | of_node-in_default-via-in-LE+else-matches w ↦ rw w.in-LE.is tt
+      | of_node-in_default-via-in_default w ↦ number_node n w.in_default.not-Bool w.in_default.not-Char w.in_default.not-Text w.in_default.not-TextUpTo w.in_default.not-Bytes w.in_default.not-Option w.in_default.not-List w.in_default.not-ListUpTo w.in_default.not-Array w.in_default.not-Struct w.in_default.not-Enum
+    ] in
+    let plain : (k : _) → n ≡ node.LE k → is_float_named (Some c.args.names.now) ≡ false = elim c.in_default.branch [
+      | of_node-in_default-via-in-LE+else-matches w ↦ λ k e. elim w.match-matches.branch [
+        | of_node-in-Float w' ↦ absurd (search rules)
+        | of_node-in_default-matches w' ↦ no_float c.args.names.now w'.in_default-matches.not-Float
+      ]
+      | of_node-in_default-via-in_default w ↦ λ k e. absurd (w.in_default.not-LE k e)
+    ] in
+    wrong_as c.number.result (λ none. number_node_none c.args.schema.now c.args.depth c.args.names.now n (value_view c.args.json.now) number plain (none number)) c.number.ensures.refused

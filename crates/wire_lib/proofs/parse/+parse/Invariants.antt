@@ -24,12 +24,6 @@ decreases-elements l = 6 * l.depth + 2
 abbrev pub decreases-list : goal.decreases-list
 decreases-list l = 6 * l.depth + 3
 
-abbrev pub decreases-variant_key : goal.decreases-variant_key
-decreases-variant_key l = 6 * l.depth + 1
-
-abbrev pub decreases-key_of : goal.decreases-key_of
-decreases-key_of l = 6 * l.depth
-
 abbrev pub decreases-member : goal.decreases-member
 decreases-member l = 6 * l.depth
 

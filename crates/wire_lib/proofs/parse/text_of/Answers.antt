@@ -7,4 +7,4 @@ pub returns : goal.returns
 returns c =
     let t = c.in_ok-from_str.field-0 in
     let e = c.in_ok-from_str.ensures.ok in
-    record { of_type = text_leaf t (subst IsUtf8 (sym e) c.utf8.held); means = text_means c.args.held.now t e }
+    record { of_type = text_leaf t (subst IsUtf8 (sym e) c.utf8.held); means = text_means c.args.held.now t e; never_wrong = tt }

@@ -1,14 +1,9 @@
-use Rattle.std.proofs.Common.{◌≡◌, ℕ, List, [], ◌∷◌, ◌++◌, take, length, refl, sym, ap, subst, ◌∙◌, arith, rules, string_bytes}
-use Rattle.std.proofs.lemmas.List.{append-nil, append_assoc}
+use Rattle.std.proofs.Common.{◌≡◌, [], ◌++◌, take, refl, sym, ap, subst, ◌∙◌, rules, string_bytes}
+use Rattle.std.proofs.lemmas.List.{append-nil, append_assoc, nil_from_length}
 use Rattle.wire_lib.specs.Sent.{HasMade}
 use Rattle.wire_lib.proofs.SentLemmas.{appended_none, appended_then}
 use Rattle.wire_lib.proofs.ToldLemmas.{parts_on}
 use Rattle.wire_lib.proofs.send.FramesOfLines.push.Goals as goal
-
--- nothing is left
-empty : (xs : List ℕ) → length xs ≡ 0 → xs ≡ []
-empty [] e = refl
-empty (x ∷ xs) e = absurd (omega arith)
 
 pub loop-rest-init : goal.loop-rest-init
 loop-rest-init c = (
@@ -44,7 +39,7 @@ pub returns-clause-made : goal.returns-clause-made
 returns-clause-made c text made h =
     let i = c.loop-rest.invariant in
     let told = i.3 text made h in
-    let none : c.loop-rest.rest.now ≡ [] = empty c.loop-rest.rest.now (search rules) in (
+    let none : c.loop-rest.rest.now ≡ [] = nil_from_length c.loop-rest.rest.now (search rules) in (
       told.0,
       subst (λ x. HasMade c.loop-rest.self (text ++ x) (made ++ told.0)) (sym (i.1 ∙ ap (λ x. i.0 ++ x) none ∙ append-nil i.0)) told.1,
       told.2,
