@@ -125,7 +125,7 @@ no_short_text n j f = none_top (node.TextUpTo n) (MeansPlain (value_view j)) (λ
 text_value : (t : String Global) → roll-Value (Value-F.Text t) ≡ Text t
 text_value t = search (rules, the_lemmas)
 
-value_rolled : (v : Value) → roll-Value (out-Value v) ≡ v
+pub value_rolled : (v : Value) → roll-Value (out-Value v) ≡ v
 value_rolled v = search (rules, the_lemmas)
 
 has_up_to : (n : ℕ) (t : String Global) → TakesTextUpTo n (tree_of (Text t)) → length (string_bytes t) ≤ n
@@ -356,7 +356,7 @@ byte_value b = search (rules, the_lemmas)
 byte_range : (b : ℕ) → are_in_range (U8 b) ≡ nat_lt b 256
 byte_range b = search (rules, the_lemmas)
 
-and_true : (a b : Bool) → a ≡ true → b ≡ true → (a && b) ≡ true
+pub and_true : (a b : Bool) → a ≡ true → b ≡ true → (a && b) ≡ true
 and_true a b e f = rw e f
 
 pub bytes_fit : (schema : Schema) (depth place : ℕ) (bs : List ℕ) (vs : List Value) → EachHas (Fits schema depth place) vs → AreBytes bs vs → AreAllBytes bs
@@ -428,7 +428,7 @@ payload_of has [] n k v e h = absurd h
 payload_of has (i ∷ is) zero k v e h = let same : i ≡ k = cc e in subst (λ x. has x v) same h
 payload_of has (i ∷ is) (suc n) k v e h = payload_of has is n k v e h
 
-variant_value : (n : ℕ) (w : Box Value Global) → roll-Value (Value-F.Variant n w) ≡ Variant n w
+pub variant_value : (n : ℕ) (w : Box Value Global) → roll-Value (Value-F.Variant n w) ≡ Variant n w
 variant_value n w = search (rules, the_lemmas)
 
 variant_range : (n : ℕ) (w : Box Value Global) → are_in_range (Variant n w) ≡ are_in_range w.value

@@ -1,40 +1,36 @@
 -- When nothing of a type with parts is read.
-use Rattle.std.specs.Prelude.{◌≡◌, ◌≢◌, ◌-◌, ◌+◌, ◌<◌, ◌^◌, ◌&&◌, ℕ, zero, suc, Bool, true, false, Option, Some, None, Result, Ok, Err, IfOk, List, [], ◌∷◌, length, map, drop, get_or, nat_lt, Box}
+use Rattle.std.specs.Prelude.{◌≡◌, ◌≢◌, ◌-◌, ◌+◌, ◌<◌, ℕ, zero, suc, Bool, true, false, Option, Some, None, Result, Ok, IfOk, List, [], ◌∷◌, length, map, drop, get_or, Box}
 use Rattle.std.specs.Borrow.{Bor}
 use Rattle.std.specs.Global.{Global}
 use Rattle.std.specs.List.{slice_get}
-use Rattle.std.proofs.Common.{refl, sym, ap, ◌∙◌, subst, arith, rules, Vec}
-use Rattle.std.proofs.lemmas.Bool.{ltb-true, ltb-false}
+use Rattle.std.proofs.Common.{refl, sym, ap, ◌∙◌, subst, arith, Vec}
 use Rattle.json.specs.Json.{Json, null, string, array, object, Items, no_items, item, Members, no_members, member}
 use Rattle.json.specs.Value.{items_view, members_view, value_view}
 use Rattle.json.specs.declared.value.Value.{Value as Parsed}
 use Rattle.postcard_tree.specs.Tree.{byte, group, part, end, sequence}
-use Rattle.postcard_tree.specs.Tree.{number as wire_number}
-use Rattle.postcard_tree.specs.Reading.{GroupOf, HasUpTo, TakesAll, TakesArray, TakesOption, TakesSequence, TakesVariant}
+use Rattle.postcard_tree.specs.Reading.{GroupOf, HasUpTo, TakesAll, TakesArray, TakesOption, TakesSequence}
 use Rattle.schema_table.specs.declared.integer.IntegerType.{IntegerType}
 use Rattle.schema_table.specs.declared.node.Node.{Node}
 use Rattle.schema_table.specs.declared.node.Node.TheVariants as node
 use Rattle.schema_table.specs.declared.schema.Names.{Names}
 use Rattle.schema_table.specs.declared.schema.Names.TheVariants as names
 use Rattle.schema_table.specs.declared.schema.Schema.{Schema}
-use Rattle.schemas.specs.declared.value.Value.{Value, out-Value, the_lemmas}
+use Rattle.schemas.specs.declared.value.Value.{Value, Variant, out-Value, roll-Value}
 use Rattle.schemas.specs.declared.value.Value.TheOpen.{Value-F}
-use Rattle.schemas.specs.Schemas.{SchemaTakes, SchemaHas, TakesFields, TakesPayload, TakesPlace, NodeHas, PlaceHas, AtTop, OfList, OfGroup, OfOption, OfVariant, EachHas, FieldsHave, PayloadHas}
+use Rattle.schemas.specs.Schemas.{SchemaTakes, SchemaHas, TakesFields, TakesPlace, NodeHas, PlaceHas, AtTop, OfList, OfGroup, OfOption, OfVariant, EachHas, FieldsHave, PayloadHas}
 use Rattle.schemas.specs.Values.{tree_of, trees_in}
 use Rattle.wire_lib.specs.InRange.{Fits, InRange, all_true, are_in_range}
 use Rattle.wire_lib.specs.Looks.{IsPresentBy, inside_of, is_float_named, is_newtype_named, names_at, node_at, null_within, only_part, only_value, pair_node}
 use Rattle.wire_lib.specs.Meant.{AreBytes, IsIndexOf, IsPresent, KeyMeans, KeyMeansBy, KeyMeansNode, KeyMeansPlain, Means, MeansElements, MeansEnum, MeansField, MeansFields, MeansHeld, MeansHolding, MeansItems, MeansList, MeansMember, MeansMembers, MeansNamed, MeansNode, MeansOption, MeansPlain, MeansValue, chosen, count_items, count_members}
 use Rattle.wire_lib.specs.Parsed.{IsOfEnum, IsOfLeaf, IsOfNode, IsOfStruct, IsOfType}
 use Rattle.wire_lib.specs.Printed.{two_in, two_values}
-use Rattle.wire_lib.specs.Refused.{IfWrong, IsNumberNode, NoneOf}
-use Rattle.wire_lib.specs.declared.wrong.ParseError.{ParseError}
+use Rattle.wire_lib.specs.Refused.{IsNumberNode, NoneOf}
+use Rattle.wire_lib.proofs.KeyLemmas.{group_range, group_tree, list_range, list_tree}
+use Rattle.wire_lib.proofs.LeafLemmas.{both_true}
+use Rattle.wire_lib.proofs.LeafRefusals.{first_index, held_fits, no_depth, value_rolled, variant_value}
+use Rattle.wire_lib.proofs.RoundLemmas.{present_range, present_tree}
 use Rattle.wire_lib.proofs.NumberRefusals.{number_means}
 use Rattle.wire_lib.proofs.ParsedLemmas.{IsStruct, count_in, inside_struct, ok_as, pair_struct, read_at}
-
--- the same fault, said of more
-pub wrong_as : {A : Type 0} {P Q : Type 0} (r : Result A ParseError) → (P → Q) → IfWrong r P → IfWrong r Q
-wrong_as (Ok v) f h = tt
-wrong_as (Err e) f h = λ w. f (h w)
 
 -- one level of a value
 
@@ -46,9 +42,7 @@ type_top (suc k) nodes i n v d e h =
     subst (λ x. IsOfNode x nodes n v) (omega arith) top
 
 pub none_deep : (schema : Schema) (d i : ℕ) (means : Value → Type 0) → d ≡ 0 → NoneOf (Fits schema d i) means
-unfolding SchemaTakes
-none_deep schema zero i means e v h m = h.0.0
-none_deep schema (suc d) i means e v h m = absurd (omega (arith, e))
+none_deep schema d i means e v h m = no_depth schema d i v e h
 
 pub none_place : (schema : Schema) (d i : ℕ) (means : Value → Type 0) → node_at schema i ≡ None → NoneOf (Fits schema d i) means
 unfolding SchemaTakes
@@ -71,57 +65,28 @@ none_at schema zero i n m j d e f none v h x = absurd (d refl)
 none_at schema (suc k) i n m j d e f none v h x =
     none v (type_top (suc k) schema.nodes.items i n v d e h.0, h.1) (subst (λ y. AtTop (MeansNode schema (Some m) (Means schema y) (Some n) j) v) (omega arith) (means_top schema k i n m j v e f x))
 
-two_true : (a b : Bool) → (a && b) ≡ true → (a ≡ true) × (b ≡ true)
-two_true true true e = (refl, refl)
-two_true true false e = absurd (cc e)
-two_true false b e = absurd (cc e)
-
 -- values inside
-
-tree-list : (v : Value) (w : Vec Value Global) → out-Value v ≡ Value-F.List w → tree_of v ≡ sequence (trees_in w.items)
-tree-list v w e = search (rules, the_lemmas)
-
-range-list : (v : Value) (w : Vec Value Global) → out-Value v ≡ Value-F.List w → are_in_range v ≡ all_true (map are_in_range w.items)
-range-list v w e = search (rules, the_lemmas)
-
-tree-group : (v : Value) (w : Vec Value Global) → out-Value v ≡ Value-F.Group w → tree_of v ≡ group (trees_in w.items)
-tree-group v w e = search (rules, the_lemmas)
-
-range-group : (v : Value) (w : Vec Value Global) → out-Value v ≡ Value-F.Group w → are_in_range v ≡ all_true (map are_in_range w.items)
-range-group v w e = search (rules, the_lemmas)
-
-tree-present : (v : Value) (w : Box Value Global) → out-Value v ≡ Value-F.Present w → tree_of v ≡ group (part (byte 1) (part (tree_of w.value) end))
-tree-present v w e = search (rules, the_lemmas)
-
-range-present : (v : Value) (w : Box Value Global) → out-Value v ≡ Value-F.Present w → are_in_range v ≡ are_in_range w.value
-range-present v w e = search (rules, the_lemmas)
-
-tree-variant : (v : Value) (n : ℕ) (w : Box Value Global) → out-Value v ≡ Value-F.Variant n w → tree_of v ≡ group (part (wire_number 32 n) (part (tree_of w.value) end))
-tree-variant v n w e = search (rules, the_lemmas)
-
-range-variant : (v : Value) (n : ℕ) (w : Box Value Global) → out-Value v ≡ Value-F.Variant n w → are_in_range v ≡ are_in_range w.value
-range-variant v n w e = search (rules, the_lemmas)
 
 each_inside : (d : ℕ) (nodes : List Node) (k : ℕ) (vs : List Value) → TakesAll (SchemaTakes d nodes k) (trees_in vs) → EachHas (SchemaHas d nodes k) vs → all_true (map are_in_range vs) ≡ true → EachHas (InRange (IsOfType d nodes k)) vs
 each_inside d nodes k [] t h r = tt
-each_inside d nodes k (v ∷ vs) t h r = let both = two_true (are_in_range v) (all_true (map are_in_range vs)) r in (((t.0, refl, h.0), both.0), each_inside d nodes k vs t.1 h.1 both.1)
+each_inside d nodes k (v ∷ vs) t h r = let both = both_true (are_in_range v) (all_true (map are_in_range vs)) r in (((t.0, refl, h.0), both.0), each_inside d nodes k vs t.1 h.1 both.1)
 
 fields_inside : (d : ℕ) (nodes : List Node) (is : List ℕ) (vs : List Value) → TakesFields (SchemaTakes d nodes) is (trees_in vs) → FieldsHave (SchemaHas d nodes) is vs → all_true (map are_in_range vs) ≡ true
     → FieldsHave (λ i. InRange (IsOfType d nodes i)) is vs
 fields_inside d nodes [] [] t h r = tt
 fields_inside d nodes [] (v ∷ vs) t h r = h
 fields_inside d nodes (i ∷ is) [] t h r = h
-fields_inside d nodes (i ∷ is) (v ∷ vs) t h r = let both = two_true (are_in_range v) (all_true (map are_in_range vs)) r in (((t.0, refl, h.0), both.0), fields_inside d nodes is vs t.1 h.1 both.1)
+fields_inside d nodes (i ∷ is) (v ∷ vs) t h r = let both = both_true (are_in_range v) (all_true (map are_in_range vs)) r in (((t.0, refl, h.0), both.0), fields_inside d nodes is vs t.1 h.1 both.1)
 
 list_inside : (d : ℕ) (nodes : List Node) (k : ℕ) (v : Value) (w : Vec Value Global) → out-Value v ≡ Value-F.List w → are_in_range v ≡ true → TakesSequence (SchemaTakes d nodes k) (tree_of v) → EachHas (SchemaHas d nodes k) w.items
     → EachHas (InRange (IsOfType d nodes k)) w.items
-list_inside d nodes k v w e r t h = each_inside d nodes k w.items (subst (TakesSequence (SchemaTakes d nodes k)) (tree-list v w e) t).1 h (sym (range-list v w e) ∙ r)
+list_inside d nodes k v w e r t h = each_inside d nodes k w.items (subst (TakesSequence (SchemaTakes d nodes k)) (list_tree v w e) t).1 h (sym (list_range v w e) ∙ r)
 
 struct_inside : (d : ℕ) (nodes : List Node) (is : List ℕ) (v : Value) → InRange (IsOfStruct d nodes is) v → (w : Vec Value Global) × (out-Value v ≡ Value-F.Group w) × FieldsHave (λ i. InRange (IsOfType d nodes i)) is w.items
 struct_inside d nodes is v h = by_top (out-Value v) refl h.0.1
   where
     by_top : (t : Value-F Value) → out-Value v ≡ t → OfGroup (FieldsHave (SchemaHas d nodes) is) t → (w : Vec Value Global) × (out-Value v ≡ Value-F.Group w) × FieldsHave (λ i. InRange (IsOfType d nodes i)) is w.items
-    by_top (Value-F.Group w) e g = (w, e, fields_inside d nodes is w.items (subst (GroupOf (TakesFields (SchemaTakes d nodes) is)) (tree-group v w e) h.0.0) g (sym (range-group v w e) ∙ h.1))
+    by_top (Value-F.Group w) e g = (w, e, fields_inside d nodes is w.items (subst (GroupOf (TakesFields (SchemaTakes d nodes) is)) (group_tree v w e) h.0.0) g (sym (group_range v w e) ∙ h.1))
     by_top _ e g = absurd g
 
 -- lists
@@ -145,8 +110,8 @@ array_none d nodes n k means none v h m = by_top (out-Value v) refl h.0.1 m
   where
     by_top : (t : Value-F Value) → out-Value v ≡ t → OfGroup (EachHas (SchemaHas d nodes k)) t → OfGroup means t → ⊥
     by_top (Value-F.Group w) e g x =
-        let taken = subst (TakesArray n (SchemaTakes d nodes k)) (tree-group v w e) h.0.0 in
-        none w.items (each_inside d nodes k w.items taken.0 g (sym (range-group v w e) ∙ h.1)) x
+        let taken = subst (TakesArray n (SchemaTakes d nodes k)) (group_tree v w e) h.0.0 in
+        none w.items (each_inside d nodes k w.items taken.0 g (sym (group_range v w e) ∙ h.1)) x
     by_top _ e g x = g
 
 -- how many are meant
@@ -189,7 +154,7 @@ long_none b n means pair j d nodes most k xs a l v h m = by_top (out-Value v) re
   where
     by_top : (t : Value-F Value) → out-Value v ≡ t → OfList (MeansList b n means pair j) t → ⊥
     by_top (Value-F.List w) e x =
-        let up : HasUpTo most (sequence (trees_in w.items)) = subst (HasUpTo most) (tree-list v w e) h.0.0.1 in
+        let up : HasUpTo most (sequence (trees_in w.items)) = subst (HasUpTo most) (list_tree v w e) h.0.0.1 in
         omega (arith, l, list_count b n means pair j w.items xs x a, count_in w.items, up)
     by_top _ e x = x
 
@@ -199,7 +164,7 @@ other_length_none n means j d nodes count k xs a l v h m = by_top (out-Value v) 
   where
     by_top : (t : Value-F Value) → out-Value v ≡ t → OfGroup (MeansElements n means j) t → ⊥
     by_top (Value-F.Group w) e x =
-        let taken : TakesArray count (SchemaTakes d nodes k) (group (trees_in w.items)) = subst (TakesArray count (SchemaTakes d nodes k)) (tree-group v w e) h.0.0 in
+        let taken : TakesArray count (SchemaTakes d nodes k) (group (trees_in w.items)) = subst (TakesArray count (SchemaTakes d nodes k)) (group_tree v w e) h.0.0 in
         l (sym (elements_count n means j w.items xs x a) ∙ (sym (count_in w.items) ∙ taken.1))
     by_top _ e x = x
 
@@ -251,9 +216,9 @@ present_same false j k l a b = sym a ∙ b
 
 option_inside : (d : ℕ) (nodes : List Node) (i : ℕ) (v : Value) (w : Box Value Global) → out-Value v ≡ Value-F.Present w → InRange (IsOfNode d nodes (node.Option i)) v → InRange (IsOfType d nodes i) w.value
 option_inside d nodes i v w e h =
-    let taken : TakesOption (SchemaTakes d nodes i) (group (part (byte 1) (part (tree_of w.value) end))) = subst (TakesOption (SchemaTakes d nodes i)) (tree-present v w e) h.0.0 in
+    let taken : TakesOption (SchemaTakes d nodes i) (group (part (byte 1) (part (tree_of w.value) end))) = subst (TakesOption (SchemaTakes d nodes i)) (present_tree v w e) h.0.0 in
     let has : OfOption (SchemaHas d nodes i) (Value-F.Present w) = subst (OfOption (SchemaHas d nodes i)) e h.0.1 in
-    ((taken.1, refl, has), sym (range-present v w e) ∙ h.1)
+    ((taken.1, refl, has), sym (present_range v w e) ∙ h.1)
 
 pub option_none : (schema : Schema) (d i : ℕ) (j : Json) (means : Json → Value → Type 0) → j ≢ null → ((k : Json) → IsPresent schema i k j → NoneOf (Fits schema d i) (means k))
     → NoneOf (InRange (IsOfNode d schema.nodes.items (node.Option i))) (AtTop (MeansOption schema i means j))
@@ -268,30 +233,13 @@ option_none schema d i j means f none v h m = by_top (out-Value v) refl h.0.1 m
 
 -- variants
 
-payload_inside : (d : ℕ) (nodes : List Node) (is : List ℕ) (n : ℕ) (v : Value) → TakesPayload (SchemaTakes d nodes) is n (tree_of v) → PayloadHas (SchemaHas d nodes) is n v → (k : ℕ) × (slice_get is n ≡ Some k) × IsOfType d nodes k v
-payload_inside d nodes [] n v t h = absurd h
-payload_inside d nodes (i ∷ is) zero v t h = (i, refl, (t, refl, h))
-payload_inside d nodes (i ∷ is) (suc n) v t h = payload_inside d nodes is n v t h
-
-pub enum_none : (d : ℕ) (nodes : List Node) (is : List ℕ) (means : Value-F Value → Type 0)
-    → ((n k : ℕ) (w : Box Value Global) → n < 2 ^ 32 → slice_get is n ≡ Some k → InRange (IsOfType d nodes k) w.value → means (Value-F.Variant n w) → ⊥) → NoneOf (InRange (IsOfEnum d nodes is)) (AtTop means)
-enum_none d nodes is means none v h m = by_top (out-Value v) refl h.0.1 m
+enum_none : (schema : Schema) (d : ℕ) (is : List ℕ) (means : Value-F Value → Type 0) → ((n : ℕ) (w : Box Value Global) → InRange (IsOfEnum d schema.nodes.items is) (Variant n w) → means (Value-F.Variant n w) → ⊥)
+    → NoneOf (InRange (IsOfEnum d schema.nodes.items is)) (AtTop means)
+enum_none schema d is means none v h m = by_top (out-Value v) refl h.0.1 m
   where
-    by_top : (t : Value-F Value) → out-Value v ≡ t → OfVariant (PayloadHas (SchemaHas d nodes) is) t → means t → ⊥
-    by_top (Value-F.Variant n w) e g x =
-        let taken : TakesVariant (TakesPayload (SchemaTakes d nodes) is) (group (part (wire_number 32 n) (part (tree_of w.value) end))) = subst (TakesVariant (TakesPayload (SchemaTakes d nodes) is)) (tree-variant v n w e) h.0.0 in
-        let one = payload_inside d nodes is n w.value taken.2 g in
-        none n one.0 w taken.1 one.1 (one.2, sym (range-variant v n w e) ∙ h.1) x
+    by_top : (t : Value-F Value) → out-Value v ≡ t → OfVariant (PayloadHas (SchemaHas d schema.nodes.items) is) t → means t → ⊥
+    by_top (Value-F.Variant n w) e g x = none n w (subst (InRange (IsOfEnum d schema.nodes.items is)) (sym (value_rolled v) ∙ (ap roll-Value e ∙ variant_value n w)) h) x
     by_top _ e g x = g
-
--- the first of a name is one
-pub one_index : (named : Option Names) (s : List ℕ) (a b : ℕ) → IsIndexOf named s a → IsIndexOf named s b → a ≡ b
-one_index named s a b x y = by_order (nat_lt a b) (nat_lt b a) refl refl
-  where
-    by_order : (l g : Bool) → nat_lt a b ≡ l → nat_lt b a ≡ g → a ≡ b
-    by_order true g e f = absurd (y.1 a (ltb-true a b e) x.0)
-    by_order false true e f = absurd (x.1 b (ltb-true b a f) y.0)
-    by_order false false e f = omega (arith, ltb-false a b e, ltb-false b a f)
 
 -- pairs and keys
 
@@ -375,22 +323,16 @@ map_means b n means pair j ms r e f h = rw e (ok_as r (λ v k. (f, k)) h)
 pub map_none : (b : Bool) (n : Option Node) (means : Json → Value → Type 0) (pair : List ℕ → Json → Value → Type 0) (j : Json) (ms : Members) (kind : List Value → Type 0) → j ≡ object ms → NoneOf kind (MeansMembers pair ms) → NoneOf kind (MeansList b n means pair j)
 map_none b n means pair j ms kind e none vs h m = none vs h (subst (λ z. MeansList b n means pair z vs) e m).1
 
-pub both_hold : (a b : Bool) → a ≡ true → b ≡ true → (a && b) ≡ true
-both_hold true true e f = refl
-both_hold true false e f = f
-both_hold false b e f = e
-
 -- what a variant of this name holds, means nothing
 pub payload_none : (schema : Schema) (d : ℕ) (named : Option Names) (is s : List ℕ) (index : ℕ) (j : Json) (o : Option Json) → chosen j ≡ Some (s, o) → IsIndexOf named s index → index < length is
     → NoneOf (Fits schema d (get_or is index 0)) (MeansHolding schema (MeansValue schema d) (get_or is index 0) o) → NoneOf (InRange (IsOfEnum d schema.nodes.items is)) (AtTop (MeansEnum schema named is (MeansValue schema d) (chosen j)))
-payload_none schema d named is s index j o e f l none = enum_none d schema.nodes.items is (MeansEnum schema named is (MeansValue schema d) (chosen j)) (λ n k w m a h x. by_choice n k w a h (subst (λ c. MeansEnum schema named is (MeansValue schema d) c (Value-F.Variant n w)) e x))
+payload_none schema d named is s index j o e f l none = enum_none schema d is (MeansEnum schema named is (MeansValue schema d) (chosen j)) (λ n w h x. by_choice n w h (subst (λ c. MeansEnum schema named is (MeansValue schema d) c (Value-F.Variant n w)) e x))
   where
-    by_choice : (n k : ℕ) (w : Box Value Global) → slice_get is n ≡ Some k → InRange (IsOfType d schema.nodes.items k) w.value → MeansNamed schema named is (MeansValue schema d) s o (Value-F.Variant n w) → ⊥
-    by_choice n k w a h x =
-        let same : n ≡ index = one_index named s n index x.0 f in
-        let type_is : k ≡ get_or is index 0 = (let y : Some k ≡ Some (get_or is index 0) = sym a ∙ (ap (slice_get is) same ∙ read_at is index l) in cc) in
-        let also : x.1.0 ≡ k = (let y : Some x.1.0 ≡ Some k = sym x.1.1 ∙ a in cc) in
-        none w.value (subst (λ z. InRange (IsOfType d schema.nodes.items z) w.value) type_is h) (subst (λ z. MeansHolding schema (MeansValue schema d) z o w.value) (also ∙ type_is) x.1.2)
+    by_choice : (n : ℕ) (w : Box Value Global) → InRange (IsOfEnum d schema.nodes.items is) (Variant n w) → MeansNamed schema named is (MeansValue schema d) s o (Value-F.Variant n w) → ⊥
+    by_choice n w h x =
+        let same : n ≡ index = first_index named s n index x.0 f in
+        let place : x.1.0 ≡ get_or is index 0 = (let y : Some x.1.0 ≡ Some (get_or is index 0) = sym x.1.1 ∙ (ap (slice_get is) same ∙ read_at is index l) in cc) in
+        none w.value (subst (λ k. Fits schema d k w.value) place (held_fits schema d is n x.1.0 w h x.1.1)) (subst (λ k. MeansHolding schema (MeansValue schema d) k o w.value) place x.1.2)
 
 -- values of a node that has no types inside
 abbrev pub is_leaf_node : Node → Bool

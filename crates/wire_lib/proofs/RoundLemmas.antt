@@ -196,7 +196,7 @@ struct_back has is shows means back (Some n) types vs ws j t h k s m = no_fields
 
 -- options
 
-present_tree : (v : Value) (x : Box Value Global) → out-Value v ≡ Value-F.Present x → tree_of v ≡ group (part (byte 1) (part (tree_of x.value) end))
+pub present_tree : (v : Value) (x : Box Value Global) → out-Value v ≡ Value-F.Present x → tree_of v ≡ group (part (byte 1) (part (tree_of x.value) end))
 present_tree v x e = search (rules, the_lemmas)
 
 pub present_range : (v : Value) (x : Box Value Global) → out-Value v ≡ Value-F.Present x → are_in_range v ≡ are_in_range x.value

@@ -216,7 +216,7 @@ HasShape names.Tuple n (array js) = count_items js ≡ n
 HasShape (names.Fields ns) n (object ms) = n ≡ 0 → ms ≡ no_members
 HasShape _ n j = ⊥
 
--- each member is a field, and no field is there twice; so it is, if there are as many as names, and each name is there
+-- each member is a field, and no field is there twice; so it is if there are as many as names, each name is there, and the names differ
 abbrev pub HasOnlyFields : Names → Json → Type 0
 HasOnlyFields (names.Fields ns) (object ms) = (count_members ms ≡ length ns.items) ⊎ (AreNamed ns.items ms × AreNamedOnce ms)
 HasOnlyFields _ j = Unit {0}

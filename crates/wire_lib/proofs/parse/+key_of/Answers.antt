@@ -6,7 +6,8 @@ use Rattle.wire_lib.specs.Looks.{inside_of, names_at, node_at}
 use Rattle.wire_lib.specs.InRange.{Fits}
 use Rattle.wire_lib.specs.Meant.{KeyMeans}
 use Rattle.wire_lib.specs.Refused.{IfWrong, NoneOf}
-use Rattle.wire_lib.proofs.RefusedLemmas.{newtype_no_key, node_no_key, none_deep, none_place, plain_key_none, unnamed_no_key, wrong_as}
+use Rattle.wire_lib.proofs.NumberRefusals.{wrong_as}
+use Rattle.wire_lib.proofs.RefusedLemmas.{newtype_no_key, node_no_key, none_deep, none_place, plain_key_none, unnamed_no_key}
 use Rattle.wire_lib.proofs.ParsedLemmas.{at_place, key_at_node, key_inside, of_newtype, ok_as, plain_node_key}
 use Rattle.wire_lib.proofs.parse.+key_of.Goals as goal
 

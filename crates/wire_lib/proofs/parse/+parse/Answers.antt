@@ -13,8 +13,9 @@ use Rattle.wire_lib.specs.Meant.{HasOnlyFields, HasShape, IsPresent, KeyMeans, M
 use Rattle.wire_lib.specs.Parsed.{IsOfNode, IsOfType}
 use Rattle.wire_lib.specs.InRange.{Fits}
 use Rattle.wire_lib.specs.Refused.{IfWrong, IsNumberNode, NoneOf}
-use Rattle.wire_lib.proofs.NumberRefusals.{number_node}
-use Rattle.wire_lib.proofs.RefusedLemmas.{array_none, both_hold, field_none, item_none, list_none, list_up_to_none, long_none, map_means, map_none, member_none, no_held, no_key, no_float, no_pair, none_at, none_deep, none_named, none_place, number_node_none, option_none, other_length_none, payload_none, struct_none, wrong_as}
+use Rattle.wire_lib.proofs.NumberRefusals.{number_node, wrong_as}
+use Rattle.wire_lib.proofs.LeafRefusals.{and_true}
+use Rattle.wire_lib.proofs.RefusedLemmas.{array_none, field_none, item_none, list_none, list_up_to_none, long_none, map_means, map_none, member_none, no_held, no_key, no_float, no_pair, none_at, none_deep, none_named, none_place, number_node_none, option_none, other_length_none, payload_none, struct_none}
 use Rattle.wire_lib.proofs.ParsedLemmas.{at_place, ok_as, leaf_ok, so_more, so_all, of_struct, of_list, of_list_up_to, of_array, of_variant, of_pair, FieldsFrom, struct_means, member_means, list_means, means_at, variant_means}
 use Rattle.wire_lib.proofs.parse.+parse.Goals.{of_node-in_default-via-in-LE+else-matches, of_node-in-Float, of_node-in_default-matches, of_node-in_default-via-in_default}
 use Rattle.wire_lib.proofs.parse.+parse.Goals as goal
@@ -167,7 +168,7 @@ list-returns-in-Map-Object-clause-means t c =
     let text : keys ≡ true = sym c.has_text_keys.ensures ∙ c.if-has_text_keys.true in
     let e : value_view c.args.json.now ≡ object (members_view c.in-Map-Object.members.items) = search (rules, the_lemmas) in
     map_means (is_map_named (Some c.args.names.now) && keys) (node_at c.args.schema.now c.args.place) (MeansValue c.args.schema.now c.args.depth c.args.place) (MeansMember c.args.schema.now c.args.depth c.args.place) (value_view c.args.json.now) (members_view c.in-Map-Object.members.items) c.pairs.result e
-    (both_hold (is_map_named (Some c.args.names.now)) keys map text) (rw c.deref.ensures.value at c.pairs.ensures.means)
+    (and_true (is_map_named (Some c.args.names.now)) keys map text) (rw c.deref.ensures.value at c.pairs.ensures.means)
 
 pub list-returns-in-Map-Object-clause-refused : goal.list-returns-in-Map-Object-clause-refused
 list-returns-in-Map-Object-clause-refused t c =
