@@ -207,13 +207,6 @@ present_inside : (b : Bool) (kind : Json → Type 0) (j : Json) → IsPresentBy 
 present_inside true kind j h = (h.0, (h.0, h.1, refl), h.2)
 present_inside false kind j h = (j, refl, h)
 
-one_member : (s : List ℕ) (j k : Json) → object (member s j no_members) ≡ object (member s k no_members) → j ≡ k
-one_member s j k e = cc
-
-present_same : (b : Bool) (j k l : Json) → IsPresentBy b (λ x. x ≡ k) j → IsPresentBy b (λ x. x ≡ l) j → k ≡ l
-present_same true j k l a b = sym a.2 ∙ (one_member _ a.0 b.0 (sym a.1 ∙ b.1) ∙ b.2)
-present_same false j k l a b = sym a ∙ b
-
 option_inside : (d : ℕ) (nodes : List Node) (i : ℕ) (v : Value) (w : Box Value Global) → out-Value v ≡ Value-F.Present w → InRange (IsOfNode d nodes (node.Option i)) v → InRange (IsOfType d nodes i) w.value
 option_inside d nodes i v w e h =
     let taken : TakesOption (SchemaTakes d nodes i) (group (part (byte 1) (part (tree_of w.value) end))) = subst (TakesOption (SchemaTakes d nodes i)) (present_tree v w e) h.0.0 in
