@@ -10,9 +10,12 @@ use crate::declaration::{Body, Declaration, Field, Fields, Form, VariantOf};
 use crate::head::Marking;
 use crate::items::behind_public;
 use crate::tokens::{Read, Token, Word, is_lifetime, is_listed, is_name};
-use crate::words::{MOST_FIELDS, NO_MARK, OF_IMPLEMENTATIONS, ONLY_FIELD, OTHER_DERIVE, USED};
+use crate::words::{
+    MOST_FIELDS, NO_MARK, OF_IMPLEMENTATIONS, ONLY_FIELD, OTHER_DERIVE, TWICE, USED,
+};
 use by_hand::Implemented;
 use std::alloc::Global;
+use std::collections::BTreeSet;
 
 /// What ends the type of a field.
 const ENDS: &[&str] = &[",", ">", ";", "="];
@@ -92,6 +95,14 @@ impl<'a, 'b> Parser<'a, 'b> {
         name
     }
 
+    /// Adds the name of a field or a variant to those before it, and refuses it if one of these has it.
+    fn take_name(&mut self, names: &mut BTreeSet<&'a str>, name: &'a str) {
+        match names.insert(name) {
+            Ok(false) if !name.is_empty() => self.at.refuse(name, TWICE),
+            added => self.at.faults.note(added.is_err()),
+        }
+    }
+
     /// Takes a discriminant or a field's default, which isn't sent.
     fn pass_value(&mut self) {
         if self.at.take("=") {
@@ -168,11 +179,13 @@ impl<'a, 'b> Parser<'a, 'b> {
             return fields;
         }
         let behind = self.enter();
+        let mut names = BTreeSet::new(self.job.alloc);
         for place in 0..self.at.rest.len() {
             if self.at.rest.is_empty() {
                 break;
             }
             if let Some(item) = self.item(place, matches!(form, Form::Named)) {
+                self.take_name(&mut names, item.name);
                 self.at.keep(&mut fields.items, item);
             }
             fields.count = place.saturating_add(1);
@@ -185,6 +198,7 @@ impl<'a, 'b> Parser<'a, 'b> {
     /// Takes the variants of an enum, which has one at least.
     fn variants(&mut self) -> Vec<VariantOf<'a>> {
         let mut variants = Vec::new(self.job.alloc);
+        let mut names = BTreeSet::new(self.job.alloc);
         let behind = self.enter();
         if self.at.rest.is_empty() {
             self.at
@@ -197,6 +211,7 @@ impl<'a, 'b> Parser<'a, 'b> {
             let attributes = self.attributes();
             let name = self.name_of(true);
             self.at.variant = name;
+            self.take_name(&mut names, name);
             self.said(attributes);
             let fields = self.fields();
             self.pass_value();

@@ -52,6 +52,9 @@ pub const UNKNOWN: &str =
 pub const OTHER_DERIVE: &str =
     "` may send something else than the fields, as a number or a text: where the type is a field, write what is on the wire";
 
+pub const TWICE: &str =
+    "` is declared twice here: give one of them another name, since names aren't sent";
+
 pub const USED: &str = "` is also a name that the implementations use: call it otherwise";
 
 /// Words of serde's attributes that change no byte.

@@ -1,6 +1,7 @@
 //! From declared types to the nodes of a table.
 ghost use Rattle.std.specs.Prelude.{IfOk};
 ghost use Rattle.declarations.specs.Tables.{HasItsTypes, NamesItsNodes};
+ghost use Rattle.schema_table.specs.Telling.{NamesTellParts};
 
 mod containers;
 mod fields;
@@ -22,6 +23,9 @@ use std::slice;
 
 /// How deep the words of one type may nest, as `Vec<Option<u8>>` nests three deep.
 const DEEPEST: u32 = 64;
+
+/// What is said of a table whose names don't tell the parts of its types apart.
+const NAMED_TWICE: &str = "two fields or two variants of a type have one name\n";
 
 /// Where words are: their scope, and the type whose parameters they may name; nowhere if they name none.
 #[derive(Clone, Copy, PartialEq, Eq, Drop)]
@@ -296,6 +300,7 @@ impl<'a, 'b> Builder<'a, 'b> {
 
     /// The table with all types that are still to be made, and what is wrong, a line each. Each node has names.
     pub fn finished(self) -> Result<CheckedSources, Error>
+        ensures told { IfOk result (λ made. NamesTellParts made.schema) }
         ensures named { IfOk result (λ made. NamesItsNodes made.schema) }
         ensures declared { IfOk result (λ made. HasItsTypes made.schema) }
     {
@@ -307,6 +312,10 @@ impl<'a, 'b> Builder<'a, 'b> {
         // Each has a node and names, unless memory ran out.
         if schema.names.len() != count || schema.types.len() > count {
             return Err(Error::OutOfMemory);
+        }
+        // Its declaration is refused where two fields or variants have one name.
+        if !schema.names_tell_parts(builder.alloc)? {
+            return Err(Error::Wrong(String::from_str(builder.alloc, NAMED_TWICE)?));
         }
         let readable = builder.readable;
         Ok(CheckedSources {

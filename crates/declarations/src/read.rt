@@ -1,6 +1,7 @@
 //! From files of declarations to a table.
 ghost use Rattle.std.specs.Prelude.{◌≡◌, ◌<◌, length, IfOk};
 ghost use Rattle.declarations.specs.Tables.{HasItsTypes, NamesItsNodes};
+ghost use Rattle.schema_table.specs.Telling.{NamesTellParts};
 
 use crate::Schema;
 use crate::builder::Builder;
@@ -87,6 +88,7 @@ fn table_of(
     sources: &[Source],
     words: Option<&str>,
 ) -> Result<(CheckedSources, usize), Error>
+    ensures told { IfOk result (λ r. NamesTellParts r.0.schema) }
     ensures named { IfOk result (λ r. NamesItsNodes r.0.schema) }
     ensures declared { IfOk result (λ r. HasItsTypes r.0.schema) }
 {
@@ -107,6 +109,7 @@ fn table_of(
 /// - `Wrong`: a line for each thing that can't be read, with its line in `text`.
 /// - `OutOfMemory`.
 pub fn read_schema(alloc: Global, text: &str) -> Result<Schema, Error>
+    ensures told { IfOk result (λ table. NamesTellParts table) }
     ensures named { IfOk result (λ table. NamesItsNodes table) }
     ensures declared { IfOk result (λ table. HasItsTypes table) }
 {
@@ -120,6 +123,7 @@ pub fn read_schema(alloc: Global, text: &str) -> Result<Schema, Error>
 /// # Errors
 /// As [`read_schema`]; each line begins with the file's name, if it has one.
 pub fn read_sources(alloc: Global, sources: &[Source]) -> Result<Schema, Error>
+    ensures told { IfOk result (λ table. NamesTellParts table) }
     ensures named { IfOk result (λ table. NamesItsNodes table) }
     ensures declared { IfOk result (λ table. HasItsTypes table) }
 {
@@ -146,6 +150,7 @@ fn unless_wrong(made: CheckedSources) -> Result<Schema, Error>
 ///   that there are.
 /// - `OutOfMemory`.
 pub fn read_type(alloc: Global, sources: &[Source], words: &str) -> Result<(Schema, usize), Error>
+    ensures told { IfOk result (λ r. NamesTellParts r.0) }
     ensures named { IfOk result (λ r. NamesItsNodes r.0) }
     ensures within { IfOk result (λ r. r.1 < length r.0.nodes.items) }
 {
@@ -164,6 +169,7 @@ pub fn read_type(alloc: Global, sources: &[Source], words: &str) -> Result<(Sche
 /// - `Wrong`: no file is given.
 /// - `OutOfMemory`.
 pub fn check_sources(alloc: Global, sources: &[Source]) -> Result<CheckedSources, Error>
+    ensures told { IfOk result (λ made. NamesTellParts made.schema) }
     ensures named { IfOk result (λ made. NamesItsNodes made.schema) }
     ensures declared { IfOk result (λ made. HasItsTypes made.schema) }
 {

@@ -1,1 +1,2 @@
 pub mod TypeNames
+pub mod Telling

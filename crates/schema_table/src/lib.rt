@@ -6,6 +6,7 @@
 
 mod integer;
 mod node;
+mod parts;
 mod schema;
 
 pub use integer::IntegerType;

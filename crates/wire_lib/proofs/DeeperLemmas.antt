@@ -16,6 +16,7 @@ use Rattle.schema_table.specs.declared.node.Node.TheVariants as node
 use Rattle.schema_table.specs.declared.schema.Names.{Names}
 use Rattle.schema_table.specs.declared.schema.Names.TheVariants as names
 use Rattle.schema_table.specs.declared.schema.Schema.{Schema}
+use Rattle.schema_table.specs.Telling.{names_at, node_at}
 use Rattle.schemas.specs.declared.integer.Integer.{Integer}
 use Rattle.schemas.specs.declared.integer.Integer.TheVariants as integers
 use Rattle.schemas.specs.declared.value.Value.{Value, out-Value}
@@ -23,7 +24,7 @@ use Rattle.schemas.specs.declared.value.Value.TheOpen.{Value-F}
 use Rattle.schemas.specs.Schemas.{SchemaTakes, SchemaHas, TakesFields, TakesPayload, TakesNode, TakesPlace, NodeHas, PlaceHas, OfOption, OfList, OfGroup, OfVariant, EachHas, FieldsHave, PayloadHas}
 use Rattle.wire_lib.specs.Floats.{ShowsFinite}
 use Rattle.wire_lib.specs.InRange.{Fits}
-use Rattle.wire_lib.specs.Looks.{IsPresentBy, IsUnder, names_at, node_at, is_byte_node, is_empty_named, is_float_named, is_map_named, null_within, pair_node, first_is_key, variant_named}
+use Rattle.wire_lib.specs.Looks.{IsPresentBy, IsUnder, is_byte_node, is_empty_named, is_float_named, is_map_named, null_within, pair_node, first_is_key, variant_named}
 use Rattle.wire_lib.specs.Printed.{digits_by, integer_json, byte_items, bytes_json, plain_json, members_by, called, Shows, ShowsAll, ShowsArray, ShowsChosen, ShowsEnum, ShowsField, ShowsFirst, ShowsFixed, ShowsFloat, ShowsHeld, ShowsInteger, ShowsList, ShowsMap, ShowsNamed, ShowsNode, ShowsObject, ShowsOption, ShowsPair, ShowsPart, ShowsStruct, ShowsVariant, two_values}
 
 -- trees

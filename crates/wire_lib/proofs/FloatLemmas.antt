@@ -10,6 +10,7 @@ use Rattle.json.specs.Token.{Token}
 use Rattle.json.specs.Tree.{json_tokens}
 use Rattle.ryu.proofs.Signs.{parts}
 use Rattle.schema_table.specs.declared.schema.Names.TheVariants as names
+use Rattle.schema_table.specs.Telling.{IsFixedNames}
 use Rattle.schemas.specs.declared.integer.Integer.{Integer}
 use Rattle.schemas.specs.declared.integer.Integer.TheVariants as integers
 use Rattle.schemas.specs.declared.value.Value.TheOpen.{Value-F}
@@ -18,7 +19,6 @@ use Rattle.wire_lib.specs.Floats.{ShowsFinite, ShowsSingle, ShowsDouble, single_
 use Rattle.wire_lib.specs.InRange.{is_in_range}
 use Rattle.wire_lib.specs.Meant.{MeansFloat}
 use Rattle.wire_lib.specs.Printed.{ShowsFloat}
-use Rattle.wire_lib.specs.RoundTrip.{IsFixedNames}
 use Rattle.wire_lib.proofs.ToldLemmas.{on_ok_as}
 use lib.Dec.{ltb}
 use lib.Ieee.{is_nan, nan, inf, fin, ones, hid, top}

@@ -12,15 +12,15 @@ use Rattle.schema_table.specs.declared.node.Node.TheVariants as node
 use Rattle.schema_table.specs.declared.schema.Names.{Names}
 use Rattle.schema_table.specs.declared.schema.Names.TheVariants as names
 use Rattle.schema_table.specs.declared.schema.Schema.{Schema}
+use Rattle.schema_table.specs.Telling.{names_at, node_at, IsFixedNames, NamesDiffer, TellsParts, NamesTellParts}
 use Rattle.schemas.specs.declared.value.Value.{Value, out-Value, the_lemmas}
 use Rattle.schemas.specs.declared.value.Value.TheOpen.{Value-F}
 use Rattle.schemas.specs.Schemas.{SchemaHas, NodeHas, PlaceHas, FieldsHave, PayloadHas}
 use Rattle.schemas.specs.Values.{tree_of, trees_in, AreOneTree}
 use Rattle.wire_lib.specs.InRange.{are_in_range, all_true}
-use Rattle.wire_lib.specs.Looks.{HasNoFields, names_at, node_at, is_empty_named, is_float_named, is_newtype_named, are_empty_named, variant_named, plain_key_node, key_node, key_type, key_within, asked_by, inside_of, only_field, only_part, only_value, typed_part, part_of, inside_part, inside_within, key_at, key_named, variant_key, plain_key, truth_key}
+use Rattle.wire_lib.specs.Looks.{HasNoFields, is_empty_named, is_float_named, is_newtype_named, are_empty_named, variant_named, plain_key_node, key_node, key_type, key_within, asked_by, inside_of, only_field, only_part, only_value, typed_part, part_of, inside_part, inside_within, key_at, key_named, variant_key, plain_key, truth_key}
 use Rattle.wire_lib.specs.Meant.{IsNamed, MeansNumber, KeyMeansPlain, KeyMeansNode, KeyMeansBy, KeyMeans}
 use Rattle.wire_lib.specs.Refused.{IsNumberNode}
-use Rattle.wire_lib.specs.RoundTrip.{IsFixedNames, NamesDiffer, TellsParts, NamesTellParts}
 use Rattle.wire_lib.proofs.LeafLemmas.{level, ranged, same_level, range_level, number_back, character_back, both_true}
 use Rattle.wire_lib.proofs.NullLemmas.{one_field}
 use Rattle.wire_lib.proofs.ParsedLemmas.{inside_struct}

@@ -14,6 +14,7 @@ use Rattle.schema_table.specs.declared.node.Node.TheVariants as node
 use Rattle.schema_table.specs.declared.schema.Names.{Names}
 use Rattle.schema_table.specs.declared.schema.Names.TheVariants as names
 use Rattle.schema_table.specs.declared.schema.Schema.{Schema}
+use Rattle.schema_table.specs.Telling.{node_at}
 use Rattle.schemas.specs.declared.value.Value.{Value, Text, Bytes, Group, U8, Variant, out-Value, roll-Value, the_lemmas}
 use Rattle.schemas.specs.declared.value.Value.TheOpen.{Value-F}
 use Rattle.schemas.specs.Schemas.{AtTop, EachHas, FieldsHave, NodeHas, OfVariant, PayloadHas, SchemaHas, SchemaTakes, TakesPayload, OfBool, OfChar, OfText, OfBytes}
@@ -28,7 +29,7 @@ use Rattle.json.specs.Value.{value_view, items_view, members_view}
 use Rattle.json.specs.declared.value.Value as json
 use Rattle.json.specs.declared.value.Value.TheOpen.{Value-F as Parsed-F}
 use Rattle.wire_lib.specs.InRange.{AreAllBytes, Fits, InRange, IsByte, are_bytes, are_in_range}
-use Rattle.wire_lib.specs.Looks.{HasNoFields, is_byte_node, node_at, variant_named}
+use Rattle.wire_lib.specs.Looks.{HasNoFields, is_byte_node, variant_named}
 use Rattle.wire_lib.specs.Meant.{AreNamedOnce, AreBytes, AreBytesOf, AreNamed, HasMember, HasOnlyFields, HasShape, IsHex, IsIndexOf, IsNamed, IsOneOf, MeansByte, MeansBytes, MeansPlain, count_items, count_members}
 use Rattle.wire_lib.specs.Parsed.{IsOfEnum, IsOfLeaf, IsOfType}
 use Rattle.wire_lib.specs.Refused.{NoneOf}

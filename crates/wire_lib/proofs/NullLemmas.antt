@@ -12,13 +12,14 @@ use Rattle.schema_table.specs.declared.node.Node.TheVariants as node
 use Rattle.schema_table.specs.declared.schema.Names.{Names}
 use Rattle.schema_table.specs.declared.schema.Names.TheVariants as names
 use Rattle.schema_table.specs.declared.schema.Schema.{Schema}
+use Rattle.schema_table.specs.Telling.{names_at, node_at}
 use Rattle.schemas.specs.declared.integer.Integer.{Integer}
 use Rattle.schemas.specs.declared.integer.Integer.TheVariants as integers
 use Rattle.schemas.specs.declared.value.Value.{Value, out-Value}
 use Rattle.schemas.specs.declared.value.Value.TheOpen.{Value-F}
 use Rattle.schemas.specs.Schemas.{SchemaHas, NodeHas, PlaceHas, FieldsHave}
 use Rattle.wire_lib.specs.Floats.{ShowsFinite}
-use Rattle.wire_lib.specs.Looks.{names_at, node_at, is_unit_named, is_newtype_named, is_empty_named, is_float_named, null_node, null_type, null_within, asked_by, inside_of, only_field, variant_named}
+use Rattle.wire_lib.specs.Looks.{is_unit_named, is_newtype_named, is_empty_named, is_float_named, null_node, null_type, null_within, asked_by, inside_of, only_field, variant_named}
 use Rattle.wire_lib.specs.Printed.{digits_by, integer_json, bytes_json, plain_json, Shows, ShowsAll, ShowsMap, ShowsNamed, ShowsNode, ShowsVariant, ShowsChosen, ShowsFloat, ShowsInteger}
 use Rattle.wire_lib.proofs.LeafLemmas.{IsLeaf}
 use Rattle.wire_lib.proofs.ParsedLemmas.{IsStruct, inside_struct}

@@ -18,6 +18,7 @@ use Rattle.schema_table.specs.declared.node.Node.TheVariants as node
 use Rattle.schema_table.specs.declared.schema.Names.{Names}
 use Rattle.schema_table.specs.declared.schema.Names.TheVariants as names
 use Rattle.schema_table.specs.declared.schema.Schema.{Schema}
+use Rattle.schema_table.specs.Telling.{names_at, node_at}
 use Rattle.schemas.specs.declared.integer.Integer.{Integer}
 use Rattle.schemas.specs.declared.value.Value.{Value, out-Value, LE, BE, Text, Bytes, List as Listed, Group, Variant, the_lemmas}
 use Rattle.schemas.specs.declared.value.Value.TheOpen.{Value-F}
@@ -26,7 +27,7 @@ use Rattle.schemas.specs.Values.{tree_of, trees_in}
 use Rattle.schemas.specs.Schemas.{SchemaTakes, SchemaHas, TakesFields, TakesNode, TakesPayload, NodeHas, AtTop, OfChar, OfText, OfList, OfGroup, OfVariant, EachHas, FieldsHave, PayloadHas}
 use Rattle.json.specs.Json.{Json, null, boolean, number, string, array, object}
 use Rattle.wire_lib.specs.Floats.{NumberMeansFloat, WordMeansFloat}
-use Rattle.wire_lib.specs.Looks.{variant_named, names_at, node_at, is_byte_node, is_newtype_named, only_type, only_field, inside_of, two_types, pair_node, only_part, only_value}
+use Rattle.wire_lib.specs.Looks.{variant_named, is_byte_node, is_newtype_named, only_type, only_field, inside_of, two_types, pair_node, only_part, only_value}
 use Rattle.wire_lib.specs.Meant.{MeansFloat, Means, MeansNode, MeansEnum, MeansStruct, KeyMeans, KeyMeansBy, KeyMeansNode, chosen, AreBytesOf, MeansFields, HasOnlyFields, HasShape, IsIndexOf, IsInteger, MeansHolding, MeansNumber, MeansPlain, KeyMeansPlain}
 use Rattle.wire_lib.specs.Printed.{two_in, two_values}
 use Rattle.wire_lib.specs.Parsed.{IsGroupOf, IsOfType, IsOfNode, IsOfStruct, IsOfEnum, IsOfLeaf}

@@ -10,11 +10,11 @@ use Rattle.json.specs.Find.{get_member, get_item}
 use Rattle.json.specs.Value.{items_of}
 use Rattle.postcard_tree.specs.Tree.{part}
 use Rattle.schema_table.specs.declared.schema.Names.TheVariants as names
+use Rattle.schema_table.specs.Telling.{NamesDiffer}
 use Rattle.schemas.specs.declared.value.Value.{Value}
 use Rattle.schemas.specs.Values.{tree_of, trees_in, AreOneTree}
 use Rattle.schemas.specs.Schemas.{EachHas, FieldsHave}
 use Rattle.wire_lib.specs.Meant.{MeansItems, MeansMembers, MeansFields, field_json}
-use Rattle.wire_lib.specs.RoundTrip.{NamesDiffer}
 use Rattle.wire_lib.specs.Printed.{members_by, called, ShowsField, ShowsPart}
 
 -- what is read of a type at a place from what shows a value of it, has its tree

@@ -16,9 +16,10 @@ use Rattle.schema_table.specs.declared.node.Node.TheVariants as node
 use Rattle.schema_table.specs.declared.schema.Names.{Names}
 use Rattle.schema_table.specs.declared.schema.Names.TheVariants as names
 use Rattle.schema_table.specs.declared.schema.Schema.{Schema}
+use Rattle.schema_table.specs.Telling.{names_at, node_at}
 use Rattle.schemas.specs.declared.value.Value.{Value, out-Value}
 use Rattle.schemas.specs.declared.value.Value.TheOpen.{Value-F}
-use Rattle.wire_lib.specs.Looks.{IsUnder, names_at, node_at, is_empty_named, is_map_named, pair_node, first_is_key, key_text}
+use Rattle.wire_lib.specs.Looks.{IsUnder, is_empty_named, is_map_named, pair_node, first_is_key, key_text}
 use Rattle.wire_lib.specs.Printed.{member_tokens, members_by, first_name, other_names, called, Shows, ShowsArray, ShowsChosen, ShowsHeld, ShowsAll, ShowsList, ShowsMap, ShowsNamed, ShowsNode, ShowsObject, ShowsPair, ShowsParts, ShowsVariant, bytes_in, plain_json}
 use Rattle.wire_lib.proofs.ToldLemmas.{on_ok_as}
 

@@ -15,12 +15,13 @@ use Rattle.schema_table.specs.declared.node.Node.TheVariants as node
 use Rattle.schema_table.specs.declared.schema.Names.{Names}
 use Rattle.schema_table.specs.declared.schema.Names.TheVariants as names
 use Rattle.schema_table.specs.declared.schema.Schema.{Schema}
+use Rattle.schema_table.specs.Telling.{names_at, node_at}
 use Rattle.schemas.specs.declared.value.Value.{Value, Variant, out-Value, roll-Value}
 use Rattle.schemas.specs.declared.value.Value.TheOpen.{Value-F}
 use Rattle.schemas.specs.Schemas.{SchemaTakes, SchemaHas, TakesFields, TakesPlace, NodeHas, PlaceHas, AtTop, OfList, OfGroup, OfOption, OfVariant, EachHas, FieldsHave, PayloadHas}
 use Rattle.schemas.specs.Values.{tree_of, trees_in}
 use Rattle.wire_lib.specs.InRange.{Fits, InRange, all_true, are_in_range}
-use Rattle.wire_lib.specs.Looks.{IsPresentBy, inside_of, is_float_named, is_newtype_named, names_at, node_at, null_within, only_part, only_value, pair_node}
+use Rattle.wire_lib.specs.Looks.{IsPresentBy, inside_of, is_float_named, is_newtype_named, null_within, only_part, only_value, pair_node}
 use Rattle.wire_lib.specs.Meant.{AreBytes, IsIndexOf, IsPresent, KeyMeans, KeyMeansBy, KeyMeansNode, KeyMeansPlain, Means, MeansElements, MeansEnum, MeansField, MeansFields, MeansHeld, MeansHolding, MeansItems, MeansList, MeansMember, MeansMembers, MeansNamed, MeansNode, MeansOption, MeansPlain, MeansValue, chosen, count_items, count_members}
 use Rattle.wire_lib.specs.Parsed.{IsOfEnum, IsOfLeaf, IsOfNode, IsOfStruct, IsOfType}
 use Rattle.wire_lib.specs.Printed.{two_in, two_values}

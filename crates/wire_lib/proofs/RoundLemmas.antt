@@ -21,16 +21,17 @@ use Rattle.schema_table.specs.declared.node.Node.TheVariants as node
 use Rattle.schema_table.specs.declared.schema.Names.{Names}
 use Rattle.schema_table.specs.declared.schema.Names.TheVariants as names
 use Rattle.schema_table.specs.declared.schema.Schema.{Schema}
+use Rattle.schema_table.specs.Telling.{names_at, node_at, TellsParts, NamesTellParts}
 use Rattle.schemas.specs.declared.value.Value.{Value, out-Value, the_lemmas}
 use Rattle.schemas.specs.declared.value.Value.TheOpen.{Value-F}
 use Rattle.schemas.specs.Integers.{little_tree_of}
 use Rattle.schemas.specs.Schemas.{SchemaHas, NodeHas, PlaceHas, AtTop, OfU8, OfOption, OfList, OfGroup, OfVariant, EachHas, FieldsHave, PayloadHas}
 use Rattle.schemas.specs.Values.{tree_of, trees_in, AreOneTree}
 use Rattle.wire_lib.specs.InRange.{are_bytes, are_in_range, all_true}
-use Rattle.wire_lib.specs.Looks.{IsPresentBy, names_at, node_at, is_byte_node, is_empty_named, is_float_named, is_map_named, null_within, pair_node, first_is_key, key_text, variant_named}
+use Rattle.wire_lib.specs.Looks.{IsPresentBy, is_byte_node, is_empty_named, is_float_named, is_map_named, null_within, pair_node, first_is_key, key_text, variant_named}
 use Rattle.wire_lib.specs.Meant.{AreBytes, IsHex, KeyMeans, Means, MeansElements, MeansEnum, MeansFields, MeansFixed, MeansHeld, MeansLine, MeansList, MeansNamed, MeansNode, MeansOption, MeansPlain, MeansStruct, chosen, field_json, or_null}
 use Rattle.wire_lib.specs.Printed.{IsJsonOf, byte_before, bytes_in, two_in, two_values, Shows, ShowsAll, ShowsChosen, ShowsElements, ShowsHeld, ShowsList, ShowsMap, ShowsNamed, ShowsNode, ShowsOption, ShowsPair, ShowsStruct, ShowsVariant, ShowsEnum, ShowsFixed, ShowsInteger}
-use Rattle.wire_lib.specs.RoundTrip.{TellsParts, NamesTellParts, ReadsPrinted, line_inside}
+use Rattle.wire_lib.specs.RoundTrip.{ReadsPrinted, line_inside}
 use Rattle.wire_lib.proofs.LeafLemmas.{level, ranged, same_level, range_level, both_true, hex_back, bytes_in_range, leaf_back, float_back}
 use Rattle.wire_lib.proofs.NullLemmas.{null_shown}
 use Rattle.wire_lib.proofs.KeyLemmas.{group_tree, group_range, list_tree, list_range, variant_tree, variant_range, empty_tree, one_variant, key_back}

@@ -22,6 +22,7 @@ use Rattle.schema_table.specs.declared.node.Node.TheVariants as node
 use Rattle.schema_table.specs.declared.schema.Names.{Names}
 use Rattle.schema_table.specs.declared.schema.Names.TheVariants as names
 use Rattle.schema_table.specs.declared.schema.Schema.{Schema}
+use Rattle.schema_table.specs.Telling.{names_at, node_at, IsFixedNames, NamesDiffer, TellsParts, NamesTellParts}
 use Rattle.schemas.specs.declared.integer.Integer.{Integer}
 use Rattle.schemas.specs.declared.integer.Integer.TheVariants as integers
 use Rattle.schemas.specs.declared.value.Value.{Value, out-Value}
@@ -29,12 +30,12 @@ use Rattle.schemas.specs.declared.value.Value.TheOpen.{Value-F}
 use Rattle.schemas.specs.Schemas.{SchemaHas, NodeHas, PlaceHas, AtTop, OfU8, OfOption, OfList, OfGroup, OfVariant, EachHas, FieldsHave, PayloadHas}
 use Rattle.schemas.specs.Values.{tree_of, AreOneTree}
 use Rattle.wire_lib.specs.InRange.{Fits, is_in_range, are_bytes, are_in_range, all_true}
-use Rattle.wire_lib.specs.Looks.{HasNoFields, IsPresentBy, names_at, node_at, is_byte_node, is_empty_named, is_float_named, is_map_named, is_newtype_named, are_empty_named, null_within, pair_node, first_is_key, variant_named, plain_key_node, key_node, key_type, key_within, asked_by, inside_of, only_field, only_part, typed_part, part_of, inside_part, inside_within, key_at, key_named, key_text, plain_key, integer_key, variant_key}
+use Rattle.wire_lib.specs.Looks.{HasNoFields, IsPresentBy, is_byte_node, is_empty_named, is_float_named, is_map_named, is_newtype_named, are_empty_named, null_within, pair_node, first_is_key, variant_named, plain_key_node, key_node, key_type, key_within, asked_by, inside_of, only_field, only_part, typed_part, part_of, inside_part, inside_within, key_at, key_named, key_text, plain_key, integer_key, variant_key}
 use Rattle.wire_lib.specs.Meant.{AreBytes, AreBytesOf, IsIndexOf, IsInteger, IsNamed, KeyMeans, KeyMeansBy, KeyMeansNode, KeyMeansPlain, MayHold, Means, MeansBytes, MeansElements, MeansEnum, MeansFields, MeansFixed, MeansHeld, MeansHolding, MeansItems, MeansLine, MeansList, MeansMembers, MeansNode, MeansNumber, MeansOption, MeansPlain, MeansStruct, MeansText, chosen, count_items, count_members, field_json}
 use Rattle.wire_lib.specs.Printed.{IsJsonOf, byte_before, byte_items, bytes_in, bytes_json, called, integer_json, members_by, plain_json, two_values, Shows, ShowsAll, ShowsChosen, ShowsElements, ShowsEnum, ShowsField, ShowsFixed, ShowsHeld, ShowsInteger, ShowsList, ShowsMap, ShowsNamed, ShowsNode, ShowsOption, ShowsPair, ShowsPart, ShowsStruct, ShowsVariant}
 use Rattle.wire_lib.specs.Parsed.{IsOfType}
 use Rattle.wire_lib.specs.Refused.{IsNumberNode}
-use Rattle.wire_lib.specs.RoundTrip.{IsFixedNames, NamesDiffer, TellsParts, NamesTellParts, ReadsLine, SendsLine, SendsWhatIsRead, TakesPrinted, TakesLine, line_inside}
+use Rattle.wire_lib.specs.RoundTrip.{ReadsLine, SendsLine, SendsWhatIsRead, TakesPrinted, TakesLine, line_inside}
 use Rattle.wire_lib.specs.Summed.{message_with}
 use Rattle.wire_lib.specs.declared.receive.Reading.{Reading}
 use Rattle.wire_lib.specs.declared.send.Sending.{Sending}

@@ -8,18 +8,11 @@ use Rattle.schema_table.specs.declared.node.Node.TheVariants as node
 use Rattle.schema_table.specs.declared.schema.Names.{Names}
 use Rattle.schema_table.specs.declared.schema.Names.TheVariants as names
 use Rattle.schema_table.specs.declared.schema.Schema.{Schema}
+use Rattle.schema_table.specs.Telling.{names_at, node_at}
 use Rattle.schemas.specs.declared.integer.Integer.{Integer}
 use Rattle.schemas.specs.declared.integer.Integer.TheVariants as integers
 use Rattle.schemas.specs.declared.value.Value.{Value, out-Value}
 use Rattle.schemas.specs.declared.value.Value.TheOpen.{Value-F}
-
--- the names of the type at a place
-abbrev pub names_at : Schema → ℕ → Option Names
-names_at schema i = slice_get schema.names.items i
-
--- the node of the type at a place
-abbrev pub node_at : Schema → ℕ → Option Node
-node_at schema i = slice_get schema.nodes.items i
 
 -- whether a type is `u8`
 abbrev pub is_byte_node : Option Node → Bool

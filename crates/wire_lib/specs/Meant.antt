@@ -15,6 +15,7 @@ use Rattle.schema_table.specs.declared.node.Node.TheVariants as node
 use Rattle.schema_table.specs.declared.schema.Names.{Names}
 use Rattle.schema_table.specs.declared.schema.Names.TheVariants as names
 use Rattle.schema_table.specs.declared.schema.Schema.{Schema}
+use Rattle.schema_table.specs.Telling.{names_at, node_at}
 use Rattle.schemas.specs.declared.integer.Integer.{Integer}
 use Rattle.schemas.specs.declared.integer.Integer.TheVariants as integers
 use Rattle.schemas.specs.declared.value.Value.{Value, out-Value}
@@ -22,7 +23,7 @@ use Rattle.schemas.specs.declared.value.Value.TheOpen.{Value-F}
 use Rattle.schemas.specs.Schemas.{OfList, OfGroup}
 use Rattle.wire_lib.specs.Floats.{NumberMeansFloat, WordMeansFloat}
 use Rattle.wire_lib.specs.InRange.{Fits}
-use Rattle.wire_lib.specs.Looks.{HasNoFields, IsPresentBy, IsUnder, names_at, node_at, is_byte_node, is_empty_named, is_float_named, is_map_named, inside_of, first_is_key, null_within, only_part, pair_node, truth_key, variant_named}
+use Rattle.wire_lib.specs.Looks.{HasNoFields, IsPresentBy, IsUnder, is_byte_node, is_empty_named, is_float_named, is_map_named, inside_of, first_is_key, null_within, only_part, pair_node, truth_key, variant_named}
 use Rattle.wire_lib.specs.Printed.{two_values}
 
 -- Values without parts

@@ -17,12 +17,13 @@ use Rattle.schema_table.specs.declared.node.Node.TheVariants as node
 use Rattle.schema_table.specs.declared.schema.Names.{Names}
 use Rattle.schema_table.specs.declared.schema.Names.TheVariants as names
 use Rattle.schema_table.specs.declared.schema.Schema.{Schema}
+use Rattle.schema_table.specs.Telling.{names_at, node_at}
 use Rattle.schemas.specs.declared.integer.Integer.{Integer}
 use Rattle.schemas.specs.declared.integer.Integer.TheVariants as integers
 use Rattle.schemas.specs.declared.value.Value.{Value, out-Value}
 use Rattle.schemas.specs.declared.value.Value.TheOpen.{Value-F}
 use Rattle.wire_lib.specs.Floats.{ShowsSingle, ShowsDouble}
-use Rattle.wire_lib.specs.Looks.{IsPresentBy, IsUnder, names_at, node_at, is_byte_node, is_float_named, is_empty_named, is_map_named, null_within, pair_node, first_is_key, variant_named, key_text}
+use Rattle.wire_lib.specs.Looks.{IsPresentBy, IsUnder, is_byte_node, is_float_named, is_empty_named, is_map_named, null_within, pair_node, first_is_key, variant_named, key_text}
 
 -- a value's JSON was appended, if it is said that this succeeded
 abbrev pub AppendsJson : {E : Type 0} → Result (Unit {0}) E → Written → Written → Json → Type 0

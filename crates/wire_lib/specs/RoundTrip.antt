@@ -1,20 +1,12 @@
 -- When what is printed is read as the same value.
-use Rattle.std.specs.Prelude.{◌≡◌, ◌≢◌, ◌++◌, ◌≤◌, ℕ, List, [], ◌∷◌, map, Bool, Option, Some, None, String, length, codes, string_bytes}
-use Rattle.std.specs.List.{AllPairs}
+use Rattle.std.specs.Prelude.{◌≡◌, ◌≢◌, ◌++◌, ◌≤◌, ℕ, List, [], ◌∷◌, Bool, codes}
 use Rattle.cobs.specs.Sentinel.{frame_for}
 use Rattle.json.specs.Json.{Json, object, no_members, member}
 use Rattle.postcard_tree.specs.Spelling.{short}
-use Rattle.schema_table.specs.declared.integer.IntegerType.{IntegerType}
-use Rattle.schema_table.specs.declared.integer.IntegerType.TheVariants as integer
-use Rattle.schema_table.specs.declared.node.Node.{Node}
-use Rattle.schema_table.specs.declared.node.Node.TheVariants as node
-use Rattle.schema_table.specs.declared.schema.Names.{Names}
-use Rattle.schema_table.specs.declared.schema.Names.TheVariants as names
 use Rattle.schema_table.specs.declared.schema.Schema.{Schema}
 use Rattle.schemas.specs.declared.value.Value.{Value}
 use Rattle.schemas.specs.Values.{AreOneTree, tree_of}
 use Rattle.wire_lib.specs.InRange.{Fits}
-use Rattle.wire_lib.specs.Looks.{names_at, node_at}
 use Rattle.wire_lib.specs.Meant.{MeansText}
 use Rattle.wire_lib.specs.Parsed.{IsOfType}
 use Rattle.wire_lib.specs.Printed.{IsJsonOf, Prints}
@@ -23,54 +15,6 @@ use Rattle.wire_lib.specs.Sent.{IsFrameToSend}
 use Rattle.wire_lib.specs.Summed.{message_with}
 use Rattle.wire_lib.specs.declared.receive.Reading.{Reading}
 use Rattle.wire_lib.specs.declared.send.Sending.{Sending}
-
--- names that differ
-abbrev pub NamesDiffer : {A : Type 0} → List (String A) → Type 0
-NamesDiffer ns = AllPairs (λ s t. s ≢ t) (map string_bytes ns)
-
--- the names of a struct with these fields, as those of a Rust type: a newtype has one field at most, and no two fields have one name
-abbrev pub IsStructNames : List ℕ → Names → Type 0
-IsStructNames is names.Newtype = length is ≤ 1
-IsStructNames is names.Unit = is ≡ []
-IsStructNames is names.Empty = is ≡ []
-IsStructNames is names.Tuple = Unit {0}
-IsStructNames is (names.Fields ns) = (length ns.items ≡ length is) × NamesDiffer ns.items
-IsStructNames is _ = ⊥
-
--- those of an enum with these variants: no two variants have one name
-abbrev pub IsEnumNames : List ℕ → Names → Type 0
-IsEnumNames is (names.Variants ns) = (length ns.items ≡ length is) × NamesDiffer ns.items
-IsEnumNames is _ = ⊥
-
--- those of an integer that is sent as its bytes: a float has 32 or 64 bits
-abbrev pub IsFixedNames : IntegerType → Names → Type 0
-IsFixedNames integer.U32 names.Float = Unit {0}
-IsFixedNames integer.U64 names.Float = Unit {0}
-IsFixedNames k names.Float = ⊥
-IsFixedNames k names.Empty = ⊥
-IsFixedNames k _ = Unit {0}
-
--- those of any other type
-abbrev pub IsOtherNames : Names → Type 0
-IsOtherNames names.Empty = ⊥
-IsOtherNames _ = Unit {0}
-
--- the names of a type, which tell its parts apart
-abbrev pub AreNamesOf : Node → Names → Type 0
-AreNamesOf (node.Struct is) = IsStructNames is.items
-AreNamesOf (node.Enum is) = IsEnumNames is.items
-AreNamesOf (node.LE k) = IsFixedNames k
-AreNamesOf _ = IsOtherNames
-
--- a type has names, which tell its parts apart
-abbrev pub TellsParts : Option Node → Option Names → Type 0
-TellsParts None _ = Unit {0}
-TellsParts (Some n) None = ⊥
-TellsParts (Some n) (Some m) = AreNamesOf n m
-
--- those of each type of a table do
-abbrev pub NamesTellParts : Schema → Type 0
-NamesTellParts schema = (i : ℕ) → TellsParts (node_at schema i) (names_at schema i)
 
 -- a text is no object with the only member `value`
 abbrev pub IsBare : List ℕ → Type 0

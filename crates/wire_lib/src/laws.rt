@@ -1,7 +1,8 @@
 //! Laws of printing and parsing: functions without a body. Call one where a proof needs its contract.
 ghost use Rattle.std.specs.Prelude.{ℕ};
 ghost use Rattle.schema_table.specs.declared.schema.Schema.{Schema as Tables};
-ghost use Rattle.wire_lib.specs.RoundTrip.{NamesTellParts, ReadsLine, ReadsPrinted, SendsLine, SendsWhatIsRead, TakesLine, TakesPrinted};
+ghost use Rattle.schema_table.specs.Telling.{NamesTellParts};
+ghost use Rattle.wire_lib.specs.RoundTrip.{ReadsLine, ReadsPrinted, SendsLine, SendsWhatIsRead, TakesLine, TakesPrinted};
 ghost use Rattle.wire_lib.specs.declared.receive.Reading.{Reading as Readings};
 ghost use Rattle.wire_lib.specs.declared.send.Sending.{Sending as Sendings};
 

@@ -1,6 +1,7 @@
 //! What printing and parsing have to agree on about the JSON of a type.
 ghost use Rattle.std.specs.Prelude.{◌≡◌, ◌&&◌, IfSome, None, Some, length};
-ghost use Rattle.wire_lib.specs.Looks.{names_at, node_at, is_byte_node, is_float_named, is_empty_named, is_map_named, is_newtype_named, inside_of, only_field as field_at, null_type, null_within, are_empty_named, plain_key_node, key_type, key_within, pair_node, first_is_key};
+ghost use Rattle.schema_table.specs.Telling.{names_at, node_at};
+ghost use Rattle.wire_lib.specs.Looks.{is_byte_node, is_float_named, is_empty_named, is_map_named, is_newtype_named, inside_of, only_field as field_at, null_type, null_within, are_empty_named, plain_key_node, key_type, key_within, pair_node, first_is_key};
 
 use schema_table::{Names, Schema};
 use schemas::Node;

@@ -3,11 +3,12 @@ ghost use Rattle.std.specs.Prelude.{◌≡◌, ◌≢◌, ◌<◌, ◌+◌, ◌*
 ghost use Rattle.json.specs.Json.{Json as Tree, value as json_value, member, no_members, object, string};
 ghost use Rattle.json.specs.Value.{items_view, members_view, value_view};
 ghost use Rattle.schema_table.specs.declared.node.Node.TheVariants as kind;
+ghost use Rattle.schema_table.specs.Telling.{node_at};
 ghost use Rattle.schemas.specs.declared.value.Value.{Group, List as Listed};
 ghost use Rattle.schemas.specs.Integers.{type_of};
 ghost use Rattle.schemas.specs.Schemas.{AtTop, EachHas, OfGroup};
 ghost use Rattle.wire_lib.specs.InRange.{AreAllBytes, Fits, InRange, IsByte, IsIntegerOf};
-ghost use Rattle.wire_lib.specs.Looks.{HasNoFields, first_is_key, is_byte_node, is_map_named, node_at, pair_node, variant_named};
+ghost use Rattle.wire_lib.specs.Looks.{HasNoFields, first_is_key, is_byte_node, is_map_named, pair_node, variant_named};
 ghost use Rattle.wire_lib.specs.Meant.{AreNamedOnce, AreBytes, AreBytesOf, HasMember, HasOnlyFields, HasShape, IsHex, IsIndexOf, IsInteger, IsNamed, IsOneOf, IsPresent, KeyMeans, KeyMeansPlain, Means, MeansByte, MeansBytes, MeansElements, MeansEnum, MeansField, MeansFloat, MeansHolding, MeansItems, MeansLine, MeansList, MeansMember, MeansMembers, MeansNode, MeansNumber, MeansOption, MeansPlain, MeansStruct, MeansText, MeansValue, chosen, field_json, held_json};
 ghost use Rattle.wire_lib.specs.Parsed.{AreOfType, IsGroupOf, IsOfEnum, IsOfLeaf, IsOfNode, IsOfStruct, IsOfType};
 ghost use Rattle.wire_lib.specs.Refused.{IfNone, IfWrong, IsNumberNode, IsWrong, NoneOf};

@@ -5,9 +5,10 @@ ghost use Rattle.std.specs.List.{slice_get};
 ghost use Rattle.hex.specs.Hex.{encode_lower};
 ghost use Rattle.json.specs.Json.{null, boolean, number, string, array};
 ghost use Rattle.json.specs.Token.{key};
+ghost use Rattle.schema_table.specs.Telling.{names_at, node_at};
 ghost use Rattle.schemas.specs.declared.value.Value.{out-Value};
 ghost use Rattle.wire_lib.specs.Floats.{ShowsDouble, ShowsSingle};
-ghost use Rattle.wire_lib.specs.Looks.{IsUnder, inside_within, integer_key, is_byte_node, is_float_named, key_text, names_at, node_at, only_part as part_in, part_of, plain_key, variant_named};
+ghost use Rattle.wire_lib.specs.Looks.{IsUnder, inside_within, integer_key, is_byte_node, is_float_named, key_text, only_part as part_in, part_of, plain_key, variant_named};
 ghost use Rattle.wire_lib.specs.Printed.{AppendsJson, AppendsKey, AppendsMember, AppendsOne, Prints, Shows, ShowsArray, ShowsElements, ShowsEnum, ShowsFields, ShowsFirst, ShowsFixed, ShowsInteger, ShowsList, ShowsNamed, ShowsObject, ShowsOption, ShowsPair, ShowsPart, ShowsParts, ShowsStruct, ShowsVariant, byte_items, bytes_in, bytes_json, digits_json, first_name, integer_json, other_names, plain_json, two_values};
 
 use crate::floats::{double, single, word_of, word_of_double};

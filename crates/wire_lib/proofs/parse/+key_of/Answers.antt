@@ -1,8 +1,9 @@
 use Rattle.std.proofs.Common.{◌≡◌, ◌-◌, Some, None, arith, rules}
 use Rattle.std.specs.List.{slice_get}
 use Rattle.schema_table.specs.declared.node.Node.TheVariants as node
+use Rattle.schema_table.specs.Telling.{names_at, node_at}
 use Rattle.schemas.specs.declared.value.Value.{out-Value}
-use Rattle.wire_lib.specs.Looks.{inside_of, names_at, node_at}
+use Rattle.wire_lib.specs.Looks.{inside_of}
 use Rattle.wire_lib.specs.InRange.{Fits}
 use Rattle.wire_lib.specs.Meant.{KeyMeans}
 use Rattle.wire_lib.specs.Refused.{IfWrong, NoneOf}

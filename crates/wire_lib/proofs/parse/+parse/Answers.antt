@@ -7,8 +7,9 @@ use Rattle.json.specs.Json.{array, no_items, no_members, null, object}
 use Rattle.json.specs.declared.value.Value.{the_lemmas}
 use Rattle.json.specs.Value.{items_view, members_view, value_view}
 use Rattle.schema_table.specs.declared.node.Node.TheVariants as node
+use Rattle.schema_table.specs.Telling.{names_at, node_at}
 use Rattle.schemas.specs.Schemas.{EachHas, FieldsHave}
-use Rattle.wire_lib.specs.Looks.{first_is_key, is_float_named, is_map_named, names_at, node_at, pair_node}
+use Rattle.wire_lib.specs.Looks.{first_is_key, is_float_named, is_map_named, pair_node}
 use Rattle.wire_lib.specs.Meant.{HasOnlyFields, HasShape, IsPresent, KeyMeans, Means, MeansElements, MeansField, MeansFields, MeansItems, MeansList, MeansMember, MeansMembers, MeansStruct, MeansValue, held_json}
 use Rattle.wire_lib.specs.Parsed.{IsOfNode, IsOfType}
 use Rattle.wire_lib.specs.InRange.{Fits}

@@ -1,7 +1,7 @@
 use Rattle.std.proofs.Common.{◌≡◌, Some, arith, rules}
 use Rattle.std.proofs.lemmas.Grind.{common_steps}
-use Rattle.wire_lib.specs.Looks.{node_at}
 use Rattle.schema_table.specs.declared.node.Node.TheVariants as node
+use Rattle.schema_table.specs.Telling.{node_at}
 use Rattle.wire_lib.proofs.LeafRefusals.{empty_struct, no_depth}
 use Rattle.wire_lib.proofs.parse.no_fields.Goals as goal
 

@@ -6,9 +6,10 @@ use Rattle.json.specs.Json.{null, number, string}
 use Rattle.json.specs.Tree.{json_tokens}
 use Rattle.schema_table.specs.declared.node.Node.TheVariants as node
 use Rattle.schema_table.specs.declared.schema.Names.TheVariants as names
+use Rattle.schema_table.specs.Telling.{names_at, node_at}
 use Rattle.schemas.specs.declared.value.Value.{out-Value, the_lemmas}
 use Rattle.schemas.specs.declared.value.Value.TheOpen.{Value-F}
-use Rattle.wire_lib.specs.Looks.{names_at, node_at, key_text, pair_node, variant_named}
+use Rattle.wire_lib.specs.Looks.{key_text, pair_node, variant_named}
 use Rattle.wire_lib.specs.Printed.{Shows, ShowsFirst, ShowsNamed, ShowsPart, ShowsVariant, called, first_name, member_tokens, plain_json, two_values}
 use Rattle.wire_lib.proofs.PrintedLemmas.{shown_more, left_at, array_done, object_done, under_done, member_of, member_done, one_value, other_kind, called_first, called_none, held_shown, variant_shown, shows_node, shows_deepest, plain_node, parts_named, object_list, digits_shown, chosen_under, chosen_alone}
 use Rattle.wire_lib.proofs.print.+print.Goals as goal
