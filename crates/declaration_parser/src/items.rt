@@ -20,8 +20,9 @@ pub enum Kind {
     /// A module with a file of its own, at its name, and one whose file has another name or is in another folder.
     Outline,
     Misnamed,
-    /// Beside a module: that it stands under a condition.
+    /// Beside a module: that it stands under a condition; and beside one that is misnamed, a file that it may have.
     Conditional,
+    Elsewhere,
     /// The body of a function, which sees what surrounds it.
     Body,
     /// What belongs to a type or a trait: no name of it is seen.
@@ -281,6 +282,18 @@ impl<'a> Walk<'a> {
         behind_first(words)
     }
 
+    /// Adds the files that a module may have: those that its attributes name, and one of its own name in any folder.
+    fn add_elsewhere(&mut self, attributes: &'a [Token], name: &'a str) {
+        self.add_scope(Kind::Elsewhere, name, 0);
+        for words in attributes.windows(3) {
+            if let [of, _, path] = words
+                && of.text.as_str() == "path"
+            {
+                self.add_scope(Kind::Elsewhere, path.text.as_str().trim_matches('"'), 0);
+            }
+        }
+    }
+
     /// Reads a module, at its name, and gives what is in it or follows it.
     fn read_module(&mut self, item: &mut Item<'a>, words: &'a [Token]) -> &'a [Token] {
         let name = name_at(words).unwrap_or("");
@@ -292,7 +305,10 @@ impl<'a> Walk<'a> {
         let is_misnamed = is_moved || item.has("path");
         match (group(rest), is_misnamed) {
             (None, false) => self.add_scope(Kind::Outline, name, 0),
-            (None, true) => self.add_scope(Kind::Misnamed, name, 0),
+            (None, true) => {
+                self.add_elsewhere(item.attributes, name);
+                self.add_scope(Kind::Misnamed, name, 0)
+            }
             (Some((_, after)), _) => {
                 self.scope = self.add_scope(Kind::Module, name, after.len());
                 if is_misnamed && !is_moved {

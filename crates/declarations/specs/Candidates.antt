@@ -26,6 +26,7 @@ is_module_kind kind.Module = true
 is_module_kind kind.Outline = false
 is_module_kind kind.Misnamed = false
 is_module_kind kind.Conditional = false
+is_module_kind kind.Elsewhere = false
 is_module_kind kind.Body = false
 is_module_kind kind.Impl = false
 

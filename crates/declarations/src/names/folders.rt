@@ -37,16 +37,23 @@ fn is_in_src(folder: &str) -> bool {
         || (!is_whole && (folder.starts_with("src/") || folder.contains("/src/")))
 }
 
+/// By which name a module has a file: the file's, or its folder's.
+fn called(file: &str) -> &str {
+    let (folder, stem) = parts_of(file);
+    if stem == "mod" {
+        split_last(folder).1
+    } else {
+        stem
+    }
+}
+
 /// The module that a file is: by its name, or by its folder's.
 pub(super) fn module_of_file(file: &str) -> &str {
     let (folder, stem) = parts_of(file);
     if is_root(stem) {
         return split_last(folder.strip_suffix("/src").unwrap_or(folder)).1;
     }
-    if stem == "mod" {
-        return split_last(folder).1;
-    }
-    stem
+    called(file)
 }
 
 impl<'a> Scopes<'a> {
@@ -59,7 +66,9 @@ impl<'a> Scopes<'a> {
             if it.kind == Kind::File {
                 let (own, stem) = parts_of(self.name_of_file(it.file));
                 let has_own = is_root(stem) || stem == "mod" || has_roots(own);
-                return left == own && has_own || without_last(left, stem) == Some(own);
+                // one that a `#[path]` names has them beside it
+                let is_named = without_last(left, stem) == Some(own) && !self.is_elsewhere(it.file);
+                return left == own && has_own || is_named;
             }
             if it.kind == Kind::Module {
                 let Some(before) = without_last(left, it.name) else {
@@ -90,14 +99,29 @@ impl<'a> Scopes<'a> {
         files.next().is_none().then_some(found)
     }
 
-    /// The module that has a file, if one of these files has it and no other does.
+    /// Whether a module may have a file that isn't where the module's name says.
+    fn is_elsewhere(&self, file: usize) -> bool {
+        let own = called(self.name_of_file(file));
+        let mut scopes = self.scopes.iter();
+        scopes.any(|it| it.kind == Kind::Elsewhere && called(it.name) == own)
+    }
+
+    /// Whether a module may have a file: by where it is, or by a `#[path]`.
+    fn may_have(&self, module: usize, file: usize) -> bool {
+        let it = self.scope(module);
+        match it.kind {
+            Kind::Outline => it.name == self.scope(file).name && self.is_file_in(it.outer, file),
+            Kind::Elsewhere => called(it.name) == called(self.name_of_file(file)),
+            _ => false,
+        }
+    }
+
+    /// The module that has a file, if one of these files has it and no other may.
     fn parent_of(&self, file: usize) -> Option<usize> {
-        let own = self.scope(file).name;
-        let mut modules = self.scopes.iter().filter(|it| it.kind == Kind::Outline
-            && it.name == own
-            && self.is_file_in(it.outer, file));
-        let found = modules.next()?;
-        modules.next().is_none().then_some(found.outer)
+        let mut modules = (0..self.scopes.len()).filter(|at| self.may_have(*at, file));
+        let found = self.scope(modules.next()?);
+        let is_only = found.kind == Kind::Outline && modules.next().is_none();
+        is_only.then_some(found.outer)
     }
 
     /// The module round another one, if these files have it.
@@ -114,10 +138,15 @@ impl<'a> Scopes<'a> {
         parts_of(self.name_of_file(file)).1 == "lib"
     }
 
-    /// Whether a file has no module round it: it is the root of a crate, or alone and not in its `src`.
-    pub(super) fn is_top_file(&self, file: usize) -> bool {
+    /// Whether a file may be the root of a crate: by its name, by its folder, or since it is alone and not in a `src`.
+    fn may_be_root(&self, file: usize) -> bool {
         let (folder, stem) = parts_of(self.name_of_file(file));
         is_root(stem) || has_roots(folder) || (self.files.len() == 1 && !is_in_src(folder))
+    }
+
+    /// Whether a file is the root of a crate, and no module has it.
+    pub(super) fn is_top_file(&self, file: usize) -> bool {
+        self.may_be_root(file) && !(0..self.scopes.len()).any(|at| self.may_have(at, file))
     }
 
     /// The root of the crate whose modules lead to a scope. Words in no file are taken as those of the only file.
@@ -129,8 +158,8 @@ impl<'a> Scopes<'a> {
             _ => return None,
         };
         for _ in 0..self.files.len() {
-            if self.is_top_file(own) {
-                return Some(own);
+            if self.may_be_root(own) {
+                return self.is_top_file(own).then_some(own);
             }
             own = self.scope(self.parent_of(own)?).file;
         }
