@@ -268,7 +268,8 @@ export class Table {
       const parts = node.node !== undefined ? [node.node] : node.nodes ?? (node.fields ?? node.variants ?? []).map((it) => it.node);
       const known = INTEGER.test(node.kind) || NO_PARTS.has(node.kind) ||
         node.kind === "enum" || (PARTS.has(node.kind) && node[PARTS.get(node.kind)] !== undefined);
-      const named = (node.fields ?? node.variants ?? []).every((it) => typeof it.name === "string");
+      const names = (node.fields ?? node.variants ?? []).map((it) => it.name);
+      const named = names.every((it) => typeof it === "string") && new Set(names).size === names.length;
       const isWhole = (node.kind !== "array" || isCount(node.count)) && (node.most == null || isCount(node.most)) &&
         (node.kind !== "fixed" || (INTEGER.test(node.integer) && ["little", "big"].includes(node.order)));
       if (!known || !parts.every(isPlace) || !named || !isWhole) {

@@ -99,7 +99,8 @@ assert.throws(() => of({ kind: "u8" }).write(0, '{"value":1}', { wrapped: false 
 assert.throws(() => list.write(0, none, { wrapped: 1 }), TypeError);
 // a table that isn't whole is refused as such, before bytes are read by it
 for (const node of [null, 5, { kind: "struct" }, { kind: "tuple" }, { kind: "option" }, { kind: "list", most: -1, node: 0 }, { kind: "array", node: 0 },
-  { kind: "array", node: 0, count: -1 }, { kind: "array", count: 1 }, { kind: "fixed", integer: "u16" }, { kind: "text", most: "5" }, { kind: "other", undefined: 0 }]) {
+  { kind: "array", node: 0, count: -1 }, { kind: "array", count: 1 }, { kind: "fixed", integer: "u16" }, { kind: "text", most: "5" }, { kind: "other", undefined: 0 },
+  { kind: "struct", fields: [{ name: "a", node: 0 }, { name: "a", node: 0 }] }, { kind: "enum", variants: [{ name: "A", node: 0 }, { name: "A", node: 0 }] }]) {
   assert.throws(() => of({ kind: "u8" }, node), /the table has a node that/, JSON.stringify(node));
 }
 // types of one name are told apart by their lines; without a line none is chosen
