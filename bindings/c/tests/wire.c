@@ -150,28 +150,39 @@ static void inside(void) {
     CHECK(said.used == 3 && begins(said, room, "{\"cut\":{\"from\":0,\"to\":3}}"));
 }
 
-/* each allocation fails in turn: nothing is left over */
-static void memory(void) {
+static struct wire_said called(int call, char *room, size_t room_length) {
     struct wire_terms terms = {0, 0, 1, 0, 0, 1};
-    char room[512];
+    return call == 0   ? reads("Reading", &terms, stream, sizeof stream, room, room_length)
+           : call == 1 ? writes("Reading", value, (uint8_t *)room, room_length)
+                       : writes("Reading", "[]\n", (uint8_t *)room, room_length);
+}
+
+/* each allocation fails in turn: the call says so, or does without it what it does else; nothing is left over */
+static void memory(void) {
+    char room[512], whole_room[512];
     long failed = 0;
     for (int call = 0; call < 3; call++) {
+        struct wire_said whole = called(call, whole_room, sizeof whole_room);
+        CHECK(whole.status == (call == 2 ? WIRE_REFUSED : WIRE_DONE));
         for (long n = 0;; n++) {
             left = n;
-            struct wire_said said = call == 0   ? reads("Reading", &terms, stream, sizeof stream, room, sizeof room)
-                                    : call == 1 ? writes("Reading", value, (uint8_t *)room, sizeof room)
-                                                : writes("Reading", "[]\n", (uint8_t *)room, sizeof room);
+            struct wire_said said = called(call, room, sizeof room);
             int has_failed = left < 0;
             left = -1;
             CHECK(live == 0);
+            if (said.status == WIRE_NO_MEMORY) {
+                CHECK(has_failed && said.length == 0 && said.used == 0);
+                failed++;
+            } else {
+                CHECK(said.status == whole.status && said.length == whole.length && said.used == whole.used && said.inside == whole.inside);
+                CHECK(memcmp(room, whole_room, whole.length) == 0);
+            }
             if (!has_failed) {
-                CHECK(said.status == (call == 2 ? WIRE_REFUSED : WIRE_DONE));
                 break;
             }
-            CHECK(said.status == WIRE_NO_MEMORY && said.length == 0 && said.used == 0);
-            failed++;
         }
     }
+    CHECK(failed > 0);
     printf("%ld allocations refused\n", failed);
 }
 
