@@ -1,41 +1,43 @@
 -- The positions of declarations among the tokens of files.
-use Rattle.std.specs.Prelude.{◌≡◌, List, [], ◌∷◌, ◌++◌, flat_map}
+use Rattle.std.specs.Prelude.{◌≡◌, ◌≤◌, ℕ, List, [], ◌∷◌, ◌++◌, max}
 use Rattle.declaration_parser.specs.declared.declaration.Declaration.{Declaration}
-use Rattle.declaration_parser.specs.declared.tokens.Read.{Read}
-use Rattle.declaration_parser.specs.declared.tokens.Token.{Token}
+use Rattle.declaration_parser.specs.declared.tokens.File.{File}
+use Rattle.declaration_parser.specs.declared.tokens.Tokens.{Tokens}
+use Rattle.declaration_parser.specs.declared.tokens.Words.{Words}
 use Rattle.declaration_parser.specs.Marked.{NoMark}
 
--- A declaration is the first in these tokens, with `rest` after it: what precedes its marks and attributes is skipped, and has
--- no mark, nor have its words after them.
-pub record StandsFirst (it : Declaration) (tokens rest : List Token) : Type 0 where
-  pub skipped : List Token
-  pub whole : tokens ≡ skipped ++ (it.attributes.now ++ (it.words.now ++ rest))
-  pub skipped_unmarked : NoMark skipped
-  pub words_unmarked : NoMark it.words.now
+-- A declaration is the first at a place: what precedes its marks and attributes is skipped, and has no mark, nor have its words
+-- after them.
+pub record StandsFirst (tokens : Tokens) (it : Declaration) (from : ℕ) : Type 0 where
+  pub follows : from ≤ it.attributes.from
+  pub skipped_unmarked : NoMark tokens from it.attributes.from
+  pub attributes_within : it.attributes.from ≤ it.attributes.to
+  pub joined : it.words.from ≡ it.attributes.to
+  pub words_within : it.words.from ≤ it.words.to
+  pub words_unmarked : NoMark tokens it.words.from it.words.to
 
--- Each token is in one of these declarations, in their order, or is skipped: and then it is no mark.
-abbrev pub AreDeclaredIn : List Declaration → List Token → Type 0
-AreDeclaredIn [] tokens = NoMark tokens
-AreDeclaredIn (it ∷ more) tokens =
-    (rest : List Token) × StandsFirst it tokens rest × AreDeclaredIn more rest
+-- Each token from one place up to another is in one of these declarations, in their order, or is skipped: and then it is no mark.
+abbrev pub AreDeclaredIn : Tokens → List Declaration → ℕ → ℕ → Type 0
+AreDeclaredIn tokens [] from to = NoMark tokens from to
+AreDeclaredIn tokens (it ∷ more) from to = StandsFirst tokens it from × AreDeclaredIn tokens more it.words.to to
 
--- these are the declarations of what was read, whatever follows
-abbrev pub AreGoneOver : List Declaration → List Token → Type 0
-AreGoneOver found over =
-    (more : List Declaration) (rest : List Token) → AreDeclaredIn more rest
-    → AreDeclaredIn (found ++ more) (over ++ rest)
+-- these are the declarations up to a place, whatever follows
+abbrev pub Accounts : Tokens → List Declaration → ℕ → Type 0
+Accounts tokens found place =
+    (more : List Declaration) (to : ℕ) → AreDeclaredIn tokens more place to → AreDeclaredIn tokens (found ++ more) 0 to
 
--- going over these tokens, each of which is in a declaration or is skipped, makes one list of declarations another
-abbrev pub Accounts : List Declaration → List Declaration → List Token → Type 0
-Accounts before found tokens =
-    (over : List Token) → AreGoneOver before over → AreGoneOver found (over ++ tokens)
+-- a declaration with these attributes and words was added to others
+pub record AddsDeclaration (before found : List Declaration) (attributes words : Words) : Type 0 where
+  pub it : Declaration
+  pub whole : found ≡ before ++ (it ∷ [])
+  pub its_attributes : it.attributes ≡ attributes
+  pub its_words : it.words ≡ words
 
--- so these tokens were read up to the rest, which is left
-pub record GoneOver (before found : List Declaration) (tokens rest : List Token) : Type 0 where
-  pub front : List Token
-  pub whole : tokens ≡ front ++ rest
-  pub accounts : Accounts before found front
+-- the place behind these files, which follow a place
+abbrev pub end_after : ℕ → List File → ℕ
+end_after place [] = place
+end_after place (file ∷ more) = end_after (max file.words.to place) more
 
--- the tokens of files, one after another
-abbrev pub tokens_in : List Read → List Token
-tokens_in = flat_map (λ file. file.tokens.items)
+-- the place behind all files
+abbrev pub end_of : List File → ℕ
+end_of files = end_after 0 files

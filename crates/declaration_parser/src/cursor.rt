@@ -1,37 +1,40 @@
 //! Reading tokens one after another, up to the first thing that is wrong.
-use crate::attributes::first_word;
 use crate::faults::Faults;
-use crate::tokens::Token;
+use crate::tokens::{NO_NAME, Name, Token, Tokens, Word, Words};
 use std::alloc::Global;
 
 /// Takes tokens from the start. What is wrong is noted and hides the tokens after it, so those who read need not ask after each
 /// step.
 #[derive(Drop)]
 pub struct Cursor<'a> {
+    pub tokens: &'a Tokens,
     /// The tokens that aren't read yet.
-    pub rest: &'a [Token],
-    /// The line of the last token that was read.
+    pub rest: Words,
+    /// The file of the last token that was read, and its line.
+    pub file: usize,
     pub line: usize,
     /// The type that is read, its variant and its field, by place and name: each is empty outside of one.
-    pub name: &'a str,
-    pub variant: &'a str,
-    pub field: Option<(usize, &'a str)>,
+    pub name: Name,
+    pub variant: Name,
+    pub field: Option<(usize, Name)>,
     /// Whether what is wrong is noted without its line, since it isn't in a file.
     pub is_without_line: bool,
     /// What is wrong, a line each.
-    pub faults: Faults<'a>,
+    pub faults: Faults,
     /// Whether something is wrong.
     pub is_wrong: bool,
 }
 
 impl<'a> Cursor<'a> {
-    /// At the start of tokens.
-    pub fn new(alloc: Global, rest: &'a [Token]) -> Cursor<'a> {
+    /// At the start of words of a file.
+    pub fn new(alloc: Global, tokens: &'a Tokens, file: usize, rest: Words) -> Cursor<'a> {
         Cursor {
+            tokens,
             rest,
+            file,
             line: 0,
-            name: "",
-            variant: "",
+            name: NO_NAME,
+            variant: NO_NAME,
             field: None,
             is_without_line: false,
             faults: Faults::new(alloc),
@@ -39,25 +42,23 @@ impl<'a> Cursor<'a> {
         }
     }
 
-    /// The next token, which stays; nothing at the end.
-    pub fn peek(&self) -> &'a str {
-        first_word(self.rest)
+    /// Which word the next token is, which stays.
+    pub fn peek(&self) -> Word {
+        self.tokens.front(self.rest)
     }
 
-    /// Takes the next token.
-    pub fn step(&mut self) -> &'a str {
-        match self.rest {
-            [token, rest @ ..] => {
-                self.rest = rest;
-                self.line = token.line;
-                token.text.as_str()
-            }
-            _ => "",
+    /// Takes the next token; none at the end.
+    pub fn step(&mut self) -> Token {
+        let token = self.tokens.first(self.rest);
+        if !self.rest.is_empty() {
+            self.rest = self.rest.behind_first();
+            self.line = token.line;
         }
+        token
     }
 
-    /// Takes the next token if it is this one.
-    pub fn take(&mut self, wanted: &str) -> bool {
+    /// Takes the next token if it is this word.
+    pub fn take(&mut self, wanted: Word) -> bool {
         let found = self.peek() == wanted;
         if found {
             self.step();
@@ -69,15 +70,17 @@ impl<'a> Cursor<'a> {
     pub fn want(&mut self, is_wanted: bool, wanted: &str) {
         let next = self.step();
         if !is_wanted {
-            self.wrong(&[wanted, " in place of `", next, "`"]);
+            let name = self.tokens.text(next.name);
+            self.wrong(&[wanted, " in place of `", name, "`"]);
         }
     }
 
-    /// Takes this token, which must be next.
-    pub fn owe(&mut self, wanted: &str) {
+    /// Takes this word, which must be next.
+    pub fn owe(&mut self, wanted: Word, text: &str) {
         let next = self.step();
-        if next != wanted {
-            self.wrong(&["`", wanted, "` is wanted in place of `", next, "`"]);
+        if next.word != wanted {
+            let name = self.tokens.text(next.name);
+            self.wrong(&["`", text, "` is wanted in place of `", name, "`"]);
         }
     }
 
@@ -88,8 +91,17 @@ impl<'a> Cursor<'a> {
             self.faults.put_all(pieces);
             self.faults.put("\n");
             self.is_wrong = true;
-            self.rest = &[];
+            self.rest.from = self.rest.to;
         }
+    }
+
+    /// Notes why a name is wrong: what is said after it.
+    pub fn refuse(&mut self, name: Name, why: &str) {
+        self.wrong(&["`", self.tokens.text(name), why]);
+    }
+
+    fn put_name(&mut self, name: Name) {
+        self.faults.put(self.tokens.text(name));
     }
 
     /// Notes the line, and which type is read, which variant and which field of it, as far as one is.
@@ -97,15 +109,20 @@ impl<'a> Cursor<'a> {
         if self.is_without_line {
             return;
         }
-        self.faults.put_line_number(self.line);
-        if self.name.is_empty() {
+        self.faults
+            .put_line(self.tokens.name_of_file(self.file), self.line);
+        if self.name == NO_NAME {
             return;
         }
-        let parted = if self.variant.is_empty() { "" } else { "::" };
-        self.faults.put_all(&["`", self.name, parted, self.variant]);
+        self.faults.put("`");
+        self.put_name(self.name);
+        self.faults
+            .put(if self.variant == NO_NAME { "" } else { "::" });
+        self.put_name(self.variant);
         if let Some((place, name)) = self.field {
-            self.faults.put_all(&[".", name]);
-            if name.is_empty() {
+            self.faults.put(".");
+            self.put_name(name);
+            if name == NO_NAME {
                 self.faults.put_number(place);
             }
         }
@@ -113,15 +130,10 @@ impl<'a> Cursor<'a> {
     }
 
     /// Turns to these tokens, unless something is wrong.
-    pub fn turn_to(&mut self, rest: &'a [Token]) {
+    pub fn turn_to(&mut self, rest: Words) {
         if !self.is_wrong {
             self.rest = rest;
         }
-    }
-
-    /// Notes why a word is wrong: what is said after it.
-    pub fn refuse(&mut self, word: &str, why: &str) {
-        self.wrong(&["`", word, why]);
     }
 
     /// Appends to a list.

@@ -1,5 +1,5 @@
-//! The declarations of message types, which borrow their words from the tokens that they were read from.
-use crate::tokens::{Read, Token};
+//! The declarations of message types, by their words among the tokens that they were read from.
+use crate::tokens::{Name, SERIALIZE, Words};
 
 /// How the bytes of a field are arranged.
 #[derive(Clone, Copy, Default, PartialEq, Eq, Drop)]
@@ -19,13 +19,13 @@ pub enum Layout {
 
 /// A field.
 #[derive(Clone, Copy, Drop)]
-pub struct Field<'a> {
+pub struct Field {
     /// Its place among the fields.
     pub place: usize,
     /// Its name; empty if it has none.
-    pub name: &'a str,
+    pub name: Name,
     /// The words of its type.
-    pub of: &'a [Token],
+    pub of: Words,
     /// How its bytes are arranged, if an attribute says it.
     pub layout: Layout,
 }
@@ -43,26 +43,26 @@ pub enum Form {
 
 /// The fields of a struct or of a variant.
 #[derive(Drop)]
-pub struct Fields<'a> {
+pub struct Fields {
     pub form: Form,
     /// Those that are sent.
-    pub items: Vec<Field<'a>>,
+    pub items: Vec<Field>,
     /// How many are declared.
     pub count: usize,
 }
 
 /// A variant of an enum.
 #[derive(Drop)]
-pub struct VariantOf<'a> {
-    pub name: &'a str,
-    pub fields: Fields<'a>,
+pub struct VariantOf {
+    pub name: Name,
+    pub fields: Fields,
 }
 
 /// What is declared.
 #[derive(Drop)]
-pub enum Body<'a> {
-    Struct(Fields<'a>),
-    Enum(Vec<VariantOf<'a>>),
+pub enum Body {
+    Struct(Fields),
+    Enum(Vec<VariantOf>),
 }
 
 /// What a declaration is marked for: one of them at least.
@@ -74,9 +74,9 @@ pub struct Marks {
 
 impl Marks {
     /// Whether the derive of this name is one of them.
-    pub fn has(&self, derive: &str) -> bool {
+    pub fn has(&self, derive: Name) -> bool {
         match derive {
-            "Serialize" => self.written,
+            SERIALIZE => self.written,
             _ => self.read,
         }
     }
@@ -90,25 +90,25 @@ impl Marks {
 
 /// A message type.
 #[derive(Drop)]
-pub struct Declaration<'a> {
+pub struct Declaration {
     /// Its comments and attributes.
-    pub attributes: &'a [Token],
+    pub attributes: Words,
     /// The words after these.
-    pub words: &'a [Token],
-    pub name: &'a str,
-    /// The file that it is in, and its place among the items of all files.
-    pub file: &'a Read,
+    pub words: Words,
+    pub name: Name,
+    /// The file that it is in, by its place, and its own place among the items of all files.
+    pub file: usize,
     pub item: usize,
     /// The line of its name.
     pub line: usize,
     /// Its lifetimes and type parameters.
-    pub parameters: Vec<&'a str>,
+    pub parameters: Vec<Name>,
     /// Those of them that are lengths.
-    pub lengths: Vec<&'a str>,
+    pub lengths: Vec<Name>,
     /// The words of all, with `<` and `>`, and those of the bounds after `where`.
-    pub generics: &'a [Token],
-    pub bounds: &'a [Token],
-    pub body: Body<'a>,
+    pub generics: Words,
+    pub bounds: Words,
+    pub body: Body,
     pub marks: Marks,
     /// Those of the marks that no `use` can make another crate's: of comments, and of derives by their paths.
     pub sure: Marks,
@@ -116,9 +116,9 @@ pub struct Declaration<'a> {
     pub wrong: String,
 }
 
-impl Declaration<'_> {
+impl Declaration {
     /// Whether a derive of this name marks it, which a `use` may make another crate's.
-    pub fn is_by_use(&self, derive: &str) -> bool {
+    pub fn is_by_use(&self, derive: Name) -> bool {
         self.marks.has(derive) && !self.sure.has(derive)
     }
 }

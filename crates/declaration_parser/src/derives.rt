@@ -1,5 +1,6 @@
 //! Serde's derives, and those of other crates that are called as these.
-use crate::tokens::{Token, Word, is_listed};
+use crate::texts::is_listed;
+use crate::tokens::{Name, Token, Tokens, Word, Words};
 
 /// Crates that have serde's derives, also by the name that a `Cargo.toml` often gives serde.
 const OF_SERDE: &str = "serde serde_core serde_crate serde_derive";
@@ -22,42 +23,52 @@ pub fn has_own(krate: &str) -> bool {
 }
 
 /// The last word of a derive's path, unless it is another crate's: serde's derives are passed on by others too.
-pub fn derive_of(path: &[Token]) -> Option<&Token> {
-    match path {
-        [name] => Some(name),
-        [.., krate, _, _, name] if !has_own(krate.text.as_str()) => Some(name),
-        _ => None,
+pub fn derive_of(tokens: &Tokens, path: Words) -> Option<Token> {
+    let krate = tokens.nth(path, path.len().saturating_sub(4));
+    match path.len() {
+        0 | 2 | 3 => None,
+        count if count > 1 && has_own(tokens.text(krate.name)) => None,
+        _ => Some(tokens.last(path)),
     }
 }
 
 /// Whether a derive among these words has this name.
-pub fn is_derived(words: &[Token], name: &str) -> bool {
+pub fn is_derived(tokens: &Tokens, words: Words, name: Name) -> bool {
     let mut is_derive = false;
-    for token in words {
-        if is_derive && token.text.as_str() == name {
+    let mut rest = words;
+    for _ in 0..words.len() {
+        let token = tokens.first(rest);
+        if is_derive && token.name == name {
             return true;
         }
-        let goes_on = is_derive && !matches!(token.word, Word::Close);
-        is_derive = goes_on || matches!(token.word, Word::Derive);
+        is_derive = match token.word {
+            Word::Derive => true,
+            Word::Close => false,
+            _ => is_derive,
+        };
+        rest = rest.behind_first();
     }
     false
 }
 
 /// Another name of a derive of serde's, or of a crate that has others, which a `use` brings in and a derive has.
-pub fn renamed_derive(tokens: &[Token]) -> Option<&Token> {
+pub fn renamed_derive(tokens: &Tokens, words: Words) -> Option<Token> {
     // Whether the `use` that is gone over is of another crate that has such derives.
     let mut is_other = false;
-    for words in tokens.windows(3) {
-        match words {
-            [of, it, _] if matches!(of.word, Word::Import) => is_other = has_own(it.text.as_str()),
-            [own, by, name]
-                if matches!(by.word, Word::As)
-                    && !matches!(name.word, Word::OfSerde)
-                    && (has_own(own.text.as_str())
-                        || (!is_other && matches!(own.word, Word::OfSerde)))
-                    && is_derived(tokens, name.text.as_str()) => return Some(name),
-            _ => {}
+    let mut rest = words;
+    for _ in 2..words.len() {
+        let (own, by, name) = (tokens.first(rest), tokens.nth(rest, 1), tokens.nth(rest, 2));
+        let is_own = matches!(own.word, Word::OfSerde) && !is_other;
+        if matches!(own.word, Word::Import) {
+            is_other = has_own(tokens.text(by.name));
+        } else if matches!(by.word, Word::As)
+            && !matches!(name.word, Word::OfSerde)
+            && (is_own || has_own(tokens.text(own.name)))
+            && is_derived(tokens, words, name.name)
+        {
+            return Some(name);
         }
+        rest = rest.behind_first();
     }
     None
 }

@@ -6,32 +6,22 @@ use std::fmt::Write;
 
 /// Lines that are made of pieces. If memory runs out, the calls go on, and [`finished`](Faults::finished) says so at the end.
 #[derive(Drop)]
-pub struct Faults<'a> {
+pub struct Faults {
     whole: String,
-    /// The file of which something is noted; empty if it has no name.
-    file: &'a str,
     failed: bool,
 }
 
-impl<'a> Faults<'a> {
+impl Faults {
     ghost use Rattle.declaration_parser.specs.Silent.{SaysNothing};
 
     /// Nothing is wrong.
-    pub fn new(alloc: Global) -> Faults<'a>
+    pub fn new(alloc: Global) -> Faults
         ensures { SaysNothing result }
     {
         Faults {
             whole: String::new(alloc),
-            file: "",
             failed: false,
         }
-    }
-
-    /// What is noted from now on is of this file.
-    pub fn turn_to(&mut self, file: &'a str)
-        ensures { SaysNothing self.new → SaysNothing self.old }
-    {
-        self.file = file;
     }
 
     /// Appends a piece.
@@ -61,11 +51,11 @@ impl<'a> Faults<'a> {
     }
 
     /// Appends how what is said of a line begins: with its file, if that has a name.
-    pub fn put_line_number(&mut self, line: usize)
+    pub fn put_line(&mut self, file: &str, line: usize)
         ensures { ¬ SaysNothing self.new }
     {
-        if !self.file.is_empty() {
-            self.put(self.file);
+        if !file.is_empty() {
+            self.put(file);
             self.put(": ");
         }
         self.put("line ");
@@ -74,11 +64,13 @@ impl<'a> Faults<'a> {
     }
 
     /// Appends what is said of a word in a line.
-    pub fn refuse(&mut self, line: usize, word: &str, why: &str)
+    pub fn refuse(&mut self, file: &str, line: usize, word: &str, why: &str)
         ensures { ¬ SaysNothing self.new }
     {
-        self.put_line_number(line);
-        self.put_all(&["`", word, why]);
+        self.put_line(file, line);
+        self.put("`");
+        self.put(word);
+        self.put(why);
     }
 
     /// Notes whether memory ran out for something.
@@ -97,7 +89,7 @@ impl<'a> Faults<'a> {
     }
 
     /// The lines. The others note whether there was memory for them.
-    pub fn apart_from(self, others: &mut Faults<'_>) -> String
+    pub fn apart_from(self, others: &mut Faults) -> String
         ensures { SaysNothing others.new → SaysNothing others.old }
     {
         others.note(self.failed);
@@ -106,7 +98,7 @@ impl<'a> Faults<'a> {
 
     /// The lines, if there was memory for them.
     pub fn finished(self) -> Result<String, AllocError>
-        ensures { IfOk result (λ s. string_bytes s ≡ [] → SaysNothing self.entry) }
+        ensures { IfOk result (λ s. string_bytes s ≡ [] → SaysNothing self) }
     {
         if self.failed {
             return Err(AllocError);

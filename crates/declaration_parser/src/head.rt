@@ -1,42 +1,67 @@
 //! What precedes a declaration: attributes, and comments that mark.
-use crate::attributes::{AttributeWalk, first_part, front, held, same_words};
+use crate::attributes::AttributeWalk;
 use crate::declaration::Marks;
 use crate::derives::derive_of;
-use crate::tokens::{Token, Word};
+use crate::tokens::{Token, Tokens, Word, Words};
 
 /// What marks add up to.
 #[derive(Clone, Copy, Default, Drop)]
-pub struct Marking<'a> {
+pub struct Marking {
     pub marks: Marks,
     /// Those that comments make, and derives by their paths.
     pub sure: Marks,
     /// The condition of the first derive that marks, if there is one; empty if it has none.
-    condition: Option<&'a [Token]>,
+    condition: Option<Words>,
     /// Whether another derive that marks has another condition.
     has_others: bool,
     /// Whether the declaration, or a derive that marks it, has a condition.
     pub is_conditional: bool,
     /// Whether derives alone mark.
     pub is_derived: bool,
-    /// The line of the first word in comments that marks nothing, and the word. Beside a derive that marks a comment may be a
-    /// headline.
-    pub wrong: Option<(usize, &'a str)>,
+    /// The first comment of which a word marks nothing. Beside a derive that marks a comment may be a headline.
+    pub wrong: Option<Token>,
     /// A derive that is called otherwise than serde's, and so may send other bytes.
-    pub other: Option<&'a Token>,
+    pub other: Option<Token>,
 }
 
-impl<'a> Marking<'a> {
+/// Whether a word of a comment that marks is one of serde's derives, and which.
+fn side_of(word: &str) -> Option<bool> {
+    match word {
+        "Serialize" => Some(true),
+        "Deserialize" => Some(false),
+        _ => None,
+    }
+}
+
+/// The words after the colon of a comment that marks; without one it marks all.
+fn words_of(comment: &str) -> &str {
+    match comment.split_once(':') {
+        Some((_, words)) => words,
+        None => "Serialize, Deserialize",
+    }
+}
+
+/// The first word of a comment that marks nothing.
+pub fn wrong_word(comment: &str) -> Option<&str> {
+    for word in words_of(comment).split(',') {
+        if side_of(word.trim()).is_none() {
+            return Some(word.trim());
+        }
+    }
+    None
+}
+
+impl Marking {
     /// Adds what derives of these paths mark under a condition: all whose names begin as those of serde's traits.
-    fn add_derived(&mut self, paths: &'a [Token], condition: &'a [Token]) {
+    fn add_derived(&mut self, tokens: &Tokens, paths: Words, condition: Words) {
         let mut rest = paths;
         for _ in 0..paths.len() {
-            let (path, behind) = first_part(rest);
+            let (path, behind) = tokens.first_part(rest);
             rest = behind;
-            let Some(name) = derive_of(path) else {
-                continue;
-            };
-            let is_written = name.text.as_str().starts_with("Serialize");
-            if !is_written && !name.text.as_str().starts_with("Deserialize") {
+            let name = derive_of(tokens, path).unwrap_or_default();
+            let text = tokens.text(name.name);
+            let is_written = text.starts_with("Serialize");
+            if !is_written && !text.starts_with("Deserialize") {
                 continue;
             }
             self.marks.add(is_written);
@@ -45,7 +70,7 @@ impl<'a> Marking<'a> {
             }
             self.is_conditional = self.is_conditional || !condition.is_empty();
             match self.condition {
-                Some(first) if !same_words(first, condition) => self.has_others = true,
+                Some(first) if !tokens.are_same(first, condition) => self.has_others = true,
                 _ => self.condition = Some(condition),
             }
             if !matches!(name.word, Word::OfSerde) {
@@ -55,34 +80,35 @@ impl<'a> Marking<'a> {
     }
 
     /// Adds what a comment marks, all if it has no words.
-    fn add_comment(&mut self, comment: &'a Token) {
-        let parts = comment.text.as_str().split_once(':');
-        let (_, words) = parts.unwrap_or(("", "Serialize, Deserialize"));
-        for word in words.split(',') {
-            let word = word.trim();
-            let is_written = word == "Serialize";
-            if is_written || word == "Deserialize" {
+    fn add_comment(&mut self, tokens: &Tokens, mark: Token) {
+        for word in words_of(tokens.text(mark.name)).split(',') {
+            if let Some(is_written) = side_of(word.trim()) {
                 self.marks.add(is_written);
                 self.sure.add(is_written);
                 self.is_derived = false;
             } else if self.wrong.is_none() {
-                self.wrong = Some((comment.line, word));
+                self.wrong = Some(mark);
             }
         }
     }
 
     /// What attributes and comments mark.
-    pub fn of(attributes: &'a [Token]) -> Marking<'a> {
+    pub fn of(tokens: &Tokens, attributes: Words) -> Marking {
         let mut marking = Marking {
             is_derived: true,
             ..Marking::default()
         };
-        for it in AttributeWalk::of(attributes) {
-            match (front(it.words), it.words) {
-                (Word::Mark, [mark]) => marking.add_comment(mark),
+        let mut walk = AttributeWalk::of(attributes);
+        for _ in 0..=attributes.len() {
+            let Some(it) = walk.next(tokens) else {
+                break;
+            };
+            let first = tokens.first(it.words);
+            match first.word {
+                Word::Mark => marking.add_comment(tokens, first),
                 // more conditions may make a `cfg`
-                (Word::Condition, _) => marking.is_conditional = true,
-                (Word::Derive, _) => marking.add_derived(held(it.words), it.condition),
+                Word::Condition | Word::Conditional => marking.is_conditional = true,
+                Word::Derive => marking.add_derived(tokens, tokens.held(it.words), it.condition),
                 _ => {}
             }
         }
@@ -93,8 +119,11 @@ impl<'a> Marking<'a> {
     }
 
     /// Whether all derives that mark have this condition, so that what is under it holds where they do.
-    pub fn is_under(&self, condition: &[Token]) -> bool {
-        !self.has_others && matches!(self.condition, Some(own) if same_words(own, condition))
+    pub fn is_under(&self, tokens: &Tokens, condition: Words) -> bool {
+        match self.condition {
+            Some(own) => !self.has_others && tokens.are_same(own, condition),
+            None => false,
+        }
     }
 
     /// Whether a declaration is marked, or was meant to be.

@@ -1,16 +1,10 @@
 //! The items of files, found in one pass, and the scopes that they are in.
-use crate::attributes::{
-    AttributeWalk, attribute, behind, behind_first, first_word, front, group, name_at, passed_over,
-    split_before, type_up_to, up_to,
-};
-use crate::tokens::{Token, Word, is_among, is_listed, is_name};
+use crate::attributes::AttributeWalk;
+use crate::tokens::{NO_NAME, Name, Tokens, Word, Words};
 use std::alloc::Global;
 
 /// What ends the words of an item before its body.
-const BODY: &[&str] = &["{", ";"];
-
-/// Words whose value a `!` behind them negates.
-const BEFORE_VALUE: &[&str] = &["break", "else", "if", "in", "match", "return", "while"];
+pub const BODY: &[Word] = &[Word::Brace, Word::Semicolon];
 
 /// What a scope is.
 #[derive(Clone, Copy, PartialEq, Eq, Drop)]
@@ -31,14 +25,14 @@ pub enum Kind {
 
 /// A file, a module that is written in one, or a body.
 #[derive(Clone, Copy, Drop)]
-pub struct Scope<'a> {
+pub struct Scope {
     pub kind: Kind,
-    pub name: &'a str,
+    pub name: Name,
     /// The file by its place among all.
     pub file: usize,
     /// The scope round it; of a file its own.
     pub outer: usize,
-    /// How many tokens of the file are left where it ends.
+    /// The place of the token after it; 0 of what has no tokens.
     pub end: usize,
 }
 
@@ -62,42 +56,50 @@ pub enum ItemKind {
 
 /// An item.
 #[derive(Clone, Copy, Drop)]
-pub struct Item<'a> {
+pub struct Item {
     /// Its place among all items of all files.
     pub place: usize,
     pub kind: ItemKind,
     pub scope: usize,
-    /// How many tokens of its file are left where it begins.
-    pub left: usize,
     /// Its attributes and marks, and whether `pub` is behind them.
-    pub attributes: &'a [Token],
+    pub attributes: Words,
     pub is_public: bool,
     /// Its words after the one that says what it is; all of a call, and none of what declares no name.
-    pub words: &'a [Token],
+    pub words: Words,
     /// What a call holds.
-    pub inside: &'a [Token],
+    pub inside: Words,
 }
 
 /// Goes over the tokens of files. If memory runs out for something, `failed` says so.
 #[derive(Drop)]
 pub struct Walk<'a> {
-    pub scopes: Vec<Scope<'a>>,
-    pub items: Vec<Item<'a>>,
+    tokens: &'a Tokens,
+    pub scopes: Vec<Scope>,
+    pub items: Vec<Item>,
     /// The next file.
     file: usize,
-    /// The scope that is gone over, and how many tokens are left behind the words of an item, in which there is no other, and
-    /// behind the module whose files are in another folder.
+    /// The scope that is gone over, and the places behind the words of an item, in which there is no other, and behind the
+    /// module whose files are in another folder.
     scope: usize,
     quiet: usize,
     moved: usize,
     pub failed: bool,
 }
 
-impl Item<'_> {
+impl Item {
     /// Whether an attribute of this name is before it, under a condition or none. One that more conditions make may be any.
-    pub fn has(&self, name: &str) -> bool {
-        let names = [name, "cfg_attr"];
-        AttributeWalk::of(self.attributes).any(|it| is_among(first_word(it.words), &names))
+    pub fn has(&self, tokens: &Tokens, name: Word) -> bool {
+        let mut walk = AttributeWalk::of(self.attributes);
+        for _ in 0..=self.attributes.len() {
+            let Some(it) = walk.next(tokens) else {
+                break;
+            };
+            let word = tokens.front(it.words);
+            if word == name || matches!(word, Word::Conditional) {
+                return true;
+            }
+        }
+        false
     }
 
     /// How many tokens after its attributes are passed over with it: those of a call.
@@ -110,12 +112,12 @@ impl Item<'_> {
 }
 
 /// What follows the attributes and marks at the start.
-fn behind_attributes(tokens: &[Token]) -> &[Token] {
-    let mut rest = tokens;
-    for _ in 0..tokens.len() {
-        rest = match (attribute(rest), front(rest)) {
+fn behind_attributes(tokens: &Tokens, words: Words) -> Words {
+    let mut rest = words;
+    for _ in 0..words.len() {
+        rest = match (tokens.attribute(rest), tokens.front(rest)) {
             (Some((_, behind)), _) => behind,
-            (None, Word::Mark) => behind_first(rest),
+            (None, Word::Mark) => rest.behind_first(),
             _ => break,
         };
     }
@@ -123,26 +125,27 @@ fn behind_attributes(tokens: &[Token]) -> &[Token] {
 }
 
 impl<'a> Walk<'a> {
-    /// No items yet, and the scopes of so many files, which have no names.
-    pub fn new(alloc: Global, files: usize) -> Walk<'a> {
+    /// No items yet, and the scopes of the files, which have no names.
+    pub fn new(alloc: Global, tokens: &'a Tokens) -> Walk<'a> {
         let mut walk = Walk {
+            tokens,
             scopes: Vec::new(alloc),
             items: Vec::new(alloc),
             file: 0,
             scope: 0,
             quiet: 0,
-            moved: usize::MAX,
+            moved: 0,
             failed: false,
         };
-        for place in 0..files {
+        for place in 0..tokens.files.len() {
             walk.scope = place;
-            walk.add_scope(Kind::File, "", 0);
+            walk.add_scope(Kind::File, NO_NAME, 0);
         }
         walk
     }
 
     /// Adds a scope in this one, which ends there, and gives its place.
-    fn add_scope(&mut self, kind: Kind, name: &'a str, end: usize) -> usize {
+    fn add_scope(&mut self, kind: Kind, name: Name, end: usize) -> usize {
         let place = self.scopes.len();
         let outer = self.scope;
         let file = self.scopes.get(outer).map_or(outer, |it| it.file);
@@ -157,14 +160,14 @@ impl<'a> Walk<'a> {
         place
     }
 
-    /// Adds the items of the next file.
-    pub fn read_file(&mut self, tokens: &'a [Token]) {
+    /// Adds the items of the next file, which has these words.
+    pub fn read_file(&mut self, words: Words) {
         self.scope = self.file;
         self.file = self.file.saturating_add(1);
-        self.quiet = tokens.len();
-        self.moved = usize::MAX;
-        let mut rest = tokens;
-        for _ in 0..tokens.len() {
+        self.quiet = 0;
+        self.moved = 0;
+        let mut rest = words;
+        for _ in 0..words.len() {
             if rest.is_empty() {
                 break;
             }
@@ -173,19 +176,18 @@ impl<'a> Walk<'a> {
     }
 
     /// Adds the item at the start, and gives the tokens to go on with: in its words, if there may be attributes in them.
-    fn read_front(&mut self, tokens: &'a [Token]) -> &'a [Token] {
-        self.leave(tokens.len());
-        let words = behind_attributes(tokens);
-        let (attributes, _) = split_before(tokens, words);
+    fn read_front(&mut self, tokens: Words) -> Words {
+        self.leave(tokens.from);
+        let words = behind_attributes(self.tokens, tokens);
+        let attributes = tokens.before(words);
         let mut item = Item {
             place: self.items.len(),
             kind: ItemKind::Other,
             scope: self.scope,
-            left: tokens.len(),
             attributes,
             is_public: false,
-            words: &[],
-            inside: &[],
+            words: Words::default(),
+            inside: Words::default(),
         };
         let rest = self.read_words(&mut item, words);
         if item.kind != ItemKind::Other || !attributes.is_empty() {
@@ -194,45 +196,48 @@ impl<'a> Walk<'a> {
         rest
     }
 
-    /// Turns to the scope of what so many tokens are left of.
-    fn leave(&mut self, left: usize) {
+    /// Turns to the scope of the token at a place.
+    fn leave(&mut self, place: usize) {
         for _ in 0..self.scopes.len() {
             match self.scopes.get(self.scope) {
-                Some(it) if it.kind != Kind::File && left <= it.end => self.scope = it.outer,
+                Some(it) if it.kind != Kind::File && place >= it.end => self.scope = it.outer,
                 _ => break,
             }
         }
     }
 
     /// Reads what follows attributes: a call of a macro, words of an item, or what begins one.
-    fn read_words(&mut self, item: &mut Item<'a>, words: &'a [Token]) -> &'a [Token] {
-        let is_quiet = words.len() > self.quiet;
-        let word = first_word(words);
-        if let Some((inside, rest)) = passed_over(words)
-            && (!is_quiet || rest.len() >= self.quiet)
-            && (word == "#" || (is_name(word) && !is_among(word, BEFORE_VALUE)))
+    fn read_words(&mut self, item: &mut Item, words: Words) -> Words {
+        let is_quiet = words.from < self.quiet;
+        let first = self.tokens.first(words);
+        let word = first.word;
+        let is_named = first.is_name && !matches!(word, Word::BeforeValue | Word::In);
+        if let Some((inside, rest)) = self.tokens.passed_over(words)
+            && (!is_quiet || rest.from <= self.quiet)
+            && (matches!(word, Word::Hash) || is_named)
         {
             item.kind = match word {
-                "macro_rules" => ItemKind::Rules,
-                _ if is_quiet || word == "#" => ItemKind::Hidden,
+                Word::Rules => ItemKind::Rules,
+                _ if is_quiet || matches!(word, Word::Hash) => ItemKind::Hidden,
                 _ => ItemKind::Call,
             };
-            (item.words, _) = split_before(words, rest);
+            item.words = words.before(rest);
             item.inside = inside;
             return rest;
         }
         if is_quiet {
-            return behind_first(words);
+            return words.behind_first();
         }
-        item.is_public = matches!(front(words), Word::Public);
-        self.read_item(item, behind_public(words))
+        item.is_public = matches!(word, Word::Public);
+        self.read_item(item, behind_public(self.tokens, words))
     }
 
     /// Reads what an item begins with, and gives what follows: at its name.
-    fn read_item(&mut self, it: &mut Item<'a>, words: &'a [Token]) -> &'a [Token] {
-        let rest = behind_first(words);
-        let named = name_at(rest).is_some();
-        let kind = match front(words) {
+    fn read_item(&mut self, it: &mut Item, words: Words) -> Words {
+        let rest = words.behind_first();
+        let next = self.tokens.first(rest);
+        let named = next.is_name;
+        let kind = match self.tokens.front(words) {
             Word::Module if named => return self.read_module(it, rest),
             Word::Function if named => return self.read_body(Kind::Body, words),
             Word::Brace => return self.read_body(Kind::Body, words),
@@ -241,8 +246,8 @@ impl<'a> Walk<'a> {
             Word::Alias if named => ItemKind::Alias,
             Word::Constant if named => ItemKind::Constant,
             Word::Static if named => ItemKind::Static,
-            Word::Import if !matches!(front(rest), Word::Less) => ItemKind::Import,
-            Word::External if matches!(front(rest), Word::Leading) => ItemKind::Crate,
+            Word::Import if !matches!(next.word, Word::Less) => ItemKind::Import,
+            Word::External if matches!(next.word, Word::Crate | Word::Mutable) => ItemKind::Crate,
             // Attributes may follow a `pub` that begins none of these.
             _ => return if it.is_public { words } else { rest },
         };
@@ -252,69 +257,76 @@ impl<'a> Walk<'a> {
 
     /// Takes the words of an item from its name on, up to a type's body or a semicolon. What the value of a constant or a static
     /// holds may declare types for itself.
-    fn take(&mut self, item: &mut Item<'a>, kind: ItemKind, words: &'a [Token]) {
-        let words = match (kind, front(words)) {
-            (ItemKind::Static | ItemKind::Crate, Word::Leading) => behind_first(words),
+    fn take(&mut self, item: &mut Item, kind: ItemKind, words: Words) {
+        let words = match (kind, self.tokens.front(words)) {
+            (ItemKind::Static | ItemKind::Crate, Word::Crate | Word::Mutable) =>
+                words.behind_first(),
             _ => words,
         };
         let has_value = matches!(kind, ItemKind::Constant | ItemKind::Static);
-        if has_value && !matches!(front(behind_first(words)), Word::Colon) {
+        if has_value && !matches!(self.tokens.front(words.behind_first()), Word::Colon) {
             return;
         }
-        let (whole, rest) = up_to(words, if kind == ItemKind::Type { BODY } else { &[";"] });
+        let ends = if kind == ItemKind::Type {
+            BODY
+        } else {
+            &[Word::Semicolon]
+        };
+        let rest = self.tokens.up_to(words, ends);
+        let whole = words.before(rest);
         item.kind = kind;
         item.words = whole;
-        self.quiet = behind(rest).len();
+        self.quiet = self.tokens.behind(rest).from;
         if has_value {
-            let (_, value) = up_to(whole, &["="]);
-            self.quiet = rest.len().saturating_add(value.len());
-            self.scope = self.add_scope(Kind::Body, "", rest.len());
+            self.quiet = self.tokens.up_to(whole, &[Word::Equals]).from;
+            self.scope = self.add_scope(Kind::Body, NO_NAME, rest.from);
         }
     }
 
     /// Reads what has a body or a semicolon, which lengths in braces may precede, and gives what follows its first word.
-    fn read_body(&mut self, kind: Kind, words: &'a [Token]) -> &'a [Token] {
-        let (_, body) = type_up_to(words, BODY);
-        self.quiet = behind_first(body).len();
-        if let Some((_, after)) = group(body) {
-            self.scope = self.add_scope(kind, "", after.len());
+    fn read_body(&mut self, kind: Kind, words: Words) -> Words {
+        let body = self.tokens.type_up_to(words, BODY);
+        self.quiet = body.behind_first().from;
+        if let Some((_, after)) = self.tokens.group(body) {
+            self.scope = self.add_scope(kind, NO_NAME, after.from);
         }
-        behind_first(words)
+        words.behind_first()
     }
 
-    /// Adds the files that a module may have: those that its attributes name, and one of its own name in any folder.
-    fn add_elsewhere(&mut self, attributes: &'a [Token], name: &'a str) {
+    /// Adds the files that a module may have: those that its attributes name, with `"` round them, and one of its own name in
+    /// any folder.
+    fn add_elsewhere(&mut self, attributes: Words, name: Name) {
         self.add_scope(Kind::Elsewhere, name, 0);
-        for words in attributes.windows(3) {
-            if let [of, _, path] = words
-                && of.text.as_str() == "path"
-            {
-                self.add_scope(Kind::Elsewhere, path.text.as_str().trim_matches('"'), 0);
+        let mut rest = attributes;
+        for _ in 0..attributes.len() {
+            if matches!(self.tokens.front(rest), Word::Path) && rest.len() > 2 {
+                self.add_scope(Kind::Elsewhere, self.tokens.nth(rest, 2).name, 0);
             }
+            rest = rest.behind_first();
         }
     }
 
     /// Reads a module, at its name, and gives what is in it or follows it.
-    fn read_module(&mut self, item: &mut Item<'a>, words: &'a [Token]) -> &'a [Token] {
-        let name = name_at(words).unwrap_or("");
-        let rest = behind_first(words);
-        if item.has("cfg") {
+    fn read_module(&mut self, item: &mut Item, words: Words) -> Words {
+        let name = self.tokens.first(words).name;
+        let rest = words.behind_first();
+        if item.has(self.tokens, Word::Condition) {
             self.add_scope(Kind::Conditional, name, 0);
         }
-        let is_moved = rest.len() > self.moved;
-        let is_misnamed = is_moved || item.has("path");
-        match (group(rest), is_misnamed) {
+        let is_moved = rest.from < self.moved;
+        let is_misnamed = is_moved || item.has(self.tokens, Word::Path);
+        match (self.tokens.group(rest), is_misnamed) {
             (None, false) => self.add_scope(Kind::Outline, name, 0),
             (None, true) => {
                 self.add_elsewhere(item.attributes, name);
                 self.add_scope(Kind::Misnamed, name, 0)
             }
             (Some((_, after)), _) => {
-                self.scope = self.add_scope(Kind::Module, name, after.len());
+                self.scope = self.add_scope(Kind::Module, name, after.from);
                 if is_misnamed && !is_moved {
-                    self.moved = after.len();
+                    self.moved = after.from;
                 }
-                return behind_first(rest);
+                return rest.behind_first();
             }
         };
         rest
@@ -322,13 +334,17 @@ impl<'a> Walk<'a> {
 }
 
 /// What follows `pub`, with what it is limited to. A type in parentheses may follow it too, as in `pub (crate::Id)`.
-pub fn behind_public(tokens: &[Token]) -> &[Token] {
-    let rest = behind_first(tokens);
-    match (front(tokens), front(rest), group(rest)) {
-        (Word::Public, Word::Paren, Some(([only], behind)))
-            if is_listed(only.text.as_str(), "crate super self") => behind,
-        (Word::Public, Word::Paren, Some((inside, behind))) if first_word(inside) == "in" => behind,
-        (Word::Public, _, _) => rest,
-        _ => tokens,
+pub fn behind_public(tokens: &Tokens, words: Words) -> Words {
+    if !matches!(tokens.front(words), Word::Public) {
+        return words;
+    }
+    let rest = words.behind_first();
+    match (tokens.front(rest), tokens.group(rest)) {
+        (Word::Paren, Some((inside, behind))) => match tokens.front(inside) {
+            Word::In => behind,
+            Word::Crate | Word::Super | Word::Own if inside.len() == 1 => behind,
+            _ => rest,
+        },
+        _ => rest,
     }
 }

@@ -2,14 +2,12 @@
 pub mod by_hand;
 mod said;
 
-use crate::attributes::{
-    attribute, front, group, line_at, plain_name, split_before, type_up_to, up_to,
-};
 use crate::cursor::Cursor;
 use crate::declaration::{Body, Declaration, Field, Fields, Form, VariantOf};
-use crate::head::Marking;
+use crate::head::{Marking, wrong_word};
 use crate::items::behind_public;
-use crate::tokens::{Read, Token, Word, is_lifetime, is_listed, is_name};
+use crate::texts::is_listed;
+use crate::tokens::{NO_NAME, Name, Tokens, Word, Words};
 use crate::words::{
     MOST_FIELDS, NO_MARK, OF_IMPLEMENTATIONS, ONLY_FIELD, OTHER_DERIVE, TWICE, USED,
 };
@@ -18,7 +16,7 @@ use std::alloc::Global;
 use std::collections::BTreeSet;
 
 /// What ends the type of a field.
-const ENDS: &[&str] = &[",", ">", ";", "="];
+const ENDS: &[Word] = &[Word::Comma, Word::Greater, Word::Semicolon, Word::Equals];
 
 /// What declarations are read for.
 #[derive(Clone, Copy, Drop)]
@@ -34,8 +32,9 @@ pub enum Purpose {
 pub struct Job<'a, 'b> {
     pub alloc: Global,
     pub purpose: Purpose,
-    pub file: &'a Read,
-    pub by_hand: &'b [Implemented<'a>],
+    pub tokens: &'a Tokens,
+    pub file: usize,
+    pub by_hand: &'b [Implemented],
 }
 
 /// Reads a declaration from the start of tokens.
@@ -43,93 +42,110 @@ pub struct Job<'a, 'b> {
 pub struct Parser<'a, 'b> {
     job: Job<'a, 'b>,
     /// What marks the declaration.
-    marking: Marking<'a>,
+    marking: Marking,
     /// What is read, and what is wrong with it.
     pub at: Cursor<'a>,
 }
 
 impl<'a, 'b> Parser<'a, 'b> {
     /// A parser of the words of a declaration, after the attributes and comments that mark it so.
-    pub fn new(job: Job<'a, 'b>, marking: Marking<'a>, head: &[Token], rest: &'a [Token]) -> Self {
-        let mut at = Cursor::new(job.alloc, rest);
-        at.faults.turn_to(job.file.file.as_str());
-        at.line = head.last().map_or(0, |token| token.line);
-        if let Some((line, word)) = marking.wrong {
-            at.line = line;
-            at.refuse(word, NO_MARK);
+    pub fn new(job: Job<'a, 'b>, marking: Marking, head: Words, rest: Words) -> Self {
+        let mut at = Cursor::new(job.alloc, job.tokens, job.file, rest);
+        at.line = job.tokens.last(head).line;
+        if let Some(mark) = marking.wrong
+            && let Some(word) = wrong_word(job.tokens.text(mark.name))
+        {
+            at.line = mark.line;
+            at.wrong(&["`", word, NO_MARK]);
         }
         Parser { job, marking, at }
     }
 
-    /// Refuses a word if implementations are to be written.
-    fn refuse_in_code(&mut self, is_wrong: bool, word: &str, why: &str) {
+    /// Says what is wrong if implementations are to be written.
+    fn refuse_in_code(&mut self, is_wrong: bool, pieces: &[&str]) {
         if is_wrong && matches!(self.job.purpose, Purpose::Implementations) {
-            self.at.refuse(word, why);
+            self.at.wrong(pieces);
         }
+    }
+
+    /// Says why a word is wrong.
+    fn refuse_word(&mut self, word: &str, why: &str) {
+        self.at.wrong(&["`", word, why]);
     }
 
     /// Takes attributes, and gives all of them.
-    fn attributes(&mut self) -> &'a [Token] {
+    fn attributes(&mut self) -> Words {
         let begun = self.at.rest;
         for _ in 0..begun.len() {
-            let Some((words, behind)) = attribute(self.at.rest) else {
+            let Some((words, behind)) = self.at.tokens.attribute(self.at.rest) else {
                 break;
             };
-            self.at.line = line_at(words);
+            self.at.line = self.at.tokens.first(words).line;
             self.at.rest = behind;
         }
-        split_before(begun, self.at.rest).0
+        begun.before(self.at.rest)
     }
 
     /// Takes a name that may be written `r#name`, and isn't one that the implementations use, if it can't be.
-    fn name_of(&mut self, is_free: bool) -> &'a str {
-        let word = self.at.peek();
-        self.at.want(is_name(word), "a name is wanted");
-        let name = plain_name(word);
+    fn name_of(&mut self, is_free: bool) -> Name {
+        let tokens = self.at.tokens;
+        let word = tokens.first(self.at.rest);
+        let name = tokens.text(word.name);
+        self.at.want(word.is_name, "a name is wanted");
+        let is_raw = matches!(word.word, Word::Raw);
         self.refuse_in_code(
-            name.len() != word.len(),
-            word,
-            "` is raw, and Rattle has no raw names: call it otherwise, since names aren't sent",
+            is_raw,
+            &[
+                "`r#",
+                name,
+                "` is raw, and Rattle has no raw names: call it otherwise, since names aren't sent",
+            ],
         );
-        self.refuse_in_code(!is_free && is_listed(name, OF_IMPLEMENTATIONS), name, USED);
-        name
+        self.refuse_in_code(
+            !is_free && is_listed(name, OF_IMPLEMENTATIONS),
+            &["`", name, USED],
+        );
+        word.name
     }
 
     /// Adds the name of a field or a variant to those before it, and refuses it if one of these has it.
-    fn take_name(&mut self, names: &mut BTreeSet<&'a str>, name: &'a str) {
+    fn take_name(&mut self, names: &mut BTreeSet<Name>, name: Name) {
         match names.insert(name) {
-            Ok(false) if !name.is_empty() => self.at.refuse(name, TWICE),
+            Ok(false) if name != NO_NAME => self.at.refuse(name, TWICE),
             added => self.at.faults.note(added.is_err()),
         }
     }
 
     /// Takes a discriminant or a field's default, which isn't sent.
     fn pass_value(&mut self) {
-        if self.at.take("=") {
-            (_, self.at.rest) = up_to(self.at.rest, &[","]);
+        if self.at.take(Word::Equals) {
+            self.at.rest = self.at.tokens.up_to(self.at.rest, &[Word::Comma]);
         }
     }
 
     /// Takes a field; nothing if it isn't sent.
-    fn item(&mut self, place: usize, named: bool) -> Option<Field<'a>> {
-        if place == MOST_FIELDS && matches!(self.job.purpose, Purpose::Implementations) {
-            self.at
-                .wrong(&["more than 36 fields: make some of them a struct"]);
-        }
+    fn item(&mut self, place: usize, named: bool) -> Option<Field> {
+        self.refuse_in_code(
+            place == MOST_FIELDS,
+            &["more than 36 fields: make some of them a struct"],
+        );
+        let tokens = self.at.tokens;
         let attributes = self.attributes();
-        self.at.rest = behind_public(self.at.rest);
-        let mut name = "";
+        self.at.rest = behind_public(tokens, self.at.rest);
+        let mut name = NO_NAME;
         if named {
             name = self.name_of(false);
-            self.at.owe(":");
+            self.at.owe(Word::Colon, ":");
         }
         self.at.field = Some((place, name));
         let said = self.said(attributes);
         let is_left_out = self.is_left_out(said);
-        let (of, rest) = type_up_to(self.at.rest, ENDS);
-        match of {
-            [.., token] => self.at.line = token.line,
-            _ => self.at.wrong(&["a type is wanted"]),
+        let rest = tokens.type_up_to(self.at.rest, ENDS);
+        let of = self.at.rest.before(rest);
+        if of.is_empty() {
+            self.at.wrong(&["a type is wanted"]);
+        } else {
+            self.at.line = tokens.last(of).line;
         }
         self.at.turn_to(rest);
         self.pass_value();
@@ -146,11 +162,11 @@ impl<'a, 'b> Parser<'a, 'b> {
     }
 
     /// Turns to what is in the group at the start, and gives what follows that.
-    fn enter(&mut self) -> &'a [Token] {
-        let Some((inside, behind)) = group(self.at.rest) else {
+    fn enter(&mut self) -> Words {
+        let Some((inside, behind)) = self.at.tokens.group(self.at.rest) else {
             self.at
                 .want(false, "what is declared is wanted, and closed,");
-            return &[];
+            return Words::default();
         };
         self.at.rest = inside;
         behind
@@ -159,13 +175,13 @@ impl<'a, 'b> Parser<'a, 'b> {
     /// Takes the comma before what is next in a list, if something is.
     fn go_on(&mut self) {
         if !self.at.rest.is_empty() {
-            self.at.owe(",");
+            self.at.owe(Word::Comma, ",");
         }
     }
 
     /// Takes fields in braces, in parentheses, or none.
-    fn fields(&mut self) -> Fields<'a> {
-        let form = match front(self.at.rest) {
+    fn fields(&mut self) -> Fields {
+        let form = match self.at.peek() {
             Word::Brace => Form::Named,
             Word::Paren => Form::Tuple,
             _ => Form::Unit,
@@ -196,7 +212,7 @@ impl<'a, 'b> Parser<'a, 'b> {
     }
 
     /// Takes the variants of an enum, which has one at least.
-    fn variants(&mut self) -> Vec<VariantOf<'a>> {
+    fn variants(&mut self) -> Vec<VariantOf> {
         let mut variants = Vec::new(self.job.alloc);
         let mut names = BTreeSet::new(self.job.alloc);
         let behind = self.enter();
@@ -218,75 +234,84 @@ impl<'a, 'b> Parser<'a, 'b> {
             self.at.keep(&mut variants, VariantOf { name, fields });
             self.go_on();
         }
-        self.at.variant = "";
+        self.at.variant = NO_NAME;
         self.at.turn_to(behind);
         variants
     }
 
     /// Takes the lifetimes and type parameters, and adds them to these, and those that are lengths to the others.
-    fn parameters(&mut self, parameters: &mut Vec<&'a str>, lengths: &mut Vec<&'a str>) {
-        if !self.at.take("<") {
+    fn parameters(&mut self, parameters: &mut Vec<Name>, lengths: &mut Vec<Name>) {
+        if !self.at.take(Word::Less) {
             return;
         }
         for _ in 0..self.at.rest.len() {
-            if self.at.peek() == ">" {
+            if matches!(self.at.peek(), Word::Greater) {
                 break;
             }
             self.attributes();
-            let is_length = self.at.take("const");
-            let name = if is_lifetime(self.at.peek()) {
-                self.at.step()
-            } else {
-                self.name_of(false)
+            let is_length = self.at.take(Word::Constant);
+            let name = match self.at.peek() {
+                Word::Lifetime => self.at.step().name,
+                _ => self.name_of(false),
             };
-            (_, self.at.rest) = type_up_to(self.at.rest, &[",", ">"]);
+            self.at.rest = self
+                .at
+                .tokens
+                .type_up_to(self.at.rest, &[Word::Comma, Word::Greater]);
             self.at.keep(parameters, name);
             if is_length {
                 self.at.keep(lengths, name);
             }
-            if !self.at.take(",") {
+            if !self.at.take(Word::Comma) {
                 break;
             }
         }
-        self.at.owe(">");
+        self.at.owe(Word::Greater, ">");
     }
 
     /// Takes `where` and gives its bounds, in which there may be lengths in braces, up to the fields or a semicolon.
-    fn bounds(&mut self) -> &'a [Token] {
-        let mut bounds: &'a [Token] = &[];
-        if self.at.take("where") {
-            (bounds, self.at.rest) = type_up_to(self.at.rest, &["{", ";"]);
+    fn bounds(&mut self) -> Words {
+        if !self.at.take(Word::Where) {
+            return Words::default();
         }
-        bounds
+        let begun = self.at.rest;
+        self.at.rest = self
+            .at
+            .tokens
+            .type_up_to(begun, &[Word::Brace, Word::Semicolon]);
+        begun.before(self.at.rest)
     }
 
     /// Takes what is declared, and the bounds that follow fields in parentheses.
-    fn body(&mut self, kind: Word, bounds: &mut &'a [Token]) -> Body<'a> {
+    fn body(&mut self, kind: Word, bounds: &mut Words) -> Body {
         if matches!(kind, Word::Enum) {
             return Body::Enum(self.variants());
         }
         let fields = self.fields();
         if matches!(fields.form, Form::Tuple) && fields.count == 1 && fields.items.is_empty() {
-            self.at.refuse("skip", ONLY_FIELD);
+            self.refuse_word("skip", ONLY_FIELD);
         }
         if !matches!(fields.form, Form::Named) {
             let after = self.bounds();
             *bounds = if bounds.is_empty() { after } else { *bounds };
-            self.at.owe(";");
+            self.at.owe(Word::Semicolon, ";");
         }
         Body::Struct(fields)
     }
 
     /// Takes a declaration, after its attributes.
-    pub fn declaration(&mut self, attributes: &'a [Token]) -> Declaration<'a> {
-        self.at.rest = behind_public(self.at.rest);
-        let kind = front(self.at.rest);
+    pub fn declaration(&mut self, attributes: Words) -> Declaration {
+        let tokens = self.at.tokens;
+        self.at.rest = behind_public(tokens, self.at.rest);
+        let kind = self.at.peek();
         let is_one = matches!(kind, Word::Struct | Word::Enum);
         self.at.want(is_one, "a struct or an enum is wanted");
         self.at.name = self.name_of(false);
         let line = self.at.line;
         // What is wrong hides what follows it, and those who use the type need its parameters.
-        let (generics, _) = type_up_to(self.at.rest, &["where", "(", "{", ";"]);
+        let begun = self.at.rest;
+        let ends = &[Word::Where, Word::Paren, Word::Brace, Word::Semicolon];
+        let generics = begun.before(tokens.type_up_to(begun, ends));
         let mut parameters = Vec::new(self.job.alloc);
         let mut lengths = Vec::new(self.job.alloc);
         self.parameters(&mut parameters, &mut lengths);
@@ -294,7 +319,7 @@ impl<'a, 'b> Parser<'a, 'b> {
         let said = self.said(attributes);
         if let Some(derive) = self.marking.other {
             self.at.line = derive.line;
-            self.at.refuse(derive.text.as_str(), OTHER_DERIVE);
+            self.at.refuse(derive.name, OTHER_DERIVE);
         }
         self.check_by_hand();
         let mut bounds = self.bounds();
@@ -303,9 +328,9 @@ impl<'a, 'b> Parser<'a, 'b> {
         self.check_transparent(said, &body);
         Declaration {
             attributes,
-            words: &[],
+            words: Words::default(),
             name: self.at.name,
-            file: self.job.file,
+            file: self.at.file,
             item: 0,
             line,
             parameters,

@@ -1,183 +1,179 @@
 //! The marked declarations of files.
-ghost use Rattle.std.specs.Prelude.{◌≡◌, ◌≤◌, ◌<◌, ◌++◌, length, take, string_bytes, IfOk, IsTrue, [], None};
-ghost use Rattle.declaration_parser.specs.Marked.{NoMark};
+ghost use Rattle.std.specs.Prelude.{◌≡◌, ◌≤◌, IfOk, IsTrue, [], None, string_bytes, length};
+ghost use Rattle.declaration_parser.specs.Marked.{NoMark, is_mark_at};
 ghost use Rattle.declaration_parser.specs.Silent.{SaysNothing};
-ghost use Rattle.declaration_parser.specs.Standing.{Accounts, AreDeclaredIn, GoneOver, tokens_in};
+ghost use Rattle.declaration_parser.specs.Standing.{Accounts, AreDeclaredIn, AddsDeclaration, end_of};
 
-use crate::attributes::{behind, first_word, line_at, type_up_to};
 use crate::declaration::Declaration;
 use crate::derives::{is_derived, renamed_derive};
 use crate::faults::Faults;
 use crate::head::Marking;
-use crate::items::{Item, ItemKind, Walk};
+use crate::items::{BODY, Item, ItemKind, Walk};
 use crate::marks::is_mark;
 use crate::parser::by_hand::Implemented;
 use crate::parser::{Job, Parser, Purpose};
-use crate::tokens::{Read, Token};
+use crate::tokens::{DESERIALIZE, SERIALIZE, Token, Tokens, Words};
 use crate::words::{ALMOST, IN_MACRO, IN_WORDS, RENAMES};
 use std::alloc::{AllocError, Global};
 
-fn first_mark(tokens: &[Token]) -> Option<&Token>
-    ensures { result ≡ None → NoMark tokens.now }
+/// Whether the token at a place is a comment that marks.
+fn marks(tokens: &Tokens, place: usize) -> bool
+    ensures { result ≡ is_mark_at tokens.now place }
 {
-    for token in tokens {
-        if is_mark(token.text.as_str()) {
-            return Some(token);
+    if let Some(token) = tokens.all.get(place)
+        && let Some(text) = tokens.texts.get(token.name)
+    {
+        return is_mark(text.as_str());
+    }
+    false
+}
+
+/// The place of the first token that marks.
+fn first_mark(tokens: &Tokens, words: Words) -> Option<usize>
+    ensures { result ≡ None → NoMark tokens.now words.from words.to }
+{
+    for place in words.from..words.to {
+        if marks(tokens, place) {
+            return Some(place);
         }
     }
     None
 }
 
-fn refuse_mark(tokens: &[Token], why: &str, faults: &mut Faults<'_>)
-    ensures silent { SaysNothing faults.new → SaysNothing faults.old }
-    ensures no_mark { SaysNothing faults.new → NoMark tokens.now }
+/// Says why a token is wrong.
+fn refuse(job: Job<'_, '_>, token: Token, why: &str, faults: &mut Faults)
+    ensures { ¬ SaysNothing faults.new }
 {
-    if let Some(token) = first_mark(tokens) {
-        faults.refuse(token.line, token.text.as_str(), why);
-    }
+    let file = job.tokens.name_of_file(job.file);
+    faults.refuse(file, token.line, job.tokens.text(token.name), why);
 }
 
-/// Refuses a call of a macro that holds something marked, and says whether it did; of rules only by comments.
-fn refuses_call(item: &Item<'_>, faults: &mut Faults<'_>) -> bool
+fn refuse_mark(job: Job<'_, '_>, words: Words, why: &str, faults: &mut Faults)
     ensures silent { SaysNothing faults.new → SaysNothing faults.old }
-    ensures said { SaysNothing faults.new → ¬ IsTrue result }
-{
-    let may_derive = matches!(item.kind, ItemKind::Call | ItemKind::Hidden);
-    let derives = may_derive
-        && (is_derived(item.inside, "Serialize") || is_derived(item.inside, "Deserialize"));
-    if !derives && first_mark(item.inside).is_none() {
-        return false;
-    }
-    faults.refuse(line_at(item.words), first_word(item.words), IN_MACRO);
-    true
-}
-
-/// Skips what isn't marked, and returns how many tokens after its attributes: those of a call.
-fn pass_over(
-    item: &Item<'_>,
-    attributes: &[Token],
-    behind: &[Token],
-    faults: &mut Faults<'_>,
-) -> usize
-    ensures silent { SaysNothing faults.new → SaysNothing faults.old }
-    ensures within { result ≤ length behind.now }
     ensures no_mark { SaysNothing faults.new
-        → NoMark (attributes.now ++ take result behind.now) }
+        → NoMark job.entry.tokens.now words.from words.to }
 {
-    let length = item.passed().min(behind.len());
-    let (passed, _) = behind.split_at(length);
-    refuse_mark(attributes, ALMOST, faults);
-    if !refuses_call(item, faults) {
-        refuse_mark(passed, ALMOST, faults);
+    if let Some(place) = first_mark(job.tokens, words) {
+        refuse(job, job.tokens.at(place), why, faults);
     }
-    length
+}
+
+/// Whether the call of a macro holds something marked; rules only by comments.
+fn holds_mark(job: Job<'_, '_>, item: &Item) -> bool {
+    let may_derive = matches!(item.kind, ItemKind::Call | ItemKind::Hidden);
+    first_mark(job.tokens, item.inside).is_some()
+        || (may_derive
+            && (is_derived(job.tokens, item.inside, SERIALIZE)
+                || is_derived(job.tokens, item.inside, DESERIALIZE)))
+}
+
+/// Skips what isn't marked: attributes, and the words of a call after them, up to this place.
+fn pass_over(job: Job<'_, '_>, item: &Item, to: usize, faults: &mut Faults)
+    ensures silent { SaysNothing faults.new → SaysNothing faults.old }
+    ensures no_mark { SaysNothing faults.new
+        → NoMark job.entry.tokens.now item.now.attributes.from to }
+{
+    let attributes = item.attributes;
+    refuse_mark(job, attributes, ALMOST, faults);
+    if holds_mark(job, item) {
+        return refuse(job, job.tokens.first(item.words), IN_MACRO, faults);
+    }
+    let from = attributes.to;
+    refuse_mark(job, Words { from, to }, ALMOST, faults);
 }
 
 /// The marked declarations that were read, and what is wrong with others.
 #[derive(Drop)]
-struct Reading<'a> {
-    found: Vec<Declaration<'a>>,
-    faults: Faults<'a>,
+struct Reading {
+    found: Vec<Declaration>,
+    faults: Faults,
 }
 
-impl<'a> Reading<'a> {
-    /// Keeps a declaration, with the item that it is, its attributes, the words after them, and what is wrong with it.
-    fn keep(
-        &mut self,
-        item: &Item<'a>,
-        mut declaration: Declaration<'a>,
-        attributes: &'a [Token],
-        words: &'a [Token],
-        wrong: Faults<'a>,
-    )
+impl Reading {
+    /// Keeps a declaration, with the item that it is, the words after its attributes, and what is wrong with it.
+    fn keep(&mut self, item: &Item, mut declaration: Declaration, words: Words, wrong: Faults)
         ensures silent { SaysNothing self.new.faults → SaysNothing self.old.faults }
-        ensures stands { SaysNothing self.new.faults → NoMark words.now
-            → Accounts self.old.found.items self.new.found.items (attributes.now ++ words.now) }
+        ensures kept { SaysNothing self.new.faults → AddsDeclaration self.old.found.items
+            self.new.found.items item.now.attributes words }
     {
         declaration.item = item.place;
-        declaration.attributes = attributes;
+        declaration.attributes = item.attributes;
         declaration.words = words;
         declaration.wrong = wrong.apart_from(&mut self.faults);
         self.faults.note(self.found.push(declaration).is_err());
     }
 
-    /// Reads an item whose attributes these are: skips it, or takes a declaration up to its body or a semicolon, and these.
-    /// Returns how many tokens after the attributes. What is wrong with a declaration is kept with it.
-    fn take(
-        &mut self,
-        job: Job<'a, '_>,
-        item: &Item<'a>,
-        attributes: &'a [Token],
-        after: &'a [Token],
-    ) -> usize
+    /// Reads an item of a file that is read up to a place, and ends at another: skips it, or takes a declaration up to its body or
+    /// a semicolon, and these. Returns up to where it is read then. What is wrong with a declaration is kept with it.
+    fn read_item(&mut self, job: Job<'_, '_>, item: &Item, place: usize, end: usize) -> usize
         ensures silent { SaysNothing self.new.faults → SaysNothing self.old.faults }
-        ensures within { result ≤ length after.now }
-        ensures stands { SaysNothing self.new.faults → Accounts self.old.found.items
-            self.new.found.items (attributes.now ++ take result after.now) }
+        ensures within { place ≤ end → result ≤ end }
+        ensures stands { SaysNothing self.new.faults
+            → Accounts job.entry.tokens.now self.old.found.items place
+            → Accounts job.entry.tokens.now self.new.found.items result }
     {
-        let marking = Marking::of(attributes);
-        if !marking.is_meant() {
-            return pass_over(item, attributes, after, &mut self.faults);
+        let attributes = item.attributes;
+        // what a declaration has taken isn't read anew
+        if attributes.from < place || attributes.to < attributes.from || end < attributes.to {
+            return place;
         }
-        let (_, body) = type_up_to(after, &["{", ";"]);
-        let length = after.len().saturating_sub(behind(body).len());
-        let (words, _) = after.split_at(length);
+        let to = attributes.from;
+        refuse_mark(job, Words { from: place, to }, ALMOST, &mut self.faults);
+        let marking = Marking::of(job.tokens, attributes);
+        if !marking.is_meant() {
+            let passed = attributes.to.saturating_add(item.passed()).min(end);
+            pass_over(job, item, passed, &mut self.faults);
+            return passed;
+        }
+        let from = attributes.to;
+        let body = job.tokens.type_up_to(Words { from, to: end }, BODY);
+        let to = job.tokens.behind(body).from.min(end).max(from);
+        let words = Words { from, to };
         let mut parser = Parser::new(job, marking, attributes, words);
         let declaration = parser.declaration(attributes);
-        refuse_mark(words, IN_WORDS, &mut self.faults);
-        self.keep(item, declaration, attributes, words, parser.at.faults);
-        length
+        refuse_mark(job, words, IN_WORDS, &mut self.faults);
+        self.keep(item, declaration, words, parser.at.faults);
+        to
     }
 
-    /// Reads an item of which so many tokens are left, and what precedes it; the tokens after it. What a declaration has taken
-    /// isn't read anew.
-    fn read_up_to(&mut self, job: Job<'a, '_>, item: &Item<'a>, tokens: &'a [Token]) -> &'a [Token]
+    /// Reads the declarations of a file with these words and items, after those of others.
+    fn add_file(&mut self, job: Job<'_, '_>, items: &[Item], words: Words)
         ensures silent { SaysNothing self.new.faults → SaysNothing self.old.faults }
-        ensures stands { SaysNothing self.new.faults
-            → GoneOver self.old.found.items self.new.found.items tokens.now result.now }
+        ensures accounts { SaysNothing self.new.faults → words.from ≤ words.to
+            → Accounts job.entry.tokens.now self.old.found.items words.from
+            → Accounts job.entry.tokens.now self.new.found.items words.to }
     {
-        if tokens.len() < item.left {
-            return tokens;
+        if let Some(file) = job.tokens.files.get(job.file) {
+            self.faults.put(file.faults.as_str());
         }
-        let (skipped, rest) = tokens.split_at(tokens.len() - item.left);
-        refuse_mark(skipped, ALMOST, &mut self.faults);
-        let (attributes, after) = rest.split_at(item.attributes.len().min(rest.len()));
-        let taken = self.take(job, item, attributes, after);
-        let (_, left) = after.split_at(taken);
-        left
-    }
-
-    /// Reads the declarations of a file, which has these items, after those of others.
-    fn add_file(&mut self, job: Job<'a, '_>, items: &[Item<'a>])
-        ensures silent { SaysNothing self.new.faults → SaysNothing self.old.faults }
-        ensures accounts { SaysNothing self.new.faults → Accounts self.old.found.items
-            self.new.found.items job.entry.file.now.tokens.items }
-    {
-        let file = job.file;
-        self.faults.put(file.faults.as_str());
-        self.faults.turn_to(file.file.as_str());
-        if let Some(name) = renamed_derive(&file.tokens) {
-            self.faults.refuse(name.line, name.text.as_str(), RENAMES);
+        if let Some(name) = renamed_derive(job.tokens, words) {
+            refuse(job, name, RENAMES, &mut self.faults);
         }
-        let mut rest: &'a [Token] = &file.tokens;
+        let mut place = words.from;
         for item in items {
-            rest = self.read_up_to(job, item, rest);
+            place = self.read_item(job, item, place, words.to);
         }
-        refuse_mark(rest, ALMOST, &mut self.faults);
+        let left = Words {
+            from: place,
+            ..words
+        };
+        refuse_mark(job, left, ALMOST, &mut self.faults);
     }
 }
 
 /// Says that nothing is marked, if there is nothing else to say.
-fn refuse_nothing<'a>(files: &'a [Read], finds_none: bool, faults: &mut Faults<'a>)
+fn refuse_nothing(tokens: &Tokens, finds_none: bool, faults: &mut Faults)
     ensures { SaysNothing faults.new → SaysNothing faults.old }
 {
     if !finds_none || !faults.is_empty() {
         return;
     }
-    if let [file] = files {
-        faults.turn_to(file.file.as_str());
-    }
-    faults.put_line_number(1);
+    let file = if tokens.files.len() == 1 {
+        tokens.name_of_file(0)
+    } else {
+        ""
+    };
+    faults.put_line(file, 1);
     faults.put("nothing is marked: write `// message` in a line of its own before a declaration\n");
 }
 
@@ -185,7 +181,7 @@ fn refuse_nothing<'a>(files: &'a [Read], finds_none: bool, faults: &mut Faults<'
 #[derive(Drop)]
 pub struct AllDeclared<'a> {
     /// What is marked.
-    pub all: Vec<Declaration<'a>>,
+    pub all: Vec<Declaration>,
     /// All items, and the scopes that they are in.
     pub walk: Walk<'a>,
     /// What is wrong with others, a line each; or that none is marked.
@@ -198,30 +194,35 @@ pub struct AllDeclared<'a> {
 pub fn declarations(
     alloc: Global,
     purpose: Purpose,
-    files: &[Read],
+    tokens: &Tokens,
 ) -> Result<AllDeclared<'_>, AllocError>
     ensures accounted { IfOk result (λ r. string_bytes r.faults ≡ []
-        → AreDeclaredIn r.all.items (tokens_in files.now)) }
+        → AreDeclaredIn tokens.now r.all.items 0 (end_of tokens.now.files.items)) }
 {
-    let mut walk = Walk::new(alloc, files.len());
+    let mut walk = Walk::new(alloc, tokens);
     let mut reading = Reading {
         found: Vec::new(alloc),
         faults: Faults::new(alloc),
     };
-    let by_hand = Implemented::all(alloc, files, &mut reading.faults);
-    for file in files {
+    let by_hand = Implemented::all(alloc, tokens)?;
+    let mut from = 0;
+    for (place, file) in tokens.files.iter().enumerate() {
+        let to = file.words.to.max(from);
+        let words = Words { from, to };
         let before = walk.items.len();
-        walk.read_file(&file.tokens);
+        walk.read_file(words);
         let job = Job {
             alloc,
             purpose,
-            file,
+            tokens,
+            file: place,
             by_hand: &by_hand,
         };
-        reading.add_file(job, walk.items.get(before..).unwrap_or(&[]));
+        reading.add_file(job, walk.items.get(before..).unwrap_or(&[]), words);
+        from = to;
     }
     reading.faults.note(walk.failed);
-    refuse_nothing(files, reading.found.is_empty(), &mut reading.faults);
+    refuse_nothing(tokens, reading.found.is_empty(), &mut reading.faults);
     let (all, faults) = (reading.found, reading.faults.finished()?);
     Ok(AllDeclared { all, walk, faults })
 }

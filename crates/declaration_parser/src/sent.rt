@@ -1,5 +1,5 @@
 //! Types of the language, and those that aren't read, with what they are sent as.
-use crate::tokens::{is_listed, row_of};
+use crate::texts::{is_listed, row_of};
 
 /// Types of the language.
 const PRIMITIVE: &str = "bool char f32 f64 i8 i16 i32 i64 i128 isize str u8 u16 u32 u64 u128 usize";

@@ -1,6 +1,5 @@
 -- The candidates of a name: the items that it can stand for at one step.
-use Rattle.std.specs.Prelude.{◌≡◌, ◌≤◌, ◌&&◌, ◌||◌, ℕ, Bool, true, false, not, List, [], ◌∷◌, Option, Some, None, filter, length, nat_eq}
-use Rattle.std.specs.Cmp.Lexicographic.{pointwise}
+use Rattle.std.specs.Prelude.{◌≡◌, ◌≤◌, ◌&&◌, ℕ, Bool, true, false, not, List, [], ◌∷◌, Option, Some, None, filter, length, nat_eq}
 use Rattle.std.specs.List.{slice_get}
 use Rattle.declarations.specs.declared.names.Item.{Item}
 use Rattle.declaration_parser.specs.declared.items.Kind.{Kind}
@@ -14,10 +13,6 @@ use Rattle.declarations.specs.declared.names.candidates.Space.{Space}
 use Rattle.declarations.specs.declared.names.candidates.Space.TheVariants as space
 use Rattle.declarations.specs.declared.names.candidates.Step.{Step}
 use Rattle.declarations.specs.declared.names.candidates.Step.TheVariants as step
-
--- whether two bytes of names are one: a crate's name has `_` (95) for the `-` (45) of its folder
-abbrev pub is_alike_byte : ℕ → ℕ → Bool
-is_alike_byte byte wanted = nat_eq byte wanted || (nat_eq byte 45 && nat_eq wanted 95)
 
 -- whether a scope is a module, whose names others see
 abbrev pub is_module_kind : Kind → Bool
@@ -34,8 +29,7 @@ is_module_kind kind.Impl = false
 abbrev pub is_of_step : Step → ℕ → Scope → Bool
 is_of_step (step.Scope own) place scope = nat_eq place own
 is_of_step step.All place scope = is_module_kind scope.kind
-is_of_step (step.Module name) place scope =
-    is_module_kind scope.kind && pointwise is_alike_byte scope.name.now name.now
+is_of_step (step.Module name) place scope = is_module_kind scope.kind && nat_eq scope.name name
 is_of_step step.Bodies place scope = not (is_module_kind scope.kind)
 
 -- whether there is a scope at a place, and it is one of a step's
@@ -62,17 +56,17 @@ is_item_of space.Constants it = is_constant_item it
 is_item_of space.Asked it = is_asked_item it
 
 -- whether an item has a name, is what the name is looked for as, and is in one of a step's scopes
-abbrev pub is_candidate : List Scope → Step → List ℕ → Space → Item → Bool
+abbrev pub is_candidate : List Scope → Step → ℕ → Space → Item → Bool
 is_candidate scopes step name space item =
-    pointwise nat_eq item.name.now name && is_item_of space item.what
+    nat_eq item.name name && is_item_of space item.what
     && is_place_of_step step item.scope (slice_get scopes item.scope)
 
 -- the candidates of a step among items
-abbrev pub candidates : List Scope → Step → List ℕ → Space → List Item → List Item
+abbrev pub candidates : List Scope → Step → ℕ → Space → List Item → List Item
 candidates scopes step name space items = filter (is_candidate scopes step name space) items
 
 -- what is told of candidates: that there are none, which is the only one, or that there are more
 abbrev pub TellsOnly : Only → List Item → Type 0
 TellsOnly only.Nothing found = found ≡ []
-TellsOnly (only.One item) found = found ≡ item.now ∷ []
+TellsOnly (only.One item) found = found ≡ item ∷ []
 TellsOnly only.Two found = 2 ≤ length found

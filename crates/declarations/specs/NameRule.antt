@@ -11,7 +11,7 @@ use Rattle.declarations.specs.declared.names.rule.Found.{Found}
 use Rattle.declarations.specs.declared.names.rule.Found.TheVariants as found
 
 -- the candidates of a step among the items of files
-abbrev pub candidates_in : Scopes → Step → List ℕ → Space → List Item
+abbrev pub candidates_in : Scopes → Step → ℕ → Space → List Item
 candidates_in files step name space = candidates files.scopes.items step name space files.items.items
 
 -- an item is answered as what it is, where it is, or refused
@@ -47,7 +47,7 @@ IsNowhereIfNone all found.Two = Unit {0}
 IsNowhereIfNone all found.Outside = Unit {0}
 
 -- This is what one item declares, in this scope, and the item is the only candidate of a step.
-pub record IsOnlyCandidate (scopes : List Scope) (items : List Item) (name : List ℕ) (space : Space) (it : What)
+pub record IsOnlyCandidate (scopes : List Scope) (items : List Item) (name : ℕ) (space : Space) (it : What)
     (scope : ℕ) : Type 0 where
   -- the step
   pub step : Step
@@ -58,7 +58,7 @@ pub record IsOnlyCandidate (scopes : List Scope) (items : List Item) (name : Lis
   pub within : item.scope ≡ scope
 
 -- if an item is answered, it is the only candidate of a step
-abbrev pub IsOnlyOfAStep : Scopes → List ℕ → Space → Found → Type 0
+abbrev pub IsOnlyOfAStep : Scopes → ℕ → Space → Found → Type 0
 IsOnlyOfAStep files name space (found.In it scope) =
     IsOnlyCandidate files.scopes.items files.items.items name space it scope
 IsOnlyOfAStep files name space (found.Known other) = Unit {0}

@@ -10,22 +10,17 @@ mod types;
 
 use crate::known::NOWHERE;
 use crate::names::Scopes;
-use crate::read::Declared;
 use crate::{CheckedSources, Error, Named, Names, Schema};
-use declaration_parser::attributes::same_words;
 use declaration_parser::cursor::Cursor;
 use declaration_parser::declaration::{Body, Declaration};
 use declaration_parser::derives::OF_OTHER_CRATE;
-use declaration_parser::tokens::{Token, is_lifetime};
+use declaration_parser::tokens::{DESERIALIZE, NO_NAME, Name, SERIALIZE, Tokens, Words};
 use schema_table::Node;
 use std::alloc::Global;
 use std::slice;
 
 /// How deep the words of one type may nest, as `Vec<Option<u8>>` nests three deep.
 const DEEPEST: u32 = 64;
-
-/// What is said of a table whose names don't tell the parts of its types apart.
-const NAMED_TWICE: &str = "two fields or two variants of a type have one name\n";
 
 /// Where words are: their scope, and the type whose parameters they may name; nowhere if they name none.
 #[derive(Clone, Copy, PartialEq, Eq, Drop)]
@@ -36,30 +31,33 @@ struct Context {
 
 /// What stands for a parameter: words, and where they are.
 #[derive(Clone, Copy, Drop)]
-struct Given<'a> {
-    name: &'a str,
+struct Given {
+    name: Name,
     is_length: bool,
-    words: &'a [Token],
+    words: Words,
     at: Context,
 }
 
 /// A declared type that the table has: which, what stands for its parameters, its place, and how deep its words may nest.
 #[derive(Drop)]
-struct Made<'a> {
+struct Made {
     index: usize,
-    of: Vec<Given<'a>>,
+    of: Vec<Given>,
     place: usize,
     depth: u32,
 }
 
 /// Makes nodes of the words of types. What is wrong is noted and hides the words after it in the same field.
 #[derive(Drop)]
-pub struct Builder<'a, 'b> {
+pub struct Builder<'a> {
     alloc: Global,
-    declared: &'b Declared<'a>,
-    names: &'b Scopes<'a>,
+    tokens: &'a Tokens,
+    /// What is declared, and the scope of words that are in no file, but asked for.
+    all: &'a [Declaration],
+    names: &'a Scopes<'a>,
+    asked: usize,
     /// The declared types that the table has, in the order in which they were met; each is made in its turn.
-    made: Vec<Made<'a>>,
+    made: Vec<Made>,
     /// Those that are refused by their own words, which is said once.
     refused: Vec<usize>,
     /// The words of a type that aren't read yet, where they are, and what is wrong in those that are read.
@@ -67,65 +65,69 @@ pub struct Builder<'a, 'b> {
     words: Cursor<'a>,
     /// How many numbers more the length that is read may be computed of.
     left: u32,
-    /// The constant that can't be one of its numbers, and why; empty if there is none.
-    doubt: (&'a str, &'a str),
+    /// The constant that can't be one of its numbers, and why; no name if there is none.
+    doubt: (Name, &'static str),
     /// Whether types were said to nest too deep.
     is_too_deep: bool,
     schema: Schema,
-    /// Of each node whether it can be read: whether the table has the places of all types in it.
+    /// Of each node whether it can be read.
     readable: Vec<bool>,
 }
 
-/// Whether the same words stand for parameters.
-fn are_same(first: &[Given<'_>], second: &[Given<'_>]) -> bool {
-    let mut pairs = first.iter().zip(second);
-    pairs.all(|(one, other)| one.at == other.at && same_words(one.words, other.words))
-}
-
-/// The places of the types in a node.
-fn parts_of(node: &Node) -> &[usize] {
-    match node {
-        Node::Struct(parts) | Node::Enum(parts) => parts,
+/// Whether the table has the places of all types in a node, and they can be read.
+fn is_right(node: &Node, readable: &[bool]) -> bool {
+    let parts = match node {
+        Node::Struct(parts) | Node::Enum(parts) => parts.as_slice(),
         Node::Option(inner)
         | Node::List(inner)
         | Node::ListUpTo(_, inner)
         | Node::Array(_, inner) => slice::from_ref(inner),
         _ => &[],
+    };
+    for part in parts {
+        if !matches!(readable.get(*part), Some(true)) {
+            return false;
+        }
     }
+    true
 }
 
 /// Notes that nodes can't be read whose types can't be, from the last node to the first; and whether there were some.
 fn find_unreadable(nodes: &[Node], readable: &mut [bool]) -> bool {
     let mut found = false;
     for (place, node) in nodes.iter().enumerate().rev() {
-        let mut parts = parts_of(node).iter();
-        let is_right = parts.all(|part| readable.get(*part).copied().unwrap_or(false));
-        if let Some(it) = readable.get_mut(place)
-            && *it != is_right
+        if !is_right(node, readable)
+            && let Some(it) = readable.get_mut(place)
         {
-            *it = is_right;
-            found = true;
+            found = found || *it;
+            *it = false;
         }
     }
     found
 }
 
-impl<'a, 'b> Builder<'a, 'b> {
-    /// A table without nodes, which begins with words that are asked for.
-    pub fn new(alloc: Global, declared: &'b Declared<'a>) -> Builder<'a, 'b> {
+impl<'a> Builder<'a> {
+    /// A table without nodes, of what these files declare.
+    pub fn new(
+        alloc: Global,
+        tokens: &'a Tokens,
+        all: &'a [Declaration],
+        names: &'a Scopes<'a>,
+        asked: usize,
+    ) -> Builder<'a> {
+        let own = NOWHERE;
         Builder {
             alloc,
-            declared,
-            names: &declared.names,
+            tokens,
+            all,
+            names,
+            asked,
             made: Vec::new(alloc),
             refused: Vec::new(alloc),
-            at: Context {
-                scope: declared.asked,
-                own: NOWHERE,
-            },
-            words: Cursor::new(alloc, &[]),
+            at: Context { scope: asked, own },
+            words: Cursor::new(alloc, tokens, 0, Words::default()),
             left: 0,
-            doubt: ("", ""),
+            doubt: (NO_NAME, ""),
             is_too_deep: false,
             schema: Schema {
                 types: Vec::new(alloc),
@@ -136,31 +138,23 @@ impl<'a, 'b> Builder<'a, 'b> {
         }
     }
 
-    /// Whether words are read that are in no file, but asked for.
-    fn is_asked(&self) -> bool {
-        self.at.scope == self.declared.asked
-    }
-
     /// Notes what is wrong at the last word, unless something is already. The place is none of the table's.
     fn wrong(&mut self, pieces: &[&str]) -> usize {
         self.words.wrong(pieces);
         NOWHERE
     }
 
-    /// Notes why a word is wrong: what is said after it.
-    fn refuse(&mut self, word: &str, why: &str) -> usize {
-        self.wrong(&["`", word, why])
+    /// Notes why a name is wrong: what is said after it.
+    fn refuse(&mut self, name: Name, why: &str) -> usize {
+        self.words.refuse(name, why);
+        NOWHERE
     }
 
     /// Turns to words that are there.
     fn turn_to(&mut self, at: Context) {
         self.at = at;
-        self.words.is_without_line = self.is_asked();
-        self.words.faults.turn_to(self.names.file_of(at.scope));
-    }
-
-    fn node(&self, place: usize) -> Option<&Node> {
-        self.schema.nodes.get(place)
+        self.words.is_without_line = at.scope == self.asked;
+        self.words.file = self.names.file_of(at.scope);
     }
 
     /// Appends a node, and gives its place.
@@ -183,36 +177,48 @@ impl<'a, 'b> Builder<'a, 'b> {
         place
     }
 
-    fn keep_name(&mut self, names: &mut Vec<String>, name: &str) {
-        let name = self.text_of(name);
-        self.words.push(names, name);
-    }
-
     fn text_of(&mut self, name: &str) -> String {
-        let text = String::from_str(self.alloc, name);
-        self.words.faults.note(text.is_err());
-        text.unwrap_or(String::new(self.alloc))
+        let mut text = String::new(self.alloc);
+        self.words.faults.note(text.push_str(name).is_err());
+        text
     }
 
-    /// Begins the table with all declared types without parameters, and says what is wrong with the files and the other types.
-    fn owe_all(&mut self) {
-        let declared = self.declared;
-        self.words.faults.put(declared.faults.as_str());
-        for (index, it) in declared.all.iter().enumerate() {
-            if !it.parameters.iter().all(|name| is_lifetime(name)) {
+    /// Whether a type has parameters that are no lifetimes.
+    fn has_parameters(&self, it: &Declaration) -> bool {
+        for name in &it.parameters {
+            if !self.tokens.text(*name).starts_with('\'') {
+                return true;
+            }
+        }
+        false
+    }
+
+    /// Gives the place of the type that words say which are asked for. Without words it begins the table with all declared types
+    /// without parameters, and says what is wrong with the files, which `faults` says, and with the other types.
+    pub fn begin(&mut self, words: Option<Words>, faults: &str) -> usize {
+        if let Some(words) = words {
+            return self.whole(words, self.at, DEEPEST);
+        }
+        self.words.faults.put(faults);
+        for (index, it) in self.all.iter().enumerate() {
+            if self.has_parameters(it) {
                 self.is_refused(index, it);
                 continue;
             }
             let of = Vec::new(self.alloc);
             self.owe_type(index, of, DEEPEST);
-            let (name, line) = (self.text_of(it.name), it.line);
-            let named = Named { name, line };
+            let name = self.text_of(self.tokens.text(it.name));
+            let named = Named {
+                name,
+                line: it.line,
+            };
             self.words.push(&mut self.schema.types, named);
         }
+        0
     }
 
     /// Whether a declaration is refused by its own words, of which it says once what is wrong.
-    fn is_refused(&mut self, index: usize, it: &Declaration<'a>) -> bool {
+    fn is_refused(&mut self, index: usize, it: &Declaration) -> bool {
         let is_refused = !it.wrong.is_empty();
         if is_refused && !self.refused.contains(&index) {
             self.words.push(&mut self.refused, index);
@@ -221,10 +227,20 @@ impl<'a, 'b> Builder<'a, 'b> {
         is_refused
     }
 
+    /// Whether the same words stand for parameters.
+    fn are_same(&self, first: &[Given], second: &[Given]) -> bool {
+        for (one, other) in first.iter().zip(second) {
+            if one.at != other.at || !self.tokens.are_same(one.words, other.words) {
+                return false;
+            }
+        }
+        true
+    }
+
     /// The place of a declared type, of what stands for its parameters. It is made later, and until then one that can't be read.
-    fn owe_type(&mut self, index: usize, of: Vec<Given<'a>>, depth: u32) -> usize {
+    fn owe_type(&mut self, index: usize, of: Vec<Given>, depth: u32) -> usize {
         for made in &self.made {
-            if made.index == index && are_same(&made.of, &of) {
+            if made.index == index && self.are_same(&made.of, &of) {
                 return made.place;
             }
         }
@@ -241,8 +257,7 @@ impl<'a, 'b> Builder<'a, 'b> {
 
     /// Makes a declared type at its place, unless it can't be read.
     fn make(&mut self, own: usize, index: usize, place: usize, depth: u32) {
-        let declared = self.declared;
-        let Some(it) = declared.all.get(index) else {
+        let Some(it) = self.all.get(index) else {
             return;
         };
         if self.is_refused(index, it) {
@@ -252,13 +267,13 @@ impl<'a, 'b> Builder<'a, 'b> {
         self.turn_to(Context { scope, own });
         self.words.is_wrong = false;
         self.words.name = it.name;
-        self.words.variant = "";
+        self.words.variant = NO_NAME;
         self.words.field = None;
         self.words.line = it.line;
         if is_second {
             self.wrong(&["the file declares this name twice: leave out what isn't on the wire"]);
         }
-        for derive in ["Serialize", "Deserialize"] {
+        for derive in [SERIALIZE, DESERIALIZE] {
             if it.is_by_use(derive) && self.names.has_other_derive(scope, derive) {
                 self.refuse(derive, OF_OTHER_CRATE);
             }
@@ -271,15 +286,6 @@ impl<'a, 'b> Builder<'a, 'b> {
             Body::Enum(variants) => self.choice(variants, depth),
         };
         self.put(place, node, names);
-    }
-
-    /// The place of the type that words say which are asked for; without words it begins with all declared types.
-    pub fn begin(&mut self, words: Option<&'a [Token]>) -> usize {
-        if let Some(words) = words {
-            return self.whole(words, self.at, DEEPEST);
-        }
-        self.owe_all();
-        0
     }
 
     /// Makes the types that are still to be made, and those that these need; then it is known what can be read.
@@ -315,7 +321,8 @@ impl<'a, 'b> Builder<'a, 'b> {
         }
         // Its declaration is refused where two fields or variants have one name.
         if !schema.names_tell_parts(builder.alloc)? {
-            return Err(Error::Wrong(String::from_str(builder.alloc, NAMED_TWICE)?));
+            let why = "two fields or two variants of a type have one name\n";
+            return Err(Error::Wrong(String::from_str(builder.alloc, why)?));
         }
         let readable = builder.readable;
         Ok(CheckedSources {

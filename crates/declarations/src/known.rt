@@ -3,7 +3,7 @@ ghost use Rattle.std.specs.Prelude.{IfSome};
 ghost use Rattle.declarations.specs.TypeWords.{IsWordOf};
 
 pub use declaration_parser::sent::{is_primitive, sent_as};
-use declaration_parser::tokens::is_listed;
+use declaration_parser::texts::is_listed;
 use schema_table::{IntegerType, Node};
 
 /// What a known type makes of what is in `<` and `>` after its name.
@@ -14,12 +14,10 @@ pub enum KnownForm {
     Option,
     /// A list, of `u8` a buffer; one of at most so many, if a length follows.
     List,
-    /// A list of at most so many.
     ListUpTo,
     /// A list, also of `u8`.
     Set,
     Outcome,
-    /// A list of pairs.
     Map,
     MapUpTo,
     Array,
@@ -39,23 +37,23 @@ pub type FormRow = (KnownForm, usize, usize);
 pub const NOWHERE: usize = usize::MAX;
 
 /// The known types that hold others, or a length. Before the length of a heap is which element comes first.
-const ROWS: &[(&str, KnownForm, usize, usize)] = &[
-    ("Arc Box Cell Cow Mutex Rc", KnownForm::Inner, 1, NOWHERE),
-    ("RefCell Reverse RwLock", KnownForm::Inner, 1, NOWHERE),
-    ("Saturating Wrapping", KnownForm::Inner, 1, NOWHERE),
-    ("Option", KnownForm::Option, 1, NOWHERE),
-    ("BTreeSet LinkedList Vec VecDeque", KnownForm::List, 1, 1),
-    ("BinaryHeap", KnownForm::List, 1, 2),
-    ("ArrayVec Deque FnvIndexSet", KnownForm::ListUpTo, 1, 1),
-    ("HashSet", KnownForm::Set, 1, NOWHERE),
-    ("Result", KnownForm::Outcome, 2, NOWHERE),
-    ("BTreeMap HashMap", KnownForm::Map, 2, NOWHERE),
-    ("FnvIndexMap LinearMap", KnownForm::MapUpTo, 2, 2),
-    ("ArrayString String", KnownForm::TextUpTo, 0, 0),
-    ("ByteArray", KnownForm::Bytes, 0, 0),
-    ("LE", KnownForm::Little, 1, NOWHERE),
-    ("BE", KnownForm::Big, 1, NOWHERE),
-    ("PhantomData", KnownForm::Tuple, 0, NOWHERE),
+const ROWS: &[(&str, FormRow)] = &[
+    ("Arc Box Cell Cow Mutex Rc", (KnownForm::Inner, 1, NOWHERE)),
+    ("RefCell Reverse RwLock", (KnownForm::Inner, 1, NOWHERE)),
+    ("Saturating Wrapping", (KnownForm::Inner, 1, NOWHERE)),
+    ("Option", (KnownForm::Option, 1, NOWHERE)),
+    ("BTreeSet LinkedList Vec VecDeque", (KnownForm::List, 1, 1)),
+    ("BinaryHeap", (KnownForm::List, 1, 2)),
+    ("ArrayVec Deque FnvIndexSet", (KnownForm::ListUpTo, 1, 1)),
+    ("HashSet", (KnownForm::Set, 1, NOWHERE)),
+    ("Result", (KnownForm::Outcome, 2, NOWHERE)),
+    ("BTreeMap HashMap", (KnownForm::Map, 2, NOWHERE)),
+    ("FnvIndexMap LinearMap", (KnownForm::MapUpTo, 2, 2)),
+    ("ArrayString String", (KnownForm::TextUpTo, 0, 0)),
+    ("ByteArray", (KnownForm::Bytes, 0, 0)),
+    ("LE", (KnownForm::Little, 1, NOWHERE)),
+    ("BE", (KnownForm::Big, 1, NOWHERE)),
+    ("PhantomData", (KnownForm::Tuple, 0, NOWHERE)),
 ];
 
 /// The node of a type that holds no other, by its word.
@@ -85,8 +83,12 @@ pub fn plain_node(word: &str) -> Option<Node>
 
 /// The form of the known type of this name, if it holds others or a length.
 pub fn form_of(word: &str) -> Option<FormRow> {
-    let (_, form, types, length) = *ROWS.iter().find(|row| is_listed(word, row.0))?;
-    Some((form, types, length))
+    for (words, row) in ROWS {
+        if is_listed(word, words) {
+            return Some(*row);
+        }
+    }
+    None
 }
 
 /// Whether every file has this name, unless it declares it or a `use` brings another in.

@@ -1,17 +1,17 @@
 //! Numbers as Rust writes them, their types, and what is computed of them.
-use declaration_parser::attributes::{behind_first, first_word};
-use declaration_parser::tokens::{Token, first_letter};
+use declaration_parser::texts::first_letter;
+use declaration_parser::tokens::{Tokens, Words};
 
 /// What the types of numbers have at most, and how many bits they have. A `usize` has 32 bits on most devices.
-const OF_NUMBERS: &[(&str, u64, u64)] = &[
-    ("u8", 0xFF, 8),
-    ("u16", 0xFFFF, 16),
-    ("u32", 0xFFFF_FFFF, 32),
-    ("u64", u64::MAX, 64),
-    ("usize", 0xFFFF_FFFF, 0),
-    ("i8", 0x7F, 8),
-    ("i16", 0x7FFF, 16),
-    ("i32", 0x7FFF_FFFF, 32),
+const OF_NUMBERS: &[(&str, (u64, u64))] = &[
+    ("u8", (0xFF, 8)),
+    ("u16", (0xFFFF, 16)),
+    ("u32", (0xFFFF_FFFF, 32)),
+    ("u64", (u64::MAX, 64)),
+    ("usize", (0xFFFF_FFFF, 0)),
+    ("i8", (0x7F, 8)),
+    ("i16", (0x7FFF, 16)),
+    ("i32", (0x7FFF_FFFF, 32)),
 ];
 
 /// A number, and the greatest value of its type.
@@ -23,36 +23,30 @@ pub struct Number {
 
 /// What a type of numbers has at most, and how many bits: 0 if devices differ.
 pub fn width_of(word: &str) -> Option<(u64, u64)> {
-    let row = OF_NUMBERS.iter().find(|row| row.0 == word)?;
-    Some((row.1, row.2))
+    for (of, width) in OF_NUMBERS {
+        if *of == word {
+            return Some(*width);
+        }
+    }
+    None
 }
 
-impl Number {
-    /// The same of a type that has at most so much, if it has this number.
-    pub fn within(self, most: u64) -> Option<Number> {
-        let value = self.value;
-        (value <= most).then_some(Number { value, most })
-    }
+/// A number of a type that has at most so much, if it has this one.
+pub fn number_of(value: u64, most: u64) -> Option<Number> {
+    (value <= most).then_some(Number { value, most })
 }
 
 /// The operator at the start of words, how weakly it binds, and the words after it: products 1, sums 2, shifts 3.
-pub fn operator_at(words: &[Token]) -> Option<(char, u32, &[Token])> {
-    let (first, rest) = words.split_first()?;
-    let word = first.text.as_str();
-    match first_letter(word)? {
-        operator @ ('*' | '/' | '%') => Some((operator, 1, rest)),
-        operator @ ('+' | '-') => Some((operator, 2, rest)),
-        operator @ ('<' | '>') if first_word(rest) == word => Some((
-            operator,
-            3,
-            behind_first(rest),
-        )),
+pub fn operator_at(tokens: &Tokens, words: Words) -> Option<(char, u32, Words)> {
+    let (first, rest) = (tokens.first(words).name, words.behind_first());
+    let is_double = tokens.first(rest).name == first;
+    let operator = first_letter(tokens.text(first))?;
+    match operator {
+        '*' | '/' | '%' => Some((operator, 1, rest)),
+        '+' | '-' => Some((operator, 2, rest)),
+        '<' | '>' if is_double => Some((operator, 3, rest.behind_first())),
         _ => None,
     }
-}
-
-fn power_of_two(times: u64) -> Option<u64> {
-    1u64.checked_shl(u32::try_from(times).ok()?)
 }
 
 /// What an operator makes of two numbers, if their type has that. What a shift is by has a type of its own.
@@ -61,16 +55,18 @@ pub fn computed_of(operator: char, first: Number, second: Number) -> Option<Numb
         '<' | '>' => first.most,
         _ => first.most.min(second.most),
     };
+    let (one, other) = (first.value, second.value);
+    let power = 1u64.checked_shl(u32::try_from(other).unwrap_or(u32::MAX));
     let value = match operator {
-        '<' => first.value.checked_mul(power_of_two(second.value)?)?,
-        '>' => first.value.checked_div(power_of_two(second.value)?)?,
-        '+' => first.value.checked_add(second.value)?,
-        '-' => first.value.checked_sub(second.value)?,
-        '*' => first.value.checked_mul(second.value)?,
-        '/' => first.value.checked_div(second.value)?,
-        _ => first.value.checked_rem(second.value)?,
+        '<' => one.checked_mul(power?),
+        '>' => one.checked_div(power?),
+        '+' => one.checked_add(other),
+        '-' => one.checked_sub(other),
+        '*' => one.checked_mul(other),
+        '/' => one.checked_div(other),
+        _ => one.checked_rem(other),
     };
-    Number { value, most }.within(most)
+    number_of(value?, most)
 }
 
 /// A number by its digits, as Rust writes it, and the type that follows them, which may be left out.

@@ -6,10 +6,10 @@ ghost use Rattle.schema_table.specs.Telling.{NamesTellParts};
 use crate::Schema;
 use crate::builder::Builder;
 use crate::names::Scopes;
-use declaration_parser::declaration::Declaration;
+use crate::names::folders::module_of;
 use declaration_parser::parser::Purpose;
 use declaration_parser::reading::{AllDeclared, declarations};
-use declaration_parser::tokens::{Read, tokens_of};
+use declaration_parser::tokens::{Name, Tokens};
 use std::alloc::{AllocError, Global};
 use std::slice;
 
@@ -48,38 +48,16 @@ pub struct CheckedSources {
     pub wrong: String,
 }
 
-/// What files declare.
-#[derive(Drop)]
-pub struct Declared<'a> {
-    pub all: Vec<Declaration<'a>>,
-    pub names: Scopes<'a>,
-    /// The scope of words that are in no file, but asked for.
-    pub asked: usize,
-    /// What is wrong with the files, a line each.
-    pub faults: String,
-}
-
-impl<'a> Declared<'a> {
-    fn new(alloc: Global, files: &'a [Read]) -> Result<Declared<'a>, AllocError> {
-        let AllDeclared { all, walk, faults } = declarations(alloc, Purpose::Schemas, files)?;
-        let mut names = Scopes::new(alloc, files, walk, &all)?;
-        let asked = names.add_outside();
-        Ok(Declared {
-            all,
-            names,
-            asked,
-            faults,
-        })
-    }
-}
-
-fn tokens_in(alloc: Global, sources: &[Source]) -> Result<Vec<Read>, AllocError> {
-    let mut files = Vec::new(alloc);
+/// The tokens of files, and the names of the modules that they are.
+fn tokens_in(alloc: Global, sources: &[Source]) -> Result<(Tokens, Vec<Name>), AllocError> {
+    let mut tokens = Tokens::new(alloc)?;
+    let mut modules = Vec::new(alloc);
     for source in sources {
-        let read = tokens_of(alloc, source.file.as_str(), source.text.as_str())?;
-        files.push(read)?;
+        tokens = tokens.with_file(alloc, source.file.as_str(), source.text.as_str())?;
+        let module = module_of(alloc, source.file.as_str())?;
+        modules.push(tokens.name_of(alloc, module.as_str())?)?;
     }
-    Ok(files)
+    Ok((tokens, modules))
 }
 
 /// The table of a type by its words, and its place there; without words of all declared types without parameters.
@@ -92,18 +70,21 @@ fn table_of(
     ensures named { IfOk result (λ r. NamesItsNodes r.0.schema) }
     ensures declared { IfOk result (λ r. HasItsTypes r.0.schema) }
 {
-    let files = tokens_in(alloc, sources)?;
-    let asked = tokens_of(alloc, "", words.unwrap_or(""))?;
-    let declared = Declared::new(alloc, &files)?;
-    let mut builder = Builder::new(alloc, &declared);
-    let place = builder.begin(words.map(|_| asked.tokens.as_slice()));
+    let (tokens, modules) = tokens_in(alloc, sources)?;
+    let mut tokens = tokens.with_file(alloc, "", words.unwrap_or(""))?;
+    let asked = match tokens.files.pop() {
+        Some(file) if words.is_some() => Some(file.words),
+        _ => None,
+    };
+    let AllDeclared { all, walk, faults } = declarations(alloc, Purpose::Schemas, &tokens)?;
+    let mut names = Scopes::new(alloc, &tokens, &modules, walk, &all)?;
+    let outside = names.add_outside();
+    let mut builder = Builder::new(alloc, &tokens, &all, &names, outside);
+    let place = builder.begin(asked, faults.as_str());
     Ok((builder.finished()?, place))
 }
-
 /// Returns one table of the marked declarations of a text: those after a line `// message`, or with `Serialize` or
-/// `Deserialize` among their derives.
-///
-/// A type may hold itself, and others that are declared before or after it.
+/// `Deserialize` among their derives. A type may hold itself.
 ///
 /// # Errors
 /// - `Wrong`: a line for each thing that can't be read, with its line in `text`.
@@ -140,14 +121,11 @@ fn unless_wrong(made: CheckedSources) -> Result<Schema, Error>
     Ok(made.schema)
 }
 
-/// Returns the table of a type, given by its words, and its place there.
-///
-/// The words are what can be the type of a field, such as `Reading`, `Framed<Accel>`, `[Rgb8; 24]`, `Result<(),
-/// Error>`, `v1::Config`. Only what they reach has to be readable.
+/// Returns the table of a type, given by words such as `Reading`, `Framed<Accel>`, `[Rgb8; 24]` or `v1::Config`, and its place
+/// there. Only what they reach has to be readable.
 ///
 /// # Errors
-/// - `Wrong`: the words are no type that can be read. If a name isn't there, the error has the nearest one, and all
-///   that there are.
+/// - `Wrong`: the words are no type that can be read. If a name isn't there, it has the nearest one, and all that there are.
 /// - `OutOfMemory`.
 pub fn read_type(alloc: Global, sources: &[Source], words: &str) -> Result<(Schema, usize), Error>
     ensures told { IfOk result (λ r. NamesTellParts r.0) }
@@ -162,8 +140,7 @@ pub fn read_type(alloc: Global, sources: &[Source], words: &str) -> Result<(Sche
     Ok((schema, place))
 }
 
-/// Returns the table of all declared types without parameters, which of them can be read, and what is wrong with the others and
-/// with the files, a line each.
+/// Returns the table of all declared types without parameters, which can be read, and what is wrong with the files and the others.
 ///
 /// # Errors
 /// - `Wrong`: no file is given.

@@ -6,78 +6,87 @@
 //! the order of the declaration, which the ghost line says.
 #![tactic(auto)]
 
-mod about;
-mod error;
-mod fields;
-mod known;
-mod names;
-mod parameters;
 mod printer;
 mod refusals;
 mod scope;
 mod text;
-mod variants;
 
-use crate::about::{ABOUT, USAGE};
-use crate::error::RunError;
-use crate::names::uses_of;
 use crate::printer::implementations;
-use crate::refusals::refused;
-use crate::scope::Origins;
-use crate::text::Text;
+use crate::scope::{Origins, spell_raw};
+use declaration_parser::faults::Faults;
 use declaration_parser::parser::Purpose;
 use declaration_parser::reading::{AllDeclared, declarations};
-use declaration_parser::tokens::tokens_of;
-use help::answer;
+use declaration_parser::tokens::Tokens;
+use help::{About, answer};
 use std::alloc::{AllocError, Global};
+use std::env;
+use std::io::{self, ErrorKind};
 use std::process::ExitCode;
-use std::{env, io, slice};
+
+/// How the program is called.
+const USAGE: &str = "usage: postcard_derive CRATE [MODULE].. [--schemas]";
+
+/// What it returns to `--help` and `--version`.
+const ABOUT: About = About {
+    name: "postcard_derive",
+    text: "writes how message types are sent and read
+
+Reads declarations of Rust or Rattle on standard input, and writes the implementations for those that
+are marked by a line `// message` or a derive; `rt fmt` lays them out. CRATE and MODULE say where the
+declarations stand; with --schemas the types have schemas too. Status: 0 where they are written, 1
+where a declaration can't be, 2 at wrong words, 3 if a device failed, 4 out of memory.
+",
+    usage: USAGE,
+};
 
 /// The path of the definitions of a module: of the crate and the modules in it that these name; empty if one is no name.
 fn path_of(alloc: Global, names: &[String]) -> Result<String, AllocError> {
-    let mut path = Text::new(alloc);
+    let mut path = Faults::new(alloc);
     for (place, name) in names.iter().enumerate() {
         if name.starts_with('-') {
             return Ok(String::new(alloc));
         }
-        path.put(if place > 0 { "." } else { "" });
-        path.put_all(&[name, if place > 0 { "" } else { ".specs.declared" }]);
+        path.put_all(&[".", name, if place > 0 { "" } else { ".specs.declared" }]);
     }
-    path.made.finished()
+    path.finished()
 }
 
-/// Writes the implementations, or what is wrong to standard error; the status.
-fn run(rt: &HostRuntime, path: &str, with_schemas: bool) -> Result<u8, RunError> {
+/// Writes the implementations of the text on standard input, or what is wrong to standard error; the status. `device` is the one
+/// that an error is of.
+fn run(
+    rt: &HostRuntime,
+    device: &mut &'static str,
+    path: &str,
+    with_schemas: bool,
+) -> io::Result<u8> {
     let alloc = rt.alloc();
-    let text = io::read_to_string(alloc, rt.reader()).map_err(RunError::of_input)?;
-    let file = tokens_of(alloc, "", text.as_str())?;
-    let files = slice::from_ref(&file);
-    let scope = Origins::of(alloc, &file.tokens)?;
-    let AllDeclared { all, faults, .. } = declarations(alloc, Purpose::Implementations, files)?;
-    let uses = uses_of(alloc, &scope, &all)?;
-    let refused = refused(alloc, &scope, &uses, &all)?;
+    *device = "standard input";
+    let text = io::read_to_string(alloc, rt.reader())?;
+    let mut tokens = Tokens::new(alloc)?.with_file(alloc, "", text.as_str())?;
+    let AllDeclared { all, faults, .. } = declarations(alloc, Purpose::Implementations, &tokens)?;
+    spell_raw(alloc, &mut tokens)?;
+    let mut scope = Origins::of(alloc, &tokens)?;
+    scope.add_uses(alloc, &all)?;
+    let refused = scope.refused(alloc, &all)?;
     if !faults.is_empty() || !refused.is_empty() {
         let said = eprint!(rt; "{faults}{refused}");
         return Ok(if said.is_ok() { 1 } else { 3 });
     }
-    let text = implementations(alloc, &uses, path, with_schemas, &all)?;
-    print!(rt; "{text}").map_err(RunError::Output)?;
+    let text = implementations(alloc, &scope, path, with_schemas, &all)?;
+    *device = "standard output";
+    print!(rt; "{text}")?;
     Ok(0)
 }
 
-fn words_of(rt: &HostRuntime) -> Result<Vec<String>, RunError> {
+/// Does what the arguments say; the status.
+fn run_by(rt: &HostRuntime, device: &mut &'static str) -> io::Result<u8> {
     let mut words = Vec::new(rt.alloc());
-    for word in env::args(rt).map_err(RunError::Arguments)?.skip(1) {
-        words.push(word).map_err(|_| RunError::NoMemory)?;
+    for word in env::args(rt)?.skip(1) {
+        words.push(word)?;
     }
-    Ok(words)
-}
-
-/// Does what the words say; the status.
-fn run_by(rt: &HostRuntime) -> Result<u8, RunError> {
-    let words = words_of(rt)?;
+    *device = "standard output";
     if let Some(said) = answer(&mut rt.stdout(), ABOUT, &words) {
-        return said.map_err(RunError::Output).map(|()| 0);
+        return said.map(|()| 0);
     }
     let (names, with_schemas) = match words.as_slice() {
         [names @ .., last] if last.as_str() == "--schemas" => (names, true),
@@ -88,16 +97,22 @@ fn run_by(rt: &HostRuntime) -> Result<u8, RunError> {
         let said = eprintln!(rt; "{USAGE}");
         return Ok(if said.is_ok() { 2 } else { 3 });
     }
-    run(rt, path.as_str(), with_schemas)
+    run(rt, device, path.as_str(), with_schemas)
 }
 
 fn main(rt: HostRuntime) -> ExitCode {
-    ExitCode::from(match run_by(&rt) {
+    let mut device = "arguments";
+    let status = match run_by(&rt, &mut device) {
         Ok(status) => status,
-        Err(e) => {
-            // if this fails too, the status is the same
-            let _ = eprintln!(rt; "postcard_derive: {e}");
-            e.status()
+        // if what is said fails too, the status is the same
+        Err(e) if e.kind() == ErrorKind::OutOfMemory => {
+            let _ = eprintln!(rt; "postcard_derive: no memory");
+            4
         }
-    })
+        Err(e) => {
+            let _ = eprintln!(rt; "postcard_derive: {device}: {e}");
+            3
+        }
+    };
+    ExitCode::from(status)
 }

@@ -1,10 +1,11 @@
 //! From declarations to implementations, which `rt fmt` lays out.
-use crate::fields::{SEEN, SENT, TAKEN, TYPE};
-use crate::names::{Use, names_of, names_of_postcard};
-use crate::text::Text;
-use declaration_parser::declaration::{Body, Declaration, Fields};
-use declaration_parser::tokens::is_among;
+use crate::scope::Origins;
+use crate::text::{Text, is_fixed};
+use declaration_parser::declaration::{Body, Declaration, VariantOf};
+use declaration_parser::texts::is_listed;
+use declaration_parser::tokens::Name;
 use std::alloc::{AllocError, Global};
+use std::collections::BTreeSet;
 
 /// How what is written begins.
 const HEAD: &str = "//! How the message types of the module above are written and read.
@@ -17,6 +18,21 @@ ghost use Rattle.postcard_tree.specs.Shapes.{form_matches};
 ";
 
 const OF_TABLES: &str = "ghost use Rattle.schemas.specs.TypeSchemas.{as_its_shape};\n";
+
+/// What is brought in of libraries: each piece if the implementations have what stands before it.
+const LIBRARIES: &[(&str, &str)] = &[
+    ("&mut Serializer<F>", "use postcard::ser_flavors::Flavor;\n"),
+    ("", "use postcard::{AsShape, "),
+    (".{Last};", "Last, "),
+    ("", "MatchesShape, Readable, "),
+    ("&mut Serializer<F>", "Serialize, Serializer, "),
+    ("", "ShapeOf, Shaped"),
+    (".{This, Other};", ", Variant"),
+    (".{V0, V1, V2, V3, More};", ", Variants4"),
+    ("record { 0 = ", ", fixint"),
+    ("", "};\n"),
+    ("{ as_its_shape }", "use schemas::SchemaOfShape;\n"),
+];
 
 /// The shape of a struct that has one field or none. In what follows a word between two `%` stands for what `put_part` has.
 const ALONE: &str = "impl%plain% Shaped for %name%%names%%where% {
@@ -34,23 +50,36 @@ impl%plain% Shaped for %name%%names%%where% {
     type Shape = %name%Shape%names%;
     ghost shape = { λ v. %seen% };
     fn from_shape(it: %name%Shape%names%) -> %name%%names% {
+        let %rows% = it;
 %apart%        %value%
     }
 }
 ";
 
-/// The shape of an enum.
-const VARIANTS: &str = "type %name%Shape%alias% = %types%;
+/// The shape of an enum, which holds the variants in fours, and then one by one. What is between two `@` is there for each variant,
+/// and has the words of `put_of_variant`.
+const VARIANTS: &str = "type %name%Shape%alias% = @%before%%opens%%types%@%closes%;
 impl%plain% Shaped for %name%%names%%where% {
-%brought%    type Shape = %name%Shape%names%;
+    ghost use Rattle%path%.%name%.TheVariants.{@%before%%variant%%as%@};
+%fours%%singles%    ghost use Rattle.postcard_tree.specs.declared.variants.Last.TheVariants.{Last};
+    type Shape = %name%Shape%names%;
     ghost shape = { λ v. elim v [
-%seen%    ] };
+@| %The%%variant%%binders% ↦ %More (%%Other (%%by% %held%%ends%
+@    ] };
     fn from_shape(it: %name%Shape%names%) -> %name%%names% {
         match it {
-%made%        }
+@%next%%Variant::Other(%%holder%::%by%(%taken%)%ones% => %name%::%value%,
+@%matched%        }
     }
 }
 ";
+
+/// What that brings in if there are more than four variants, and if some are one by one.
+const FOURS: &str =
+    "    ghost use Rattle.postcard_tree.specs.declared.variants.Variants4.TheVariants.{V0, V1, V2, V3, More};\n";
+
+const SINGLES: &str =
+    "    ghost use Rattle.postcard_tree.specs.declared.variants.Variant.TheVariants.{This, Other};\n";
 
 /// What a type takes from its shape.
 const OF_ITS_SHAPE: &str = "impl%Readable% Readable for %name%%names%%where% {
@@ -68,100 +97,167 @@ const SCHEMA: &str = "impl%Readable% SchemaOfShape for %name%%names%%where% {
 }
 ";
 
-/// How a value is written.
+/// How a struct is written, and how an enum.
 const SENDING: &str = "impl%Serialize% Serialize for %name%%names%%where% {
     fn serialize<F: Flavor>(&self, serializer: &mut Serializer<F>) -> postcard::Result<()> {
-%sent%    }
+        %sent%.serialize(serializer)
+    }
 }
 ";
 
-impl Text {
-    /// Appends what a word stands for in a struct of these fields.
-    fn put_of_struct(&mut self, name: &str, fields: &Fields, word: &str) {
-        let items = &fields.items;
-        match word {
-            "types" => self.put_tuple(items, TYPE),
-            "seen" if items.is_empty() => self.put("tt"),
-            "seen" => self.put_tuple(items, SEEN),
-            "taken" => self.put_tuple(items, TAKEN),
-            "apart" => self.put_apart(items),
-            "value" => self.put_value(name, fields),
-            _ => {
-                self.put("        ");
-                self.put_tuple(items, SENT);
-                self.put(".serialize(serializer)\n");
-            }
-        }
+const MATCHING: &str = "impl%Serialize% Serialize for %name%%names%%where% {
+    fn serialize<F: Flavor>(&self, serializer: &mut Serializer<F>) -> postcard::Result<()> {
+        match self {
+@%name%::%value% => serializer.serialize_%kind%_variant(%index%%and%%lent%),
+@        }
     }
+}
+";
 
-    /// Appends what a word stands for: the name of a declaration; the names of its parameters, these as an alias has them, or
-    /// with their bounds, and types with this one too; the bounds after `where`; or what its fields or variants have for it.
-    /// Another stands for itself.
-    fn put_part(&mut self, it: &Declaration, path: &str, word: &str) {
+impl Text<'_> {
+    /// Appends what a word stands for in a declaration: its name; the names of its parameters, these as an alias has them, or with
+    /// their bounds, and types with this one too; the bounds after `where`; the path of the module's definitions; what its fields
+    /// have for it, or what closes its variants. Another stands for itself.
+    fn put_of_all(&mut self, it: &Declaration, word: &str) {
+        let fours = self.count.saturating_sub(1) / 4;
+        let singles = self.count.saturating_sub(fours.saturating_mul(3));
         match (word, &it.body) {
-            ("name", _) => self.put(it.name),
-            ("names", _) => self.put_each("<", &it.parameters, ">"),
-            ("alias", _) => self.put_parameters(it, None),
-            ("plain", _) => self.put_parameters(it, Some("")),
-            ("Readable" | "Serialize", _) => self.put_parameters(it, Some(word)),
+            ("name", _) => self.put_name(it.name),
+            ("path", _) => self.put(self.path),
             ("where", _) => {
                 self.put(if it.bounds.is_empty() { "" } else { " where " });
                 self.put_words(it.bounds);
             }
-            ("brought", Body::Enum(variants)) => self.put_brought_in(it.name, variants, path),
-            ("types" | "seen" | "taken" | "apart" | "value" | "made" | "sent", body) => match body {
-                Body::Struct(fields) => self.put_of_struct(it.name, fields, word),
-                Body::Enum(variants) => self.put_of_enum(it.name, variants, word),
-            },
+            ("names" | "alias" | "plain" | "Readable" | "Serialize", _) => self.put_parameters(
+                it, word,
+            ),
+            ("fours", _) => self.put(if fours > 0 { FOURS } else { "" }),
+            ("singles", _) => self.put(if self.count % 4 == 1 { "" } else { SINGLES }),
+            ("closes", _) => self.put_times(singles, ">"),
+            ("matched", _) => self.put_times(fours, "},\n"),
+            (_, Body::Struct(fields)) => self.put_of_fields(it.name, fields, word),
             _ => self.put(word),
         }
     }
 
-    fn put_declaration(&mut self, it: &Declaration, path: &str, with_schemas: bool) {
-        let shape = match &it.body {
-            Body::Enum(_) => VARIANTS,
-            Body::Struct(fields) if fields.items.len() > 1 => SEVERAL,
-            Body::Struct(_) => ALONE,
+    /// Appends what a word stands for in a variant of an enum of this name: of its shape, which is behind so many fours and then
+    /// single ones, the type and the constructor that hold it, or the word as often as it is behind others.
+    fn put_of_variant(&mut self, name: Name, index: usize, variant: &VariantOf, word: &str) {
+        let all_fours = self.count.saturating_sub(1) / 4;
+        let fours = all_fours.min(index / 4);
+        let ones = index.saturating_sub(all_fours.saturating_mul(4));
+        let (holder, by) = match index % 4 {
+            _ if index.saturating_add(1) == self.count => ("Last", "Last"),
+            _ if index / 4 >= all_fours => ("Variant", "This"),
+            0 => ("Variants4", "V0"),
+            1 => ("Variants4", "V1"),
+            2 => ("Variants4", "V2"),
+            _ => ("Variants4", "V3"),
         };
-        let sent = if it.marks.written { SENDING } else { "" };
-        let in_tables = it.marks.read && with_schemas;
-        let schema = if in_tables { SCHEMA } else { "" };
-        for pieces in [shape, OF_ITS_SHAPE, sent, schema] {
-            for piece in pieces.split('%') {
-                self.put_part(it, path, piece);
+        let own = self.tokens.text(variant.name);
+        let fields = variant.fields.items.as_slice();
+        match word {
+            "before" => self.put_before(index, ""),
+            "name" => self.put_name(name),
+            "variant" => self.put(own),
+            // the constructors of shapes have these names
+            "as" | "The" if !is_listed(own, "V0 V1 V2 V3 More This Other Last") => {}
+            "as" => self.put_both(" as The", own),
+            "opens" if is_listed(by, "V1 V2 V3") => {}
+            "opens" => self.put_both(holder, "<"),
+            "holder" => self.put(holder),
+            "by" => self.put(by),
+            "More (" => self.put_times(fours, word),
+            "Other (" | "Variant::Other(" => self.put_times(ones, word),
+            "ends" => self.put_times(fours.saturating_add(ones), ")"),
+            "ones" => self.put_times(ones, ")"),
+            "next" if index == 0 || index % 4 > 0 => {}
+            "next" => self.put("Variants4::More(it) => match it {\n"),
+            "binders" => {
+                for field in fields {
+                    self.put_numbered(" x", field.place);
+                }
+            }
+            "kind" => self.put(if fields.is_empty() { "unit" } else { "newtype" }),
+            "index" => self.put_numbered("", index),
+            "and" => self.put(match fields {
+                [] => "",
+                [field] if !is_fixed(field) => ", ",
+                _ => ", &",
+            }),
+            _ => self.put_of_fields(variant.name, &variant.fields, word),
+        }
+    }
+
+    /// Appends a part of a template, which may be a row for each variant.
+    fn put_part(&mut self, it: &Declaration, part: &str, is_row: bool) {
+        let variants = match &it.body {
+            Body::Enum(variants) => variants.as_slice(),
+            Body::Struct(_) => &[],
+        };
+        self.count = variants.len();
+        if !is_row {
+            for piece in part.split('%') {
+                self.put_of_all(it, piece);
+            }
+            return;
+        }
+        for (index, variant) in variants.iter().enumerate() {
+            for piece in part.split('%') {
+                self.put_of_variant(it.name, index, variant, piece);
+            }
+        }
+    }
+
+    fn put_declaration(&mut self, it: &Declaration, with_schemas: bool) {
+        let (shape, sent) = match &it.body {
+            Body::Enum(_) => (VARIANTS, MATCHING),
+            Body::Struct(fields) if fields.items.len() > 1 => (SEVERAL, SENDING),
+            Body::Struct(_) => (ALONE, SENDING),
+        };
+        let sent = if it.marks.written { sent } else { "" };
+        let schema = if it.marks.read && with_schemas {
+            SCHEMA
+        } else {
+            ""
+        };
+        for template in [shape, OF_ITS_SHAPE, sent, schema] {
+            for (place, part) in template.split('@').enumerate() {
+                self.put_part(it, part, place % 2 > 0);
             }
         }
     }
 }
 
 /// Returns the implementations of these declarations, with the schemas of those that are read or without. `path` is that of the
-/// definitions of the module that they are in, which brings in these names.
-///
-/// # Errors
-/// `AllocError` when out of memory.
+/// definitions of the module that they are in, whose names these are.
 pub fn implementations(
     alloc: Global,
-    uses: &[Use],
+    scope: &Origins,
     path: &str,
     with_schemas: bool,
     all: &[Declaration],
 ) -> Result<String, AllocError> {
-    let mut text = Text::new(alloc);
+    let mut text = Text::new(alloc, scope.tokens, path);
     for it in all {
-        text.put_declaration(it, path, with_schemas);
+        text.put_declaration(it, with_schemas);
     }
     let written = text.made.finished()?;
-    let names = names_of_postcard(alloc, written.as_str())?;
-    let in_tables = with_schemas && all.iter().any(|it| it.marks.read);
-    let mut whole = Text::new(alloc);
-    whole.put_all(&[HEAD, if in_tables { OF_TABLES } else { "" }, LEMMAS]);
-    whole.put_each("use super::{", &names_of(alloc, uses)?, "};\n");
-    if is_among("Serialize", &names) {
-        whole.put("use postcard::ser_flavors::Flavor;\n");
+    let mut names = BTreeSet::new(alloc);
+    for (_, name) in &scope.uses {
+        names.insert(scope.tokens.text(*name))?;
     }
-    whole.put_each("use postcard::{", &names, "};\n");
-    if in_tables {
-        whole.put("use schemas::SchemaOfShape;\n");
+    let mut whole = Text::new(alloc, scope.tokens, path);
+    let in_tables = written.contains("{ as_its_shape }");
+    whole.put_both(HEAD, if in_tables { OF_TABLES } else { "" });
+    whole.put_both(LEMMAS, "use super");
+    for (place, name) in names.iter().enumerate() {
+        whole.put_before(place, "::{");
+        whole.put(name);
+    }
+    whole.put("};\n");
+    for (sign, piece) in LIBRARIES {
+        whole.put(if written.contains(*sign) { *piece } else { "" });
     }
     whole.put(written.as_str());
     whole.made.finished()

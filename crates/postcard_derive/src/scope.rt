@@ -1,126 +1,236 @@
-//! Where the names of a file come from, and the words of a type with the paths that they are in.
+//! Where the names of a file come from, which of them implementations bring in, and the paths that they are in.
+use declaration_parser::declaration::{Body, Declaration, Field};
 use declaration_parser::derives::{has_own, has_serdes};
-use declaration_parser::tokens::{
-    Token, Word, first_letter, is_among, is_listed, is_name, is_of_word,
-};
+use declaration_parser::texts::{first_letter, is_listed, is_of_word};
+use declaration_parser::tokens::{NO_NAME, Name, Tokens, Word, Words, word_of};
 use std::alloc::{AllocError, Global};
 
-/// What begins a path within the crate.
-pub const OF_THE_CRATE: &[&str] = &["crate", "self", "super"];
-
-/// The names that a file has, each with where it is from: the first word of the `use` that brings it in, or `self` if the file
-/// declares it.
+/// The names that a file has, and those that the implementations bring in.
 #[derive(Drop)]
 pub struct Origins<'a> {
-    origins: Vec<(&'a str, &'a str)>,
+    pub tokens: &'a Tokens,
+    /// Each name with where it is from: the first word of the `use` that brings it in, or `self` if the file declares it.
+    origins: Vec<(Name, Name)>,
+    /// Each name behind the type whose fields have it; behind none if it is a type's own, or of its bounds.
+    pub uses: Vec<(Name, Name)>,
+}
+
+/// The fields of a declaration, each behind the name of its variant; none of a struct.
+pub fn rows_of(alloc: Global, it: &Declaration) -> Result<Vec<(Name, Field)>, AllocError> {
+    let mut rows = Vec::new(alloc);
+    match &it.body {
+        Body::Struct(fields) => {
+            for field in &fields.items {
+                rows.push((NO_NAME, *field))?;
+            }
+        }
+        Body::Enum(variants) => {
+            for variant in variants {
+                for field in &variant.fields.items {
+                    rows.push((variant.name, *field))?;
+                }
+            }
+        }
+    }
+    Ok(rows)
+}
+
+/// Gives each raw name the text that it is written as, by which no other name is meant.
+pub fn spell_raw(alloc: Global, tokens: &mut Tokens) -> Result<(), AllocError> {
+    for place in 0..tokens.all.len() {
+        let token = tokens.at(place);
+        if token.word == Word::Raw {
+            let text = format!(in alloc; "r#{}", tokens.text(token.name))?;
+            let name = tokens.name_of(alloc, text.as_str())?;
+            if let Some(raw) = tokens.all.get_mut(place) {
+                raw.name = name;
+            }
+        }
+    }
+    Ok(())
 }
 
 impl<'a> Origins<'a> {
-    /// The names that a file of these tokens has.
-    pub fn of(alloc: Global, tokens: &'a [Token]) -> Result<Origins<'a>, AllocError> {
-        let mut origins = Vec::new(alloc);
-        let mut before = "";
-        let mut head = "";
-        for token in tokens {
-            let word = token.text.as_str();
-            if is_listed(before, "struct enum union type mod trait const") {
-                origins.push((word, "self"))?;
-            } else if !head.is_empty() && is_among(word, &[";", ",", "}"]) {
-                origins.push((before, head))?;
+    /// The names that the file of these tokens has.
+    pub fn of(alloc: Global, tokens: &'a Tokens) -> Result<Origins<'a>, AllocError> {
+        let own = tokens.found_name("self");
+        let (mut origins, uses) = (Vec::new(alloc), Vec::new(alloc));
+        let mut before = tokens.first(Words::default());
+        let mut head = NO_NAME;
+        for token in &tokens.all {
+            let last = tokens.text(before.name);
+            if is_listed(last, "struct enum union type mod trait const") {
+                origins.push((token.name, own))?;
+            } else if head != NO_NAME && is_listed(tokens.text(token.name), "; , }") {
+                origins.push((before.name, head))?;
             }
-            match (before, word) {
-                ("use", ":") => continue,
-                ("use", _) => head = word,
+            match (before.word, token.word) {
+                (Word::Import, Word::Colon) => continue,
+                (Word::Import, _) => head = token.name,
                 // of `extern crate`
-                ("crate", _) if head.is_empty() && is_name(word) => head = word,
-                (_, ";") => head = "",
+                (Word::Crate, _) if head == NO_NAME && token.is_name => head = token.name,
+                (_, Word::Semicolon) => head = NO_NAME,
                 _ => {}
             }
-            before = word;
+            before = *token;
         }
-        Ok(Origins { origins })
-    }
-
-    /// Whether the file has something else by the name of a crate.
-    pub fn is_hidden(&self, krate: &str) -> bool {
-        let mut origins = self.origins.iter();
-        origins.any(|(name, from)| *name == krate && *from != krate)
-    }
-
-    /// Whether a `*` brings in all of a module of the crate, which this file may not have. What `super` has is mostly in this file.
-    pub fn has_star(&self) -> bool {
-        self.origins.iter().any(|(name, from)| {
-            let is_module = self.origin(from) == "self" && !is_capital(from);
-            *name == "*" && (is_module || is_among(from, &["crate", "self"]))
+        Ok(Origins {
+            tokens,
+            origins,
+            uses,
         })
     }
 
-    /// Whether a derive of this name, which a `use` brings in, may be another crate's than serde.
-    pub fn has_other_derive(&self, name: &str) -> bool {
-        let is_ours = |krate: &str| is_among(krate, OF_THE_CRATE) || has_serdes(krate);
-        self.origins.iter().any(|(known, from)| {
-            let is_others = *known == name && !is_ours(from) && !is_ours(self.origin(from));
-            is_others || (*known == "*" && has_own(from))
-        })
+    /// Where a name is from; none if the file doesn't have it.
+    pub fn origin(&self, name: Name) -> Name {
+        for (known, from) in &self.origins {
+            if *known == name {
+                return *from;
+            }
+        }
+        NO_NAME
     }
 
-    /// Where a name is from; empty if the file doesn't have it.
-    pub fn origin(&self, name: &str) -> &'a str {
-        let found = self.origins.iter().find(|row| row.0 == name);
-        found.map_or("", |row| row.1)
+    /// Whether the file may have something else by the name of a crate, or of one of serde's derives; of a `*`, whether it brings in
+    /// all of a module of the crate, which this file may not have. What `super` has is mostly in this file.
+    pub fn hides(&self, wanted: &str) -> bool {
+        for (name, from) in &self.origins {
+            let origin = self.origin(*from);
+            let (name, krate) = (self.tokens.text(*name), self.tokens.text(*from));
+            let hides = match (wanted, name) {
+                ("*", "*") if word_of(origin) == Word::Own && !is_capital(krate) => true,
+                ("*", "*") => matches!(word_of(*from), Word::Crate | Word::Own),
+                ("Serialize" | "Deserialize", "*") => has_own(krate),
+                _ if name != wanted => false,
+                ("Serialize" | "Deserialize", _) if is_of_crate(*from) || has_serdes(krate) =>
+                    false,
+                ("Serialize" | "Deserialize", _) => !is_of_crate(origin)
+                    && !has_serdes(self.tokens.text(origin)),
+                _ => krate != wanted,
+            };
+            if hides {
+                return true;
+            }
+        }
+        false
+    }
+
+    /// Whether a word of a type has to be brought in, also one that nobody declares; or one of a bound, if it is none of the traits
+    /// that the implementations have.
+    fn is_brought_in(&self, it: &Declaration, word: PathWord, is_bound: bool) -> bool {
+        let name = word.name;
+        let (from, text) = (self.origin(name), self.tokens.text(name));
+        match (is_bound, word.leads) {
+            _ if word.is_led || is_of_crate(name) || it.parameters.contains(&name) => false,
+            (true, _) => from != NO_NAME && !is_listed(text, "Flavor Readable Serialize Shaped"),
+            (_, true) => from != NO_NAME,
+            // of the language, unless the file has another
+            _ if is_listed(text, "Box Option Result String Vec") => is_of_crate(from),
+            _ => is_capital(text),
+        }
+    }
+
+    /// Adds those of these words that are brought in.
+    fn add_words(&mut self, it: &Declaration, by: Name, words: Words) -> Result<(), AllocError> {
+        let mut word = PathWord::before(words);
+        for _ in 0..words.len() {
+            word.next(self.tokens);
+            if self.is_brought_in(it, word, by == NO_NAME) {
+                self.uses.push((by, word.name))?;
+            }
+        }
+        Ok(())
+    }
+
+    /// Adds the names that the implementations of these bring in of the module above.
+    pub fn add_uses(&mut self, alloc: Global, all: &[Declaration]) -> Result<(), AllocError> {
+        for it in all {
+            self.uses.push((NO_NAME, it.name))?;
+            self.add_words(it, NO_NAME, it.generics)?;
+            self.add_words(it, NO_NAME, it.bounds)?;
+            for (_, field) in &rows_of(alloc, it)? {
+                self.add_words(it, it.name, field.of)?;
+            }
+        }
+        Ok(())
+    }
+
+    /// Whether a type of this name holds itself, also by way of others.
+    pub fn holds_itself(&self, alloc: Global, name: Name) -> Result<bool, AllocError> {
+        let mut held = Vec::new(alloc);
+        let mut by = name;
+        for place in 0..=self.uses.len() {
+            for (holder, of) in &self.uses {
+                if *holder == by && !held.contains(of) {
+                    held.push(*of)?;
+                }
+            }
+            match held.get(place) {
+                Some(next) => by = *next,
+                None => break,
+            }
+        }
+        Ok(held.contains(&name))
     }
 }
 
-/// A word of a type or of a bound; the colons of a path are no words.
-#[derive(Clone, Copy, Drop)]
-pub struct PathWord<'a> {
-    pub text: &'a str,
+/// A word of a type or of a bound, without a text at the end; the colons of a path are no words.
+#[derive(Clone, Copy, Default, Drop)]
+pub struct PathWord {
+    pub name: Name,
     pub line: usize,
-    /// The first word of the path that it is in, perhaps itself; a colon if `::` begins the path.
-    pub head: &'a str,
+    /// The first word of the path that it is in, perhaps itself; none if `::` begins the path.
+    pub head: Name,
     /// Whether `::` precedes it, and whether `::` follows it.
     pub is_led: bool,
     pub leads: bool,
+    /// What follows it.
+    rest: Words,
 }
 
-/// What follows `::` at the start of these tokens, or they themselves.
-fn behind_colons(tokens: &[Token]) -> &[Token] {
-    match tokens {
-        [one, two, behind @ ..] if matches!((one.word, two.word), (Word::Colon, Word::Colon)) =>
-            behind,
-        _ => tokens,
+impl PathWord {
+    /// What precedes the first of these words.
+    pub fn before(rest: Words) -> PathWord {
+        let nothing = PathWord::default();
+        PathWord { rest, ..nothing }
+    }
+
+    /// Turns to the next one, and gives its text.
+    pub fn next<'a>(&mut self, tokens: &'a Tokens) -> &'a str {
+        let is_led = are_colons(tokens, self.rest);
+        if is_led {
+            self.rest = self.rest.behind_first().behind_first();
+        }
+        let token = tokens.first(self.rest);
+        self.is_led = is_led && token.name != NO_NAME;
+        self.head = if self.is_led { self.head } else { token.name };
+        self.name = token.name;
+        self.line = token.line;
+        self.rest = self.rest.behind_first();
+        self.leads = are_colons(tokens, self.rest);
+        tokens.text(token.name)
+    }
+
+    /// Whether the next ones are these.
+    pub fn precedes(mut self, tokens: &Tokens, wanted: &[&str]) -> bool {
+        for text in wanted {
+            if self.next(tokens) != *text {
+                return false;
+            }
+        }
+        true
     }
 }
 
-/// The words that these tokens are.
-pub fn words_of(alloc: Global, tokens: &[Token]) -> Result<Vec<PathWord<'_>>, AllocError> {
-    let mut words = Vec::new(alloc);
-    let mut rest = behind_colons(tokens);
-    let mut is_led = rest.len() < tokens.len();
-    let mut head = ":";
-    for _ in 0..tokens.len() {
-        let [token, behind @ ..] = rest else {
-            break;
-        };
-        let (text, line) = (token.text.as_str(), token.line);
-        rest = behind_colons(behind);
-        let leads = rest.len() < behind.len();
-        head = if is_led { head } else { text };
-        words.push(PathWord {
-            text,
-            line,
-            head,
-            is_led,
-            leads,
-        })?;
-        is_led = leads;
-    }
-    Ok(words)
+/// Whether `::` is at the start.
+fn are_colons(tokens: &Tokens, words: Words) -> bool {
+    let next = tokens.front(words.behind_first());
+    tokens.front(words) == Word::Colon && next == Word::Colon
 }
 
-/// Whether a word begins with a small letter.
-pub fn is_small(word: &str) -> bool {
-    matches!(first_letter(word), Some(first) if first.is_lowercase())
+/// Whether a name begins a path within the crate.
+pub fn is_of_crate(name: Name) -> bool {
+    matches!(word_of(name), Word::Crate | Word::Own | Word::Super)
 }
 
 /// Whether a word begins with a capital letter.

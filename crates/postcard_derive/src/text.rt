@@ -1,19 +1,60 @@
-//! Texts that are made of pieces.
+//! Texts that are made of pieces: types and bounds as the module below has them, and fields as their places want them.
+use crate::scope::{PathWord, is_wordy};
+use declaration_parser::declaration::{Declaration, Field, Fields, Form, Layout};
 use declaration_parser::faults::Faults;
+use declaration_parser::texts::is_listed;
+use declaration_parser::tokens::{NO_NAME, Name, Tokens, Word, Words};
 use std::alloc::Global;
+
+/// How many parts a tuple has at most; more are in rows.
+const ROW: usize = 6;
+
+/// The places where fields are a tuple.
+const PLACES: &str = "types seen held sent lent taken rows";
+
+/// How a field is written in a place, how one that is sent as its bytes, and what stands for none. A word between two `%` stands
+/// for what it has: its `type`, its `member`, the name that it is `bound` to, its `place`, and the `way` that sends it; `&` is there
+/// if others are beside it, and brackets are parentheses if none are.
+fn spelling_of(place: &str) -> [&'static str; 3] {
+    match place {
+        // the type of a shape; in ghost text, the shape of a value, and that of a variant
+        "types" => ["%type%", "%way%<%type%>", "()"],
+        "seen" => ["v.%member%", "record { 0 = v.%member% }", "tt"],
+        "held" => ["x%place%", "%[%record { 0 = x%place% }%]%", "tt"],
+        // what is sent of a value, and of a variant, whose fields are borrowed
+        "sent" => ["%&%self.%member%", "%way%(self.%member%)", "()"],
+        "lent" => ["%bound%", "%way%(*%bound%)", ""],
+        // a pattern for a shape; a value, or a pattern for one
+        "taken" | "rows" => ["%bound%", "%way%(%bound%)", "()"],
+        _ => ["%bound%", "%bound%", ""],
+    }
+}
+
+/// Whether a field is sent as its bytes.
+pub fn is_fixed(field: &Field) -> bool {
+    matches!(field.layout, Layout::Little | Layout::Big)
+}
 
 /// A text that is made.
 #[derive(Drop)]
-pub struct Text {
-    pub alloc: Global,
-    pub made: Faults<'static>,
+pub struct Text<'a> {
+    pub tokens: &'a Tokens,
+    /// The path of the definitions of the module that declarations are in.
+    pub path: &'a str,
+    /// How many variants there are, where a declaration has some.
+    pub count: usize,
+    pub made: Faults,
 }
 
-impl Text {
+impl<'a> Text<'a> {
     /// The empty text.
-    pub fn new(alloc: Global) -> Text {
-        let made = Faults::new(alloc);
-        Text { alloc, made }
+    pub fn new(alloc: Global, tokens: &'a Tokens, path: &'a str) -> Text<'a> {
+        Text {
+            tokens,
+            path,
+            count: 0,
+            made: Faults::new(alloc),
+        }
     }
 
     /// Appends a piece.
@@ -21,25 +62,20 @@ impl Text {
         self.made.put(piece);
     }
 
-    /// Appends these pieces.
-    pub fn put_all(&mut self, pieces: &[&str]) {
-        self.made.put_all(pieces);
+    /// Appends two pieces.
+    pub fn put_both(&mut self, piece: &str, other: &str) {
+        self.put(piece);
+        self.put(other);
+    }
+
+    /// Appends the text of a name.
+    pub fn put_name(&mut self, name: Name) {
+        self.made.put(self.tokens.text(name));
     }
 
     /// Appends what stands before the thing at a place of a list: this before the first, else a comma.
     pub fn put_before(&mut self, place: usize, first: &str) {
         self.put(if place > 0 { ", " } else { first });
-    }
-
-    /// Appends these with commas between them, and what opens and closes them; nothing if there are none.
-    pub fn put_each(&mut self, open: &str, pieces: &[&str], close: &str) {
-        for (place, piece) in pieces.iter().enumerate() {
-            self.put_before(place, open);
-            self.put(piece);
-        }
-        if !pieces.is_empty() {
-            self.put(close);
-        }
     }
 
     /// Appends a piece so many times.
@@ -53,5 +89,139 @@ impl Text {
     pub fn put_numbered(&mut self, piece: &str, number: usize) {
         self.put(piece);
         self.made.put_number(number);
+    }
+
+    /// Appends the words of a type or of bounds; one that begins a path which leads from the module above is another here.
+    pub fn put_words(&mut self, words: Words) {
+        let mut word = PathWord::before(words);
+        let mut before = "";
+        for _ in 0..words.len() {
+            let text = word.next(self.tokens);
+            self.put(match is_wordy(before) && is_wordy(text) {
+                _ if word.is_led => "::",
+                true => " ",
+                false => "",
+            });
+            self.put(match text {
+                _ if word.is_led || !word.leads => text,
+                "self" => "super",
+                "super" => "super::super",
+                "alloc" | "core" => "std",
+                _ => text,
+            });
+            before = text;
+        }
+    }
+
+    /// Appends a parameter without its default: without bounds for an `alias`, else with them and, if it is a type, with this one
+    /// too, unless it is `plain`.
+    fn put_parameter(&mut self, words: Words, bound: &str) {
+        let tokens = self.tokens;
+        let front = tokens.front(words);
+        let ends: &[Word] = match bound {
+            "alias" if front != Word::Constant => &[Word::Equals, Word::Colon],
+            _ => &[Word::Equals],
+        };
+        let words = words.before(tokens.type_up_to(words, ends));
+        self.put_words(words);
+        let is_had = tokens.has_name(words, tokens.found_name(bound));
+        match (bound, front) {
+            _ if is_had => {}
+            ("alias" | "plain", _) | (_, Word::Constant | Word::Lifetime) => {}
+            _ if words.len() == 1 => self.put_both(": ", bound),
+            _ if words.len() == 2 => self.put_both(" ", bound),
+            _ => self.put_both(" + ", bound),
+        }
+    }
+
+    /// Appends the parameters of a declaration, each as [`put_parameter`](Text::put_parameter) has it, or their `names`.
+    pub fn put_parameters(&mut self, it: &Declaration, bound: &str) {
+        let mut rest = it.generics.behind_first();
+        for (place, name) in it.parameters.iter().enumerate() {
+            let behind = self.tokens.type_up_to(rest, &[Word::Comma, Word::Greater]);
+            self.put_before(place, "<");
+            match bound {
+                "names" => self.put_name(*name),
+                _ => self.put_parameter(rest.before(behind), bound),
+            }
+            rest = behind.behind_first();
+        }
+        self.put(if it.parameters.is_empty() { "" } else { ">" });
+    }
+
+    fn put_field(&mut self, field: &Field, place: &str, is_alone: bool) {
+        let [own, fixed, _] = spelling_of(place);
+        let pieces = if is_fixed(field) { fixed } else { own };
+        for piece in pieces.split('%') {
+            match piece {
+                "type" => self.put_words(field.of),
+                "way" if field.layout == Layout::Little => self.put("fixint::LE"),
+                "way" => self.put("fixint::BE"),
+                "member" | "bound" if field.name != NO_NAME => self.put_name(field.name),
+                "bound" => self.put_numbered("p", field.place),
+                "member" | "place" => self.put_numbered("", field.place),
+                "&" if is_alone => {}
+                "[" => self.put(if is_alone { "(" } else { "" }),
+                "]" => self.put(if is_alone { ")" } else { "" }),
+                _ => self.put(piece),
+            }
+        }
+    }
+
+    fn put_list(&mut self, open: &str, fields: &[Field], place: &str, close: &str) {
+        self.put(open);
+        for (count, field) in fields.iter().enumerate() {
+            self.put_before(count, "");
+            self.put_field(field, place, false);
+        }
+        self.put(close);
+    }
+
+    /// Appends a tuple; one field stands for itself, and more than six are in rows, of which the names are for `rows`.
+    fn put_tuple(&mut self, fields: &[Field], place: &str) {
+        match fields {
+            [] => return self.put(spelling_of(place)[2]),
+            [field] => return self.put_field(field, place, true),
+            _ if fields.len() <= ROW => return self.put_list("(", fields, place, ")"),
+            _ => self.put("("),
+        }
+        for (count, row) in fields.chunks(ROW).enumerate() {
+            self.put_before(count, "");
+            match row {
+                [_] => self.put_list("", row, place, ""),
+                _ if place == "rows" => self.put_numbered("row_", count),
+                _ => self.put_list("(", row, place, ")"),
+            }
+        }
+        self.put(")");
+    }
+
+    /// Takes the rows of a shape apart.
+    fn put_apart(&mut self, fields: &[Field]) {
+        for (count, row) in fields.chunks(ROW).enumerate() {
+            if fields.len() > ROW && row.len() > 1 {
+                self.put_list("        let (", row, "taken", ")");
+                self.put_numbered(" = row_", count);
+                self.put(";\n");
+            }
+        }
+    }
+
+    /// Appends what a word stands for in a struct or a variant of this name: its `value` has the names to which its fields are bound.
+    pub fn put_of_fields(&mut self, name: Name, fields: &Fields, word: &str) {
+        let (open, close) = match fields.form {
+            Form::Unit => ("", ""),
+            Form::Tuple => ("(", ")"),
+            Form::Named => (" { ", " }"),
+        };
+        match word {
+            _ if is_listed(word, PLACES) => self.put_tuple(&fields.items, word),
+            "apart" => self.put_apart(&fields.items),
+            "value" => {
+                self.put_name(name);
+                self.put_list(open, &fields.items, word, close);
+            }
+            _ => self.put(word),
+        }
     }
 }

@@ -1,109 +1,138 @@
 //! Types that are written by hand where they aren't derived: on one side, or under a condition.
 use super::Parser;
-use crate::attributes::{behind_first, first_word, front, held, plain_name, type_up_to, up_to};
 use crate::faults::Faults;
-use crate::tokens::{Read, Token, Word, is_among};
+use crate::tokens::{DESERIALIZE, Name, SERIALIZE, Tokens, Word, Words};
 use crate::words::BY_HAND;
-use std::alloc::Global;
-use std::collections::BTreeMap;
+use std::alloc::{AllocError, Global};
 
-/// The name of one of serde's traits, all its names, and those of the types of files that implement it by hand.
+/// One of serde's traits, all its names, and the types of files that implement it by hand.
 #[derive(Drop)]
-pub struct Implemented<'a> {
-    name: &'a str,
-    names: Vec<&'a str>,
-    types: BTreeMap<&'a str, ()>,
+pub struct Implemented {
+    name: Name,
+    names: Vec<Name>,
+    /// Of each name whether it is such a type's.
+    types: Vec<bool>,
     /// Whether macros implement it: then each name that a macro is handed may be such a type.
     is_by_macros: bool,
+    /// Whether something was found since this was last asked.
+    is_more: bool,
 }
 
-impl<'a> Implemented<'a> {
+impl Implemented {
     /// What files implement by hand of `Serialize`, and of `Deserialize`, so that each file is read once for all types.
-    pub fn all(alloc: Global, files: &'a [Read], faults: &mut Faults<'_>) -> Vec<Self> {
+    pub fn all(alloc: Global, tokens: &Tokens) -> Result<Vec<Implemented>, AllocError> {
         let mut all = Vec::new(alloc);
-        for name in ["Serialize", "Deserialize"] {
-            let found = Implemented::of(alloc, name, files, faults);
-            faults.note(all.push(found).is_err());
+        for name in [SERIALIZE, DESERIALIZE] {
+            let found = Implemented::of(alloc, name, tokens)?;
+            all.push(found)?;
         }
-        all
+        Ok(all)
     }
 
-    /// The types of these files that implement a trait of this name. An item may name what another one declares, so all are gone
+    /// The types of files that implement a trait of this name. An item may name what another one declares, so all are gone
     /// over while more is found.
-    fn of(alloc: Global, name: &'a str, files: &'a [Read], faults: &mut Faults<'_>) -> Self {
+    fn of(alloc: Global, name: Name, tokens: &Tokens) -> Result<Implemented, AllocError> {
         let mut found = Implemented {
             name,
             names: Vec::new(alloc),
-            types: BTreeMap::new(alloc),
+            types: Vec::new(alloc),
             is_by_macros: false,
+            is_more: true,
         };
-        faults.note(found.names.push(name).is_err());
-        let mut count: usize = 1;
+        found.names.push(name)?;
+        found.types.resize(tokens.texts.len(), false)?;
         for _ in 0..u32::MAX {
-            for file in files {
-                found.add_file(&file.tokens, faults);
-            }
-            let before = count;
-            let names = found.names.len().saturating_add(found.types.len());
-            count = names.saturating_add(usize::from(found.is_by_macros));
-            if before == count {
+            if !found.is_more {
                 break;
             }
+            found.is_more = false;
+            for file in &tokens.files {
+                found.add_file(tokens, file.words)?;
+            }
         }
-        found
+        Ok(found)
     }
 
     /// Adds the types that are found at each word of a file.
-    fn add_file(&mut self, tokens: &'a [Token], faults: &mut Faults<'_>) {
-        for place in 0..tokens.len() {
-            let (_, rest) = tokens.split_at(place);
-            for token in self.found_at(rest, faults) {
-                let name = plain_name(token.text.as_str());
-                faults.note(self.types.insert(name, ()).is_err());
+    fn add_file(&mut self, tokens: &Tokens, words: Words) -> Result<(), AllocError> {
+        let mut rest = words;
+        for _ in 0..words.len() {
+            let types = self.found_at(tokens, rest)?;
+            self.add(tokens, types);
+            rest = rest.behind_first();
+        }
+        Ok(())
+    }
+
+    /// Adds these names of types.
+    fn add(&mut self, tokens: &Tokens, types: Words) {
+        for count in 0..types.len() {
+            let name = tokens.nth(types, count).name;
+            if let Some(it) = self.types.get_mut(name)
+                && !*it
+            {
+                *it = true;
+                self.is_more = true;
             }
         }
     }
 
     /// The names of types that the words at the start say: another name of one that was found, what a macro is handed, or what an
     /// `impl` is for. Another name of the trait is added.
-    fn found_at(&mut self, tokens: &'a [Token], faults: &mut Faults<'_>) -> &'a [Token] {
-        let rest = behind_first(tokens);
-        match (front(tokens), front(rest)) {
+    fn found_at(&mut self, tokens: &Tokens, words: Words) -> Result<Words, AllocError> {
+        let rest = words.behind_first();
+        let next = tokens.first(rest);
+        Ok(match (tokens.front(words), next.word) {
             (_, Word::As) => {
-                let name = first_word(behind_first(rest));
-                if first_word(tokens) == self.name && !is_among(name, &self.names) {
-                    faults.note(self.names.push(name).is_err());
+                let name = tokens.nth(words, 2).name;
+                if tokens.first(words).name == self.name && !self.names.contains(&name) {
+                    self.names.push(name)?;
+                    self.is_more = true;
                 }
-                let count = usize::from(self.has(name));
-                tokens.get(..count).unwrap_or(&[])
+                if self.has(name) {
+                    words.before(rest)
+                } else {
+                    Words::default()
+                }
             }
             (_, Word::Not) => {
                 // one of another crate may implement it by its name
-                self.is_by_macros = self.is_by_macros || first_word(tokens).contains("serialize");
-                if self.is_by_macros { held(rest) } else { &[] }
+                self.note_macro(tokens.first_text(words).contains("serialize"));
+                if self.is_by_macros {
+                    tokens.held(rest)
+                } else {
+                    Words::default()
+                }
             }
-            (Word::Alias, _) if self.has(first_word(rest)) => up_to(rest, &[";"]).0,
-            (Word::Implementation, _) => self.implementing(tokens),
-            _ => &[],
-        }
+            (Word::Alias, _) if self.has(next.name) => {
+                rest.before(tokens.up_to(rest, &[Word::Semicolon]))
+            }
+            (Word::Implementation, _) => self.implementing(tokens, words),
+            _ => Words::default(),
+        })
     }
 
     /// The names that the `impl` at the start is for, if it is of this trait: of a type, all of the path that leads to it.
-    fn implementing(&mut self, tokens: &'a [Token]) -> &'a [Token] {
-        let (head, _) = type_up_to(tokens, &["{", ";"]);
-        let (head, of) = type_up_to(head, &["for"]);
-        let (_, named) = type_up_to(head, &self.names);
+    fn implementing(&mut self, tokens: &Tokens, words: Words) -> Words {
+        let whole = words.before(tokens.type_up_to(words, &[Word::Brace, Word::Semicolon]));
+        let of = tokens.type_up_to(whole, &[Word::For]);
+        let named = tokens.type_up_to_name(whole.before(of), &self.names);
         if named.is_empty() {
-            return &[];
+            return Words::default();
         }
-        let is_by_macro = of.iter().any(|token| token.word == Word::Dollar);
+        self.note_macro(tokens.has_word(of, Word::Dollar));
+        let path = of.behind_first();
+        path.before(tokens.up_to(path, &[Word::Less, Word::Where]))
+    }
+
+    fn note_macro(&mut self, is_by_macro: bool) {
+        self.is_more = self.is_more || (is_by_macro && !self.is_by_macros);
         self.is_by_macros = self.is_by_macros || is_by_macro;
-        up_to(behind_first(of), &["<", "where"]).0
     }
 
     /// Whether a type of this name was found.
-    fn has(&self, name: &str) -> bool {
-        self.types.contains_key(plain_name(name))
+    fn has(&self, name: Name) -> bool {
+        matches!(self.types.get(name), Some(true))
     }
 }
 
@@ -113,7 +142,7 @@ impl Parser<'_, '_> {
         let marking = self.marking;
         for side in self.job.by_hand {
             let is_sure = marking.marks.has(side.name) && !marking.is_conditional;
-            if marking.is_derived && !is_sure && side.types.contains_key(self.at.name) {
+            if marking.is_derived && !is_sure && side.has(self.at.name) {
                 self.at.refuse(side.name, BY_HAND);
             }
         }

@@ -5,13 +5,15 @@ ghost use Rattle.declarations.specs.KnownNodes.{IsNodeOf};
 use super::{Builder, NOWHERE};
 use crate::Names;
 use crate::known::{FormRow, KnownForm, varint_type};
-use declaration_parser::attributes::{behind_first, first_word, last_word, type_up_to};
-use declaration_parser::tokens::{Token, is_lifetime};
+use declaration_parser::tokens::{Word, Words};
 use schema_table::{IntegerType, Node};
 
-/// What is said of a type that lacks what it holds.
+// What is said of a type that lacks what it holds, and of one whose bytes have no order.
 const NO_ARGUMENTS: &str =
     "what a type holds is wanted in `<` and `>`, as `Option<u8>` and `ArrayVec<u8, 4>` have it";
+
+const NO_INTEGER: &str =
+    "` isn't an integer of 16 to 128 bits: write one, or its bytes as an array";
 
 /// The node of a known type, by the places of the types that it holds (of a map, that of its pairs), its length, and its type if
 /// that can be sent as its bytes. Nothing if it has no node of its own.
@@ -41,105 +43,103 @@ fn node_of(
     })
 }
 
-impl<'a> Builder<'a, '_> {
+impl Builder<'_> {
     /// The words between the commas that nothing encloses; of arguments only those of types and lengths.
-    pub(super) fn parts(&mut self, words: &'a [Token], are_arguments: bool) -> Vec<&'a [Token]> {
+    pub(super) fn parts(&mut self, words: Words, are_arguments: bool) -> Vec<Words> {
         let mut all = Vec::new(self.alloc);
         let mut rest = words;
-        for _ in 0..words.len() {
+        for _ in words.from..words.to {
             if rest.is_empty() {
                 break;
             }
-            let (part, behind) = type_up_to(rest, &[","]);
-            if !are_arguments || !(part.is_empty() || is_lifetime(first_word(part))) {
+            let behind = self.tokens.type_up_to(rest, &[Word::Comma]);
+            let part = rest.before(behind);
+            if !are_arguments || !(part.is_empty() || self.tokens.front(part) == Word::Lifetime) {
                 self.words.push(&mut all, part);
             }
-            rest = behind_first(behind);
+            rest = behind.behind_first();
         }
         all
     }
 
     /// Takes what is in angle brackets, and gives the words of each argument, but for lifetimes.
-    pub(super) fn arguments(&mut self) -> Vec<&'a [Token]> {
-        if !self.words.take("<") {
+    pub(super) fn arguments(&mut self) -> Vec<Words> {
+        if !self.words.take(Word::Less) {
             return Vec::new(self.alloc);
         }
-        let (inside, rest) = type_up_to(self.words.rest, &[">"]);
+        let words = self.words.rest;
+        let rest = self.tokens.type_up_to(words, &[Word::Greater]);
         self.words.rest = rest;
-        self.words.owe(">");
-        self.parts(inside, true)
+        self.words.owe(Word::Greater, ">");
+        self.parts(words.before(rest), true)
     }
 
     /// The place of a type that holds the types and the length in these parts.
     #[cycle(types)]
-    pub(super) fn formed(&mut self, row: FormRow, parts: &[&'a [Token]], depth: u32) -> usize {
+    pub(super) fn formed(&mut self, row: FormRow, parts: &[Words], depth: u32) -> usize {
         let (form, types, length) = row;
         if parts.len() < types {
             return self.wrong(&[NO_ARGUMENTS]);
         }
         let mut places = Vec::new(self.alloc);
         for words in parts.iter().take(types) {
-            let place = self.whole(words, self.at, depth);
+            let place = self.whole(*words, self.at, depth);
             self.words.push(&mut places, place);
         }
-        let mut most = None;
-        if let Some(words) = parts.get(length) {
-            most = Some(self.length(words));
-        }
+        let most = match parts.get(length) {
+            Some(words) => Some(self.length(*words)),
+            None => None,
+        };
         if self.words.is_wrong {
             return NOWHERE;
         }
-        let words = parts.first().copied().unwrap_or(&[]);
+        let words = parts.first().copied().unwrap_or_default();
         match (form, places.as_slice()) {
             (KnownForm::Inner, [inner]) => *inner,
-            (KnownForm::Map | KnownForm::MapUpTo, _) => {
-                let pair = self.holding(KnownForm::Tuple, words, places, None);
-                let pairs = self.only(pair);
-                self.holding(form, words, pairs, most)
+            (KnownForm::Little | KnownForm::Big, [inner]) => self.ordered(form, words, *inner),
+            (KnownForm::List, [inner]) if most.is_none() && self.is_byte(words, *inner) => {
+                self.holding(KnownForm::Bytes, places, None)
             }
-            _ => self.holding(form, words, places, most),
+            (KnownForm::Map | KnownForm::MapUpTo, _) => {
+                let pair = self.holding(KnownForm::Tuple, places, None);
+                let mut pairs = Vec::new(self.alloc);
+                self.words.push(&mut pairs, pair);
+                self.holding(form, pairs, most)
+            }
+            _ => self.holding(form, places, most),
         }
     }
 
-    /// A list of one place.
-    pub(super) fn only(&mut self, place: usize) -> Vec<usize> {
-        let mut places = Vec::new(self.alloc);
-        self.words.push(&mut places, place);
-        places
+    /// Whether the type at a place is `u8`, and called so by these words.
+    fn is_byte(&self, words: Words, place: usize) -> bool {
+        matches!(self.schema.nodes.get(place), Some(Node::U8))
+            && self.tokens.text(self.tokens.last(words).name) == "u8"
     }
 
-    /// The place of a type that holds these, of which the first is a type of these words, or so many. An integer whose bytes
-    /// are sent in an order is there already.
-    pub(super) fn holding(
-        &mut self,
-        form: KnownForm,
-        words: &[Token],
-        places: Vec<usize>,
-        most: Option<u64>,
-    ) -> usize {
-        let first = places.first().copied().unwrap_or(NOWHERE);
-        let is_ordered = matches!(form, KnownForm::Little | KnownForm::Big);
-        let (is_byte, of) = match (last_word(words), self.node(first)) {
+    /// The place of an integer, which these words say, and whose bytes are sent in an order.
+    pub(super) fn ordered(&mut self, form: KnownForm, words: Words, place: usize) -> usize {
+        let of = match self.tokens.text(self.tokens.last(words).name) {
             // an integer of devices is as wide as their addresses
-            ("isize" | "usize", _) => (false, None),
-            ("u8", Some(Node::U8)) => (most.is_none(), None),
-            (_, node) => (false, varint_type(node)),
+            "isize" | "usize" => None,
+            _ => varint_type(self.schema.nodes.get(place)),
         };
-        let (form, names) = match form {
-            KnownForm::List if is_byte => (KnownForm::Bytes, Names::Nothing),
-            KnownForm::Map | KnownForm::MapUpTo => (form, Names::Map),
-            KnownForm::Outcome => (form, self.outcome()),
-            KnownForm::Tuple if places.is_empty() => (form, Names::Unit),
-            KnownForm::Tuple => (form, Names::Tuple),
-            _ => (form, Names::Nothing),
+        match node_of(form, Vec::new(self.alloc), None, of) {
+            Some(node) => self.put(place, node, Names::Nothing),
+            None => self.refuse(self.tokens.first(words).name, NO_INTEGER),
+        }
+    }
+
+    /// The place of a type that holds these, or so many.
+    fn holding(&mut self, form: KnownForm, places: Vec<usize>, most: Option<u64>) -> usize {
+        let names = match form {
+            KnownForm::Map | KnownForm::MapUpTo => Names::Map,
+            KnownForm::Outcome => self.outcome(),
+            KnownForm::Tuple if places.is_empty() => Names::Unit,
+            KnownForm::Tuple => Names::Tuple,
+            _ => Names::Nothing,
         };
-        match node_of(form, places, most, of) {
-            Some(node) if is_ordered => self.put(first, node, names),
+        match node_of(form, places, most, None) {
             Some(node) => self.add(node, names),
-            None if is_ordered => self.refuse(
-                first_word(words),
-                "` isn't an integer of 16 to 128 bits: write one, or its bytes as an array",
-            ),
             None => self.wrong(&[NO_ARGUMENTS]),
         }
     }
@@ -148,7 +148,8 @@ impl<'a> Builder<'a, '_> {
     fn outcome(&mut self) -> Names {
         let mut names = Vec::new(self.alloc);
         for name in ["Ok", "Err"] {
-            self.keep_name(&mut names, name);
+            let name = self.text_of(name);
+            self.words.push(&mut names, name);
         }
         Names::Variants(names)
     }

@@ -15,15 +15,16 @@ fn roots_of(layout: Layout) -> &'static [&'static str] {
     }
 }
 
-impl<'a> Builder<'a, '_> {
+impl Builder<'_> {
     /// A struct of these fields.
-    pub(super) fn group(&mut self, fields: &Fields<'a>, depth: u32) -> (Node, Names) {
+    pub(super) fn group(&mut self, fields: &Fields, depth: u32) -> (Node, Names) {
         let mut places = Vec::new(self.alloc);
         let mut names = Vec::new(self.alloc);
         for field in &fields.items {
             let place = self.field(field, depth);
             self.words.push(&mut places, place);
-            self.keep_name(&mut names, field.name);
+            let name = self.text_of(self.tokens.text(field.name));
+            self.words.push(&mut names, name);
         }
         let names = match fields.form {
             Form::Unit => Names::Unit,
@@ -35,63 +36,62 @@ impl<'a> Builder<'a, '_> {
     }
 
     /// An enum of these variants.
-    pub(super) fn choice(&mut self, variants: &[VariantOf<'a>], depth: u32) -> (Node, Names) {
+    pub(super) fn choice(&mut self, variants: &[VariantOf], depth: u32) -> (Node, Names) {
         let mut payloads = Vec::new(self.alloc);
         let mut names = Vec::new(self.alloc);
         for variant in variants {
             self.words.variant = variant.name;
             let payload = self.payload(&variant.fields, depth);
             self.words.push(&mut payloads, payload);
-            self.keep_name(&mut names, variant.name);
+            let name = self.text_of(self.tokens.text(variant.name));
+            self.words.push(&mut names, name);
         }
         (Node::Enum(payloads), Names::Variants(names))
     }
 
     /// The place of what a variant holds: of one field without a name its type, else a struct.
-    fn payload(&mut self, fields: &Fields<'a>, depth: u32) -> usize {
+    fn payload(&mut self, fields: &Fields, depth: u32) -> usize {
         if let (Form::Tuple, [only], 1) = (fields.form, fields.items.as_slice(), fields.count) {
             return self.field(only, depth);
         }
-        let (node, names) = self.group(fields, depth);
-        let is_empty = matches!(names, Names::Unit);
-        self.add(node, if is_empty { Names::Empty } else { names })
+        match self.group(fields, depth) {
+            (node, Names::Unit) => self.add(node, Names::Empty),
+            (node, names) => self.add(node, names),
+        }
     }
 
     /// The place of the type of a field, whose bytes an attribute may lay out.
-    fn field(&mut self, field: &Field<'a>, depth: u32) -> usize {
+    fn field(&mut self, field: &Field, depth: u32) -> usize {
         self.words.is_wrong = false;
         self.words.field = Some((field.place, field.name));
         let place = self.whole(field.of, self.at, depth);
         if self.words.is_wrong {
             return NOWHERE;
         }
-        if let [token, ..] = field.of {
-            self.words.line = token.line;
-        }
+        self.words.line = self.tokens.first(field.of).line;
         let roots = roots_of(field.layout);
         for root in roots {
-            if !self.names.is_foreign(self.at.scope, root, roots) {
+            if !self
+                .names
+                .is_foreign(self.at.scope, self.tokens.found_name(root), roots)
+            {
                 return self.wrong(&[
                     "`with` names something of these files or of another crate here: write the type that is on the wire",
                 ]);
             }
         }
-        let form = match (field.layout, self.node(place)) {
-            (Layout::Little, _) => KnownForm::Little,
-            (Layout::Big, _) => KnownForm::Big,
+        match (field.layout, self.schema.nodes.get(place)) {
+            (Layout::Little, _) => self.ordered(KnownForm::Little, field.of, place),
+            (Layout::Big, _) => self.ordered(KnownForm::Big, field.of, place),
             (Layout::Own, _)
             | (Layout::Buffer, Some(Node::Bytes))
-            | (Layout::Array, Some(Node::Array(..))) => return place,
+            | (Layout::Array, Some(Node::Array(..))) => place,
             (Layout::Buffer, Some(Node::Option(inner)))
-                if matches!(self.node(*inner), Some(Node::Bytes)) => return place,
-            (Layout::Buffer, _) => return self.wrong(&[
+                if matches!(self.schema.nodes.get(*inner), Some(Node::Bytes)) => place,
+            (Layout::Buffer, _) => self.wrong(&[
                 "`serde_bytes` sends how many bytes there are before them: write `ByteBuf` in its place",
             ]),
-            _ => return self.wrong(&[
-                "`with` is of an array here: write the type that is on the wire",
-            ]),
-        };
-        let places = self.only(place);
-        self.holding(form, field.of, places, None)
+            _ => self.wrong(&["`with` is of an array here: write the type that is on the wire"]),
+        }
     }
 }

@@ -2,11 +2,11 @@
 use super::{Builder, Context, DEEPEST, Given, NOWHERE};
 use crate::Names;
 use crate::known::{KnownForm, form_of, is_known, plain_node, sent_as};
-use crate::names::{Found, Path, Space, What, has_word};
-use declaration_parser::attributes::{first_word, front, group, last_word, plain_name, up_to};
+use crate::names::{Found, Path, Space, What};
 use declaration_parser::declaration::Declaration;
 use declaration_parser::faults::Faults;
-use declaration_parser::tokens::{Token, Word, common, is_among, is_lifetime, is_listed, is_name};
+use declaration_parser::texts::{common, is_listed};
+use declaration_parser::tokens::{NO_NAME, Name, Tokens, Word, Words, word_of};
 use schema_table::Node;
 
 /// How many nodes a table has at most, which parameters could make many.
@@ -31,60 +31,39 @@ const HANDED: &str =
 const CANNOT_BE_SENT: &str =
     "` begins a type that postcard can't send: leave the field out, or write the type that is on the wire";
 
+const LEFT_OUT: &str = "` is left out, and defaults aren't followed: write it";
+
 const MORE: &str =
     "` can't stand here, where lifetimes and what stands for parameters alone do: leave it out";
 
 const BEHIND: &str =
     "` can't stand behind a type: write a known type, or one that is declared and marked";
 
-/// Appends which declared name is most like a word, if half of it is, and all that there are.
-fn put_nearest<'a>(faults: &mut Faults<'a>, declared: &[Declaration<'a>], word: &str) {
-    let (mut most, mut nearest) = (0, "");
-    for it in declared {
-        let common = common(word, it.name);
-        let is_near = common.saturating_mul(2) >= word.len().max(it.name.len());
-        if is_near && common > most {
-            (most, nearest) = (common, it.name);
-        }
-    }
-    if most > 0 {
-        faults.put_all(&["the nearest is `", nearest, "`\n"]);
-    }
-    faults.put("there are:");
-    for it in declared {
-        faults.put_all(&[" ", it.name]);
-    }
-    faults.put("\n");
-}
-
-/// The path at the start of words, its last name, empty if there is none, and the words after it, as `<u8>` after `Vec::`.
-pub fn path_at(words: &[Token]) -> (Path<'_>, &str, &[Token]) {
+/// The path at the start of words, its last name, if there is one, and the words after it, as `<u8>` after `Vec::`.
+pub fn path_at(tokens: &Tokens, words: Words) -> (Path, Name, Words) {
     let mut path = Path::default();
-    let mut last = "";
+    let mut last = NO_NAME;
     let mut rest = words;
-    for _ in 0..words.len() {
-        match rest {
-            [one, two, behind @ ..] if matches!((one.word, two.word), (Word::Colon, Word::Colon)) =>
-                {
-                    rest = behind;
-                    match (last, front(behind)) {
-                        ("", _) => path.begin(),
-                        (_, Word::Less) => break,
-                        _ => path.go(last),
-                    }
-                    last = "";
-                }
-            [name, behind @ ..] if last.is_empty() && is_name(name.text.as_str()) => {
-                last = plain_name(name.text.as_str());
-                rest = behind;
+    for _ in words.from..words.to {
+        let (first, behind) = (tokens.first(rest), rest.behind_first());
+        if first.word == Word::Colon && tokens.front(behind) == Word::Colon {
+            rest = behind.behind_first();
+            match tokens.front(rest) {
+                _ if last == NO_NAME => path.begin(),
+                Word::Less => break,
+                _ => path.go(last),
             }
-            _ => break,
+            last = NO_NAME;
+        } else if last == NO_NAME && first.is_name {
+            (last, rest) = (first.name, behind);
+        } else {
+            break;
         }
     }
     (path, last, rest)
 }
 
-impl<'a> Builder<'a, '_> {
+impl<'a> Builder<'a> {
     /// The place of the type at the start of the words, which are taken. It may nest in so many words.
     #[cycle(types)]
     pub(super) fn place(&mut self, depth: u32) -> usize {
@@ -104,7 +83,7 @@ impl<'a> Builder<'a, '_> {
                 "the types have more than 100000 parts: read them from fewer files",
             ]);
         }
-        match (front(self.words.rest), group(self.words.rest)) {
+        match (self.words.peek(), self.tokens.group(self.words.rest)) {
             (open @ (Word::Paren | Word::Bracket), Some((inside, rest))) => {
                 self.words.rest = rest;
                 self.bracketed(open, inside, depth - 1)
@@ -112,11 +91,10 @@ impl<'a> Builder<'a, '_> {
             (Word::Less, _) => self.wrong(&[
                 "`<..>::` isn't followed here: write the type that it stands for",
             ]),
-            _ if self.words.take("&") => {
-                if is_lifetime(self.words.peek()) {
-                    self.words.step();
-                }
-                self.words.take("mut");
+            (Word::And, _) => {
+                self.words.step();
+                self.words.take(Word::Lifetime);
+                self.words.take(Word::Mutable);
                 self.place(depth - 1)
             }
             _ => self.named(depth - 1),
@@ -125,45 +103,47 @@ impl<'a> Builder<'a, '_> {
 
     /// The place of what is in brackets: an array, or what is borrowed as a slice; in parentheses a tuple, or a type.
     #[cycle(types)]
-    fn bracketed(&mut self, open: Word, inside: &'a [Token], depth: u32) -> usize {
-        if matches!(open, Word::Paren) {
+    fn bracketed(&mut self, open: Word, inside: Words, depth: u32) -> usize {
+        if open == Word::Paren {
             let parts = self.parts(inside, false);
             let form = match parts.len() {
-                1 if last_word(inside) != "," => KnownForm::Inner,
+                1 if self.tokens.last(inside).word != Word::Comma => KnownForm::Inner,
                 _ => KnownForm::Tuple,
             };
             return self.formed((form, parts.len(), NOWHERE), &parts, depth);
         }
-        match up_to(inside, &[";"]) {
-            (of, [_, length @ ..]) => self.formed((KnownForm::Array, 1, 1), &[of, length], depth),
-            (of, _) => self.formed((KnownForm::List, 1, NOWHERE), &[of], depth),
-        }
+        let behind = self.tokens.up_to(inside, &[Word::Semicolon]);
+        let row = match behind.is_empty() {
+            true => (KnownForm::List, 1, NOWHERE),
+            false => (KnownForm::Array, 1, 1),
+        };
+        self.formed(row, &[inside.before(behind), behind.behind_first()], depth)
     }
 
     /// The place of a type by its name or its path: a parameter, one that the files declare, or one that is known.
     #[cycle(types)]
     fn named(&mut self, depth: u32) -> usize {
-        let (path, last, rest) = path_at(self.words.rest);
-        let word = self.words.step();
-        if is_listed(word, UNSENT) {
-            return self.refuse(word, CANNOT_BE_SENT);
+        let (path, last, rest) = path_at(self.tokens, self.words.rest);
+        let first = self.words.step();
+        if first.word != Word::Raw && is_listed(self.tokens.text(first.name), UNSENT) {
+            return self.refuse(first.name, CANNOT_BE_SENT);
         }
-        if last.is_empty() {
-            return self.refuse(word, UNDECLARED);
+        if last == NO_NAME {
+            return self.refuse(first.name, UNDECLARED);
         }
         self.words.rest = rest;
         if path.is_empty() {
             if let Some(it) = self.given(last, false) {
                 return self.whole(it.words, it.at, depth);
             }
-            if last == "Self" {
+            if word_of(last) == Word::OwnType {
                 return match self.made.get(self.at.own) {
                     Some(made) => made.place,
                     None => self.wrong(&["`Self` stands for no type here: write its name"]),
                 };
             }
         }
-        match self.found(path, last, Space::Types) {
+        match self.found(&path, last, Space::Types) {
             Found::In(What::Marked(index), _) => self.instance(index, depth),
             Found::In(What::Alias(words), scope) => {
                 self.arguments_of(&[], &[]);
@@ -175,9 +155,9 @@ impl<'a> Builder<'a, '_> {
             Found::Two => self.refuse_two(last),
             Found::Outside => self.wrong(&[
                 "`",
-                path.root(),
+                self.tokens.text(path.root()),
                 "::..`: write `",
-                last,
+                self.tokens.text(last),
                 "` alone, and its declaration into this file, or the type that is on the wire",
             ]),
             _ => self.unknown(last),
@@ -185,36 +165,35 @@ impl<'a> Builder<'a, '_> {
     }
 
     /// What a path stands for where it is read.
-    pub(super) fn found(&self, path: Path<'a>, last: &'a str, space: Space) -> Found<'a> {
-        if self.is_asked() && space == Space::Types {
+    pub(super) fn found(&self, path: &Path, last: Name, space: Space) -> Found {
+        let scope = self.at.scope;
+        if scope == self.asked && space == Space::Types {
             match self.names.find_asked(path, last) {
                 Found::Not if !path.is_empty() => {}
-                Found::Not if is_known(last) => return Found::Known(last),
+                Found::Not if is_known(self.tokens.text(last)) => return Found::Known(last),
                 found => return found,
             }
         }
         if path.is_empty() {
             // most names are these, and needn't be looked for
-            if space == Space::Types && self.names.is_untouched(self.at.scope, last) {
+            if space == Space::Types && self.names.is_untouched(scope, last) {
                 return Found::Known(last);
             }
-            return self.names.find(self.at.scope, last, space);
+            return self.names.find(scope, last, space);
         }
         // what belongs to a parameter isn't known here
         if !path.is_absolute && self.given(path.root(), false).is_some() {
             return Found::Outside;
         }
-        self.names.find_by_path(self.at.scope, path, last, space)
+        self.names.find_by_path(scope, path, last, space)
     }
 
     /// Refuses a name that stands for more than one thing, with the paths that say which.
-    fn refuse_two(&mut self, word: &str) -> usize {
+    fn refuse_two(&mut self, name: Name) -> usize {
         let mut paths = Faults::new(self.alloc);
-        self.names.put_paths(&mut paths, word);
-        let paths = paths.finished();
-        self.words.faults.note(paths.is_err());
-        let paths = paths.unwrap_or(String::new(self.alloc));
-        self.wrong(&["`", word, TWO, paths.as_str()])
+        self.names.put_paths(&mut paths, name);
+        let paths = paths.apart_from(&mut self.words.faults);
+        self.wrong(&["`", self.tokens.text(name), TWO, paths.as_str()])
     }
 
     fn refuse_sent(&mut self, word: &str, sent: &str) -> usize {
@@ -222,42 +201,72 @@ impl<'a> Builder<'a, '_> {
     }
 
     /// Refuses a type that isn't known: one that is requested with the nearest, and with all that there are.
-    fn unknown(&mut self, word: &str) -> usize {
+    fn unknown(&mut self, name: Name) -> usize {
+        let word = self.tokens.text(name);
         if let Some(sent) = sent_as(word) {
             return self.refuse_sent(word, sent);
         }
-        if self.names.endpoints.iter().any(|it| has_word(it, word)) {
-            return self.refuse(word, ENDPOINT);
+        for words in &self.names.endpoints {
+            if self.tokens.has_name(*words, name) {
+                return self.refuse(name, ENDPOINT);
+            }
         }
-        if self.names.is_first_handed(word) {
-            return self.refuse(word, HANDED);
+        if self.names.is_first_handed(name) {
+            return self.refuse(name, HANDED);
         }
-        self.refuse(word, UNDECLARED);
-        if self.is_asked() {
-            put_nearest(&mut self.words.faults, &self.declared.all, word);
+        self.refuse(name, UNDECLARED);
+        if self.at.scope == self.asked {
+            self.put_nearest(word);
         }
         NOWHERE
     }
 
+    /// Appends which declared name is most like a word, if half of it is, and all that there are.
+    fn put_nearest(&mut self, word: &str) {
+        let (mut most, mut nearest) = (0, "");
+        for it in self.all {
+            let name = self.tokens.text(it.name);
+            let common = common(word, name);
+            if common > most && common.saturating_mul(2) >= word.len().max(name.len()) {
+                (most, nearest) = (common, name);
+            }
+        }
+        let faults = &mut self.words.faults;
+        if most > 0 {
+            faults.put_all(&["the nearest is `", nearest, "`\n"]);
+        }
+        faults.put("there are:");
+        for it in self.all {
+            faults.put_all(&[" ", self.tokens.text(it.name)]);
+        }
+        faults.put("\n");
+    }
+
     /// What stands for a parameter of this name, which is a length or a type.
-    pub(super) fn given(&self, word: &str, is_length: bool) -> Option<Given<'a>> {
-        let mut of = self.made.get(self.at.own)?.of.iter();
-        of.find(|it| it.name == word && it.is_length == is_length)
-            .copied()
+    pub(super) fn given(&self, name: Name, is_length: bool) -> Option<Given> {
+        for it in &self.made.get(self.at.own)?.of {
+            if it.name == name && it.is_length == is_length {
+                return Some(*it);
+            }
+        }
+        None
     }
 
     /// What words are that stand for a parameter: those of the parameter that they are, if they are one.
-    fn given_by(&self, name: &'a str, is_length: bool, words: &'a [Token]) -> Given<'a> {
-        if let [only] = words
-            && let Some(it) = self.given(plain_name(only.text.as_str()), is_length)
+    fn given_by(&self, name: Name, is_length: bool, words: Words) -> Given {
+        let mut at = self.at;
+        if let Some(own) = self.made.get(at.own)
+            && !self.tokens.has_name(words, self.tokens.found_name("Self"))
         {
-            return Given { name, ..it };
+            at.own = NOWHERE;
+            for it in &own.of {
+                let is_it = self.tokens.has_name(words, it.name);
+                if is_it && words.len() == 1 && it.is_length == is_length {
+                    return Given { name, ..*it };
+                }
+                at.own = if is_it { self.at.own } else { at.own };
+            }
         }
-        let own = self.made.get(self.at.own);
-        let is_of_own = has_word(words, "Self")
-            || own.is_some_and(|own| own.of.iter().any(|it| has_word(words, it.name)));
-        let own = if is_of_own { self.at.own } else { NOWHERE };
-        let at = Context { own, ..self.at };
         Given {
             name,
             is_length,
@@ -267,31 +276,30 @@ impl<'a> Builder<'a, '_> {
     }
 
     /// Takes what is in angle brackets for these parameters, of which some are lengths.
-    fn arguments_of(&mut self, parameters: &[&'a str], lengths: &[&str]) -> Vec<Given<'a>> {
+    fn arguments_of(&mut self, parameters: &[Name], lengths: &[Name]) -> Vec<Given> {
         let mut given = Vec::new(self.alloc);
         let all = self.arguments();
         let mut rest = all.iter();
-        for name in parameters.iter().filter(|name| !is_lifetime(name)) {
-            if let Some(words) = rest.next() {
-                let it = self.given_by(name, is_among(name, lengths), words);
-                self.words.push(&mut given, it);
-            } else {
-                self.refuse(
-                    name,
-                    "` is left out, and defaults aren't followed: write it",
-                );
+        for name in parameters {
+            if self.tokens.text(*name).starts_with('\'') {
+                continue;
             }
+            let Some(words) = rest.next() else {
+                self.refuse(*name, LEFT_OUT);
+                break;
+            };
+            let it = self.given_by(*name, lengths.contains(name), *words);
+            self.words.push(&mut given, it);
         }
         if let Some(words) = rest.next() {
-            self.refuse(first_word(words), MORE);
+            self.refuse(self.tokens.first(*words).name, MORE);
         }
         given
     }
 
     /// The place of a declared type, with what is in angle brackets after it.
     fn instance(&mut self, index: usize, depth: u32) -> usize {
-        let declared = self.declared;
-        let Some(it) = declared.all.get(index) else {
+        let Some(it) = self.all.get(index) else {
             return NOWHERE;
         };
         let of = self.arguments_of(&it.parameters, &it.lengths);
@@ -303,27 +311,28 @@ impl<'a> Builder<'a, '_> {
     }
 
     #[cycle(types)]
-    fn known(&mut self, word: &'a str, depth: u32) -> usize {
+    fn known(&mut self, name: Name, depth: u32) -> usize {
+        let word = self.tokens.text(name);
         match (form_of(word), plain_node(word)) {
-            (Some(row), _) if word != "String" || self.words.peek() == "<" => {
+            (Some(row), _) if word != "String" || self.words.peek() == Word::Less => {
                 let parts = self.arguments();
                 self.formed(row, &parts, depth)
             }
             (_, Some(Node::LE(of))) => self.add(Node::LE(of), Names::Float),
             (_, Some(node)) => self.add(node, Names::Nothing),
-            _ => self.unknown(word),
+            _ => self.unknown(name),
         }
     }
 
     /// The place of the type that these words say, and nothing after it.
     #[cycle(types)]
-    pub(super) fn whole(&mut self, words: &'a [Token], at: Context, depth: u32) -> usize {
+    pub(super) fn whole(&mut self, words: Words, at: Context, depth: u32) -> usize {
         let (before, rest, line) = (self.at, self.words.rest, self.words.line);
         self.turn_to(at);
         self.words.rest = words;
         let mut place = self.place(depth);
-        if let [next, ..] = self.words.rest {
-            place = self.refuse(next.text.as_str(), BEHIND);
+        if !self.words.rest.is_empty() {
+            place = self.refuse(self.tokens.first(self.words.rest).name, BEHIND);
         }
         self.turn_to(before);
         self.words.turn_to(rest);

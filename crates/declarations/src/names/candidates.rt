@@ -1,10 +1,9 @@
 //! The candidates of a step: the items of a name in some scopes.
 ghost use Rattle.std.specs.Prelude.{◌≡◌};
-ghost use Rattle.std.specs.Cmp.Lexicographic.{pointwise};
 ghost use Rattle.std.specs.List.{slice_get};
-ghost use Rattle.declarations.specs.Candidates.{is_alike_byte, is_item_of, is_place_of_step, candidates, TellsOnly};
+ghost use Rattle.declarations.specs.Candidates.{is_item_of, is_place_of_step, candidates, TellsOnly};
 
-use super::{Item, Kind, Scope, What};
+use super::{Item, Kind, Name, Scope, What};
 
 /// What a name is looked for as.
 #[derive(Clone, Copy, PartialEq, Eq, Drop)]
@@ -17,47 +16,28 @@ pub enum Space {
 
 /// A step: the scopes in which a name is looked for.
 #[derive(Clone, Copy, Drop)]
-pub enum Step<'a> {
+pub enum Step {
     /// One alone.
     Scope(usize),
     /// The modules of all files.
     All,
     /// The modules of this name.
-    Module(&'a str),
+    Module(Name),
     /// All bodies.
     Bodies,
 }
 
 /// How many candidates a step has.
 #[derive(Clone, Copy, Drop)]
-pub enum Only<'b, 'a> {
+pub enum Only {
     Nothing,
-    One(&'b Item<'a>),
+    One(Item),
     Two,
 }
 
-/// Whether a module has this name: a crate's has `_` for the `-` of its folder.
-pub fn is_called(name: &str, wanted: &str) -> bool
-    ensures { result ≡ pointwise is_alike_byte name.now wanted.now }
-{
-    let mut left = name.as_bytes();
-    let mut right = wanted.as_bytes();
-    while let [first, behind @ ..] = left {
-        let [other, rest @ ..] = right else {
-            return false;
-        };
-        if *first != *other && (*first != b'-' || *other != b'_') {
-            return false;
-        }
-        left = behind;
-        right = rest;
-    }
-    right.is_empty()
-}
-
 /// Whether a scope is one of a step's.
-pub fn is_within(scopes: &[Scope<'_>], step: Step<'_>, scope: usize) -> bool
-    ensures { result ≡ is_place_of_step step.entry scope (slice_get scopes.now scope) }
+pub fn is_within(scopes: &[Scope], step: Step, scope: usize) -> bool
+    ensures { result ≡ is_place_of_step step scope (slice_get scopes.now scope) }
 {
     let Some(it) = scopes.get(scope) else {
         return false;
@@ -66,13 +46,13 @@ pub fn is_within(scopes: &[Scope<'_>], step: Step<'_>, scope: usize) -> bool
     match step {
         Step::Scope(own) => scope == own,
         Step::All => is_module,
-        Step::Module(name) => is_module && is_called(it.name, name),
+        Step::Module(name) => is_module && it.name == name,
         Step::Bodies => !is_module,
     }
 }
 
 /// Whether an item is what a name is looked for as.
-fn is_of(item: &Item<'_>, space: Space) -> bool
+fn is_of(item: &Item, space: Space) -> bool
     ensures { result ≡ is_item_of space item.now.what }
 {
     let is_constant = matches!(item.what, What::Constant(..) | What::RefusedConstant(_));
@@ -84,14 +64,8 @@ fn is_of(item: &Item<'_>, space: Space) -> bool
 }
 
 /// The only candidate among items.
-pub fn only_of<'b, 'a>(
-    items: &'b [Item<'a>],
-    scopes: &[Scope<'a>],
-    step: Step<'_>,
-    name: &str,
-    space: Space,
-) -> Only<'b, 'a>
-    ensures only { TellsOnly result (candidates scopes.now step.entry name.now space items.now) }
+pub fn only_of(items: &[Item], scopes: &[Scope], step: Step, name: Name, space: Space) -> Only
+    ensures only { TellsOnly result (candidates scopes.now step name space items.now) }
 {
     let mut found = None;
     let mut left = items;
@@ -100,7 +74,7 @@ pub fn only_of<'b, 'a>(
             if found.is_some() {
                 return Only::Two;
             }
-            found = Some(item);
+            found = Some(*item);
         }
         left = rest;
     }

@@ -1,5 +1,8 @@
 //! Which file a module has, by the folders that both are in.
-use super::{Kind, Scopes};
+use super::leads::{Lead, both};
+use super::{Kind, NO_NAME, Name, Scopes};
+use crate::known::is_known_crate;
+use std::alloc::{AllocError, Global};
 
 /// A path without its last name, and that name.
 fn split_last(path: &str) -> (&str, &str) {
@@ -9,14 +12,23 @@ fn split_last(path: &str) -> (&str, &str) {
 /// The folder of a file, and its name without the ending.
 fn parts_of(file: &str) -> (&str, &str) {
     let (folder, name) = split_last(file);
-    let (stem, _) = name.rsplit_once('.').unwrap_or((name, ""));
-    (folder, stem)
+    (folder, name.rsplit_once('.').unwrap_or((name, "")).0)
+}
+
+/// The folder of a module that has this file, and its name: the file's, or its folder's.
+fn module_at(file: &str) -> (&str, &str) {
+    let (folder, stem) = parts_of(file);
+    if stem == "mod" {
+        split_last(folder)
+    } else {
+        (folder, stem)
+    }
 }
 
 /// The folder in which one of this name is, if that is its last name.
 fn without_last<'f>(folder: &'f str, name: &str) -> Option<&'f str> {
     let (before, last) = split_last(folder);
-    (last == name).then_some(before)
+    if last == name { Some(before) } else { None }
 }
 
 /// Whether a file of this name is the root of a crate.
@@ -32,19 +44,8 @@ fn has_roots(folder: &str) -> bool {
 
 /// Whether a folder is the `src` of a crate, or in it. Above a whole path it may have any name.
 fn is_in_src(folder: &str) -> bool {
-    let is_whole = folder.starts_with('/');
-    split_last(folder).1 == "src"
-        || (!is_whole && (folder.starts_with("src/") || folder.contains("/src/")))
-}
-
-/// By which name a module has a file: the file's, or its folder's.
-fn called(file: &str) -> &str {
-    let (folder, stem) = parts_of(file);
-    if stem == "mod" {
-        split_last(folder).1
-    } else {
-        stem
-    }
+    let is_below = folder.starts_with("src/") || folder.contains("/src/");
+    split_last(folder).1 == "src" || (is_below && !folder.starts_with('/'))
 }
 
 /// The module that a file is: by its name, or by its folder's.
@@ -53,116 +54,136 @@ pub(super) fn module_of_file(file: &str) -> &str {
     if is_root(stem) {
         return split_last(folder.strip_suffix("/src").unwrap_or(folder)).1;
     }
-    called(file)
+    module_at(file).1
+}
+
+/// The name of the module that a file is: a crate's has `_` for the `-` of its folder.
+pub fn module_of(alloc: Global, file: &str) -> Result<String, AllocError> {
+    module_of_file(file).replace(alloc, '-', "_")
 }
 
 impl<'a> Scopes<'a> {
     /// Whether the files of a module's modules are in this folder.
     fn is_folder_of(&self, module: usize, folder: &str) -> bool {
-        let mut at = module;
+        let mut it = self.scope(module);
         let mut left = folder;
         for _ in 0..self.scopes.len() {
-            let it = self.scope(at);
             if it.kind == Kind::File {
-                let (own, stem) = parts_of(self.name_of_file(it.file));
+                let (own, stem) = parts_of(self.tokens.name_of_file(it.file));
                 let has_own = is_root(stem) || stem == "mod" || has_roots(own);
                 // one that a `#[path]` names has them beside it
                 let is_named = without_last(left, stem) == Some(own) && !self.is_elsewhere(it.file);
                 return left == own && has_own || is_named;
             }
-            if it.kind == Kind::Module {
-                let Some(before) = without_last(left, it.name) else {
-                    return false;
-                };
-                left = before;
+            match without_last(left, self.tokens.text(it.name)) {
+                _ if it.kind != Kind::Module => {}
+                Some(before) => left = before,
+                None => return false,
             }
-            at = it.outer;
+            it = self.scope(it.outer);
         }
         false
     }
 
-    /// Whether a file is that of a module's module, whose name it has.
+    /// Whether a file is that of a module's module, whose name it has: one that Rust can name.
     fn is_file_in(&self, module: usize, file: usize) -> bool {
-        let (folder, stem) = parts_of(self.name_of_file(file));
-        let within = match stem {
-            "mod" => split_last(folder).0,
-            _ => folder,
-        };
-        !is_root(stem) && self.is_folder_of(module, within)
+        let file = self.tokens.name_of_file(file);
+        let (folder, name) = module_at(file);
+        !is_root(parts_of(file).1) && !name.contains('-') && self.is_folder_of(module, folder)
     }
 
     /// The only file of these that a module has for a module of this name.
-    pub(super) fn file_in(&self, module: usize, name: &str) -> Option<usize> {
-        let mut files = (0..self.files.len()).filter(|file| self.scope(*file).name == name
-            && self.is_file_in(module, *file));
-        let found = files.next()?;
-        files.next().is_none().then_some(found)
+    pub(super) fn file_in(&self, module: usize, name: Name) -> Lead {
+        let mut found = Lead::Not;
+        for file in 0..self.tokens.files.len() {
+            if self.scope(file).name == name && self.is_file_in(module, file) {
+                found = both(found, Lead::In(file));
+            }
+        }
+        if matches!(found, Lead::In(_)) {
+            found
+        } else {
+            Lead::Outside
+        }
+    }
+
+    /// Where the name of a crate leads: to the only library whose folder has it.
+    pub(super) fn crate_lead(&self, name: Name) -> Lead {
+        let is_known = is_known_crate(self.tokens.text(name));
+        let mut found = Lead::Not;
+        for file in 0..self.tokens.files.len() {
+            let (_, stem) = parts_of(self.tokens.name_of_file(file));
+            if self.scope(file).name == name && stem == "lib" {
+                found = both(found, Lead::In(file));
+            }
+        }
+        found.or(if is_known { Lead::Known } else { Lead::Outside })
     }
 
     /// Whether a module may have a file that isn't where the module's name says.
     fn is_elsewhere(&self, file: usize) -> bool {
-        let own = called(self.name_of_file(file));
-        let mut scopes = self.scopes.iter();
-        scopes.any(|it| it.kind == Kind::Elsewhere && called(it.name) == own)
-    }
-
-    /// Whether a module may have a file: by where it is, or by a `#[path]`.
-    fn may_have(&self, module: usize, file: usize) -> bool {
-        let it = self.scope(module);
-        match it.kind {
-            Kind::Outline => it.name == self.scope(file).name && self.is_file_in(it.outer, file),
-            Kind::Elsewhere => called(it.name) == called(self.name_of_file(file)),
-            _ => false,
+        let (_, name) = module_at(self.tokens.name_of_file(file));
+        for it in &self.scopes {
+            let path = self.tokens.text(it.name).trim_matches('"');
+            if it.kind == Kind::Elsewhere && module_at(path).1 == name {
+                return true;
+            }
         }
+        false
     }
 
-    /// The module that has a file, if one of these files has it and no other may.
-    fn parent_of(&self, file: usize) -> Option<usize> {
-        let mut modules = (0..self.scopes.len()).filter(|at| self.may_have(*at, file));
-        let found = self.scope(modules.next()?);
-        let is_only = found.kind == Kind::Outline && modules.next().is_none();
-        is_only.then_some(found.outer)
+    /// The module that has a file: doubtful if another may have it too, none if none may.
+    fn parent_of(&self, file: usize) -> Lead {
+        let mut found = if self.is_elsewhere(file) {
+            Lead::Doubtful
+        } else {
+            Lead::Not
+        };
+        for (place, it) in self.scopes.iter().enumerate() {
+            let is_named = it.kind == Kind::Outline && it.name == self.scope(file).name;
+            if is_named && self.is_file_in(it.outer, file) {
+                found = both(found, Lead::In(place));
+            }
+        }
+        match found {
+            Lead::In(place) => Lead::In(self.scope(place).outer),
+            lead => lead,
+        }
     }
 
     /// The module round another one, if these files have it.
-    pub(super) fn around_module(&self, module: usize) -> Option<usize> {
+    pub(super) fn around_module(&self, module: usize) -> Lead {
         let it = self.scope(module);
-        if it.kind == Kind::File {
-            return self.parent_of(it.file);
-        }
-        Some(self.module_of(it.outer))
-    }
-
-    /// Whether a file is the root of a library by its name.
-    pub(super) fn is_library(&self, file: usize) -> bool {
-        parts_of(self.name_of_file(file)).1 == "lib"
-    }
-
-    /// Whether a file may be the root of a crate: by its name, by its folder, or since it is alone and not in a `src`.
-    fn may_be_root(&self, file: usize) -> bool {
-        let (folder, stem) = parts_of(self.name_of_file(file));
-        is_root(stem) || has_roots(folder) || (self.files.len() == 1 && !is_in_src(folder))
-    }
-
-    /// Whether a file is the root of a crate, and no module has it.
-    pub(super) fn is_top_file(&self, file: usize) -> bool {
-        self.may_be_root(file) && !(0..self.scopes.len()).any(|at| self.may_have(at, file))
-    }
-
-    /// The root of the crate whose modules lead to a scope. Words in no file are taken as those of the only file.
-    pub(super) fn root_of(&self, scope: usize) -> Option<usize> {
-        let file = self.scope(scope).file;
-        let mut own = match self.files.len() {
-            1 => 0,
-            count if file < count => file,
-            _ => return None,
+        let parent = match it.kind {
+            Kind::File => self.parent_of(it.file),
+            _ => Lead::In(self.beyond(it.outer, NO_NAME).0),
         };
-        for _ in 0..self.files.len() {
-            if self.may_be_root(own) {
-                return self.is_top_file(own).then_some(own);
-            }
-            own = self.scope(self.parent_of(own)?).file;
+        if matches!(parent, Lead::In(_)) {
+            parent
+        } else {
+            Lead::Lost
         }
-        None
+    }
+
+    /// The root of the crate whose modules lead to a scope: a file by its name, by its folder, or since it is alone and not in a
+    /// `src`. Words in no file are taken as those of the only file.
+    pub(super) fn root_of(&self, scope: usize) -> Lead {
+        let count = self.tokens.files.len();
+        let mut file = if count == 1 {
+            0
+        } else {
+            self.scope(scope).file
+        };
+        for _ in 0..count {
+            let (folder, stem) = parts_of(self.tokens.name_of_file(file));
+            let is_alone = count == 1 && !is_in_src(folder);
+            let may_be_root = is_root(stem) || has_roots(folder) || is_alone;
+            match (may_be_root, self.parent_of(file)) {
+                (true, Lead::Not) if file < count => return Lead::In(file),
+                (false, Lead::In(module)) if file < count => file = self.scope(module).file,
+                _ => break,
+            }
+        }
+        Lead::Lost
     }
 }

@@ -2,12 +2,11 @@
 ghost use Rattle.declarations.specs.Candidates.{TellsOnly};
 ghost use Rattle.declarations.specs.NameRule.{candidates_in};
 
-use super::candidates::{Only, Space, Step, is_called, is_within, only_of};
-use super::path::Path;
+use super::candidates::{Only, Space, Step, is_within, only_of};
 use super::rule::BROUGHT_IN;
-use super::{Import, Kind, Scopes, put};
-use crate::known::is_known_crate;
-use declaration_parser::tokens::is_among;
+use super::{Import, Kind, NO_NAME, Name, Path, Scopes};
+use declaration_parser::texts::is_among;
+use declaration_parser::tokens::{Word, word_of};
 
 /// Where a path leads.
 #[derive(Clone, Copy, Default, Drop)]
@@ -26,29 +25,45 @@ pub(super) enum Lead {
     Doubtful,
     /// Not to be followed, for this reason.
     Wrong(&'static str),
+    Not,
 }
 
 /// Whether a name of a path stands for a module by where it is used.
-fn is_start(name: &str) -> bool {
-    matches!(name, "crate" | "self" | "super")
+pub(super) fn is_start(name: Name) -> bool {
+    matches!(word_of(name), Word::Crate | Word::Own | Word::Super)
+}
+
+impl Lead {
+    /// Where a name leads that leads there if nowhere else.
+    pub(super) fn or(self, other: Lead) -> Lead {
+        if matches!(self, Lead::Not) {
+            other
+        } else {
+            self
+        }
+    }
 }
 
 /// Where a name leads that may lead there and elsewhere.
-fn both(found: Option<Lead>, other: Lead) -> Lead {
+pub(super) fn both(found: Lead, other: Lead) -> Lead {
     match (found, other) {
-        (None, _) => other,
-        (Some(Lead::In(one)), Lead::In(two)) if one == two => other,
-        (Some(Lead::Open), Lead::Open) => other,
+        (Lead::Not, lead) | (lead, Lead::Not) => lead,
+        (Lead::In(one), Lead::In(two)) if one == two => other,
+        (Lead::Open, Lead::Open) => other,
         _ => Lead::Doubtful,
     }
 }
 
 impl<'a> Scopes<'a> {
     /// The candidates of a step.
-    pub(super) fn only(&self, step: Step<'_>, name: &str, space: Space) -> Only<'_, 'a>
-        ensures only { TellsOnly result (candidates_in self.now step.entry name.now space) }
+    pub(super) fn only(&self, step: Step, name: Name, space: Space) -> Only
+        ensures only { TellsOnly result (candidates_in self.now step name space) }
     {
         only_of(&self.items, &self.scopes, step, name, space)
+    }
+
+    fn has_type(&self, step: Step, name: Name) -> bool {
+        self.has(name) && !matches!(self.only(step, name, Space::Types), Only::Nothing)
     }
 
     /// Whether a scope is in a module, as a body is.
@@ -56,100 +71,105 @@ impl<'a> Scopes<'a> {
         matches!(self.scope(scope).kind, Kind::Body | Kind::Impl)
     }
 
-    /// The module round a body; of others the scope itself.
-    pub(super) fn module_of(&self, scope: usize) -> usize {
-        let mut at = scope;
+    /// The module round a body, of others the scope itself; and whether a body on the way may have a module or a type of this
+    /// name, or bring one in.
+    pub(super) fn beyond(&self, scope: usize, name: Name) -> (usize, bool) {
+        let (mut at, mut is_hidden) = (scope, false);
         for _ in 0..self.scopes.len() {
             if !self.is_inner(at) {
                 break;
             }
+            let may_have = self.has_star(at) || self.may_import(at, name);
+            let has_own = may_have || !matches!(self.own_lead(at, name, false), Lead::Not);
+            is_hidden = is_hidden || (has_own && !is_start(name));
             at = self.scope(at).outer;
         }
-        at
+        (at, is_hidden)
     }
 
     /// Whether these files have a module of this name, or a crate by its folder.
-    pub fn has_module(&self, name: &str) -> bool {
-        (0..self.scopes.len()).any(|place| is_within(&self.scopes, Step::Module(name), place))
+    pub fn has_module(&self, name: Name) -> bool {
+        self.has_namesake(name, true)
     }
 
-    fn has_type(&self, step: Step<'_>, name: &str) -> bool {
-        self.has(name) && !matches!(self.only(step, name, Space::Types), Only::Nothing)
+    /// Whether a module of this name is there, which may be a crate.
+    fn has_namesake(&self, name: Name, may_be_crate: bool) -> bool {
+        for place in 0..self.scopes.len() {
+            if is_within(&self.scopes, Step::Module(name), place)
+                && (may_be_crate
+                    || !matches!(self.root_of(place), Lead::In(root) if root == place))
+            {
+                return true;
+            }
+        }
+        false
     }
 
     /// Notes where each `use` leads, until no `*` leads to more scopes. At first each seems to lead out of the files.
     pub(super) fn find_leads(&mut self) {
         for pass in 0..=self.scopes.len() {
-            let before = self.stars.len();
+            let before = self.ways.len();
             for place in 0..self.imports.len() {
                 self.find_lead(place);
             }
-            if self.stars.len() > before {
-                self.find_ways();
-            } else if pass > 1 {
+            for place in 0..self.imports.len() {
+                if let Some(it) = self.imports.get(place).copied()
+                    && let Lead::In(to) = it.lead
+                    && it.name == NO_NAME
+                    && !self.ways.contains_key(&(it.scope, to))
+                {
+                    self.find_ways(it.scope, to);
+                }
+            }
+            if pass > 1 && self.ways.len() == before {
                 break;
             }
         }
     }
 
     fn find_lead(&mut self, place: usize) {
-        let Some(it) = self.imports.get(place).copied() else {
+        let Some(mut it) = self.imports.get(place).copied() else {
             return;
         };
-        let lead = self.lead(it.scope, &it.path, it.last);
-        if let Some(it) = self.imports.get_mut(place) {
-            it.lead = lead;
-        }
-        if let Lead::In(to) = lead
-            && it.is_glob
-        {
-            self.failed = put(&mut self.stars, (it.scope, to)) || self.failed;
+        it.lead = self.lead(it.scope, &it.path, it.last);
+        it.is_other = self.brings_other(&it);
+        if let Some(import) = self.imports.get_mut(place) {
+            *import = it;
         }
     }
 
-    /// Notes to which scopes each one leads by `*`, also by those of others.
-    fn find_ways(&mut self) {
-        self.ways.clear();
+    /// Notes to which scopes a `*` leads from its own, and from those that lead there.
+    fn find_ways(&mut self, scope: usize, to: usize) {
         for from in 0..self.scopes.len() {
-            self.add_ways(from);
-        }
-    }
-
-    fn add_ways(&mut self, from: usize) {
-        let mut open = Vec::new(self.alloc);
-        self.failed = open.push(from).is_err() || self.failed;
-        for _ in 0..=self.scopes.len() {
-            let Some(at) = open.pop() else {
-                break;
-            };
-            for (star, _) in self.stars.range((at, 0)..=(at, usize::MAX)) {
-                let to = star.1;
-                let before = self.ways.insert((from, to), ());
-                let is_new = matches!(before, Ok(None)) && open.push(to).is_ok();
-                self.failed = (!is_new && !matches!(before, Ok(Some(())))) || self.failed;
+            if !self.leads_to(from, scope) {
+                continue;
+            }
+            for place in 0..self.scopes.len() {
+                if self.leads_to(to, place) {
+                    self.failed = self.ways.insert((from, place), ()).is_err() || self.failed;
+                }
             }
         }
     }
 
     /// Whether a scope is another, or a `*` leads from one to the other, also by those of others.
     pub(super) fn leads_to(&self, from: usize, place: usize) -> bool {
-        from == place || self.ways.contains_key(&(from, place))
+        self.ways.contains_key(&(from, place))
     }
 
     /// Where the names before the last of a path lead that a scope uses; without them, where the last one does.
-    pub(super) fn lead(&self, scope: usize, path: &Path<'a>, last: &'a str) -> Lead {
+    pub(super) fn lead(&self, scope: usize, path: &Path, last: Name) -> Lead {
         let root = path.first(last);
-        let mut lead = if path.is_absolute {
-            self.crate_lead(root)
-        } else if self.is_of_body(scope, path.root()) {
-            Lead::Doubtful
-        } else {
-            self.first_lead(self.module_of(scope), root)
+        let (module, is_hidden) = self.beyond(scope, path.root());
+        let mut lead = match path.is_absolute {
+            true => self.crate_lead(root),
+            false if is_hidden => Lead::Doubtful,
+            false => self.name_lead(module, root, true),
         };
         for place in 1..path.count {
             let name = path.at(place);
             lead = match lead {
-                Lead::In(module) => self.inner_lead(module, name),
+                Lead::In(module) => self.name_lead(module, name, false),
                 Lead::Lost => self.only_lead(path.at(place.saturating_sub(1)), name),
                 _ => return lead,
             };
@@ -157,211 +177,161 @@ impl<'a> Scopes<'a> {
         lead
     }
 
-    /// Where the first name of a path leads: a module's own before those that a `*` brings in, beside a crate's.
-    fn first_lead(&self, module: usize, name: &'a str) -> Lead {
-        if is_start(name) {
-            return self.inner_lead(module, name);
+    /// Where a name leads that follows a module, or begins a path there: to one of its own before those that a `*` brings in, beside
+    /// a crate's.
+    fn name_lead(&self, module: usize, name: Name, is_first: bool) -> Lead {
+        match word_of(name) {
+            Word::Own => return Lead::In(module),
+            Word::Super => return self.around_module(module),
+            Word::Crate => return self.root_of(module),
+            _ if name == NO_NAME && !is_first => return Lead::Doubtful,
+            _ => {}
         }
-        if let Some(lead) = self.member_lead(module, name, true) {
-            return lead;
-        }
-        match (self.crate_lead(name), self.star_lead(module, name)) {
-            (lead, None) => lead,
-            (lead, Some(Lead::Open)) if !self.has_namesake(name) => lead,
-            (Lead::Outside, Some(Lead::Open | Lead::Doubtful)) => Lead::Outside,
-            (Lead::Outside, Some(lead)) => lead,
+        let lead = match (self.crate_lead(name), self.star_lead(module, name)) {
+            (_, star) if !is_first => star.or(Lead::Outside),
+            (lead, Lead::Not) => lead,
+            (lead, Lead::Open) if !self.has_namesake(name, false) => lead,
+            (Lead::Outside, Lead::Open | Lead::Doubtful) => Lead::Outside,
+            (Lead::Outside, star) => star,
             _ => Lead::Doubtful,
-        }
-    }
-
-    /// Whether a module of this name is there that isn't a crate.
-    fn has_namesake(&self, name: &str) -> bool {
-        let mut scopes = 0..self.scopes.len();
-        scopes.any(|place| is_within(&self.scopes, Step::Module(name), place)
-            && (place >= self.files.len() || !self.is_top_file(place)))
-    }
-
-    /// Where a name leads that follows a module.
-    fn inner_lead(&self, module: usize, name: &'a str) -> Lead {
-        let lead = match name {
-            "" => return Lead::Doubtful,
-            "self" => Some(module),
-            "super" => self.around_module(module),
-            "crate" => self.root_of(module),
-            _ => {
-                return match self.member_lead(module, name, false) {
-                    Some(lead) => lead,
-                    None => self.star_lead(module, name).unwrap_or(Lead::Outside),
-                };
-            }
         };
-        lead.map_or(Lead::Lost, Lead::In)
+        self.member_lead(module, name, is_first).or(lead)
     }
 
     /// Where a name leads that follows one of a module which these files don't have: to the only module of that name.
-    fn only_lead(&self, before: &str, name: &str) -> Lead {
-        let mut scopes = self.scopes.iter();
-        if scopes.any(|it| it.kind == Kind::Misnamed && it.name == name) {
-            return Lead::Wrong(BROUGHT_IN);
+    fn only_lead(&self, before: Name, name: Name) -> Lead {
+        let mut found = Lead::Not;
+        for (place, it) in self.scopes.iter().enumerate() {
+            if it.kind == Kind::Misnamed && it.name == name {
+                return Lead::Wrong(BROUGHT_IN);
+            }
+            if is_within(&self.scopes, Step::Module(name), place) {
+                found = both(found, Lead::In(place));
+            }
         }
-        let step = Step::Module(name);
-        let mut places = (0..self.scopes.len()).filter(|at| is_within(&self.scopes, step, *at));
-        match (places.next(), places.next()) {
-            (None, _) if self.has_type(Step::All, name) => Lead::Type,
-            (None, _) => Lead::Lost,
-            _ if self.imports.iter().any(|it| it.may_pass_on(name)) => Lead::Doubtful,
-            (Some(only), None) if is_start(before) || self.around_module(only).is_none() =>
-                Lead::In(only),
+        match found {
+            Lead::Not if self.has_type(Step::All, name) => Lead::Type,
+            Lead::Not => Lead::Lost,
+            Lead::In(_) if self.is_passed_on(name) => Lead::Doubtful,
+            Lead::In(_) if is_start(before) => found,
+            Lead::In(only) if matches!(self.around_module(only), Lead::Lost) => found,
             _ => Lead::Doubtful,
         }
     }
 
-    /// Where the name of a crate leads: to the only library whose folder has it.
-    fn crate_lead(&self, name: &str) -> Lead {
-        // the scope of a file is at its place
-        let mut files = (0..self.files.len()).filter(|file| is_called(self.scope(*file).name, name)
-            && self.is_library(*file));
-        match (files.next(), files.next()) {
-            (Some(only), None) => Lead::In(only),
-            (Some(_), Some(_)) => Lead::Doubtful,
-            _ if is_known_crate(name) => Lead::Known,
-            _ => Lead::Outside,
+    /// Whether a `use` may make a module of this name one of its own that isn't in these files, or is called otherwise.
+    fn is_passed_on(&self, name: Name) -> bool {
+        for it in &self.imports {
+            let is_renamed = it.name == name && it.last != name;
+            let may_be = it.name == name || (it.name == NO_NAME && it.is_public);
+            if is_renamed || (may_be && it.leads_out()) {
+                return true;
+            }
         }
+        false
     }
 
-    /// Where a name leads that a module declares as a module or a type, or brings in by a `use`; nothing if it does neither.
-    /// The first name of a path could be a crate's too.
-    fn member_lead(&self, module: usize, name: &'a str, is_first: bool) -> Option<Lead> {
-        let (mut at, mut word) = (module, name);
+    /// Where a name leads that a module declares as a module or a type, or brings in by a `use`. The first name of a path could be
+    /// a crate's too.
+    fn member_lead(&self, module: usize, name: Name, is_first: bool) -> Lead {
+        let (mut at, mut word, mut missing) = (module, name, Lead::Not);
         for step in 0..=self.imports.len() {
             let is_first = is_first && step == 0;
             let own = self.own_lead(at, word, is_first);
-            match self.import_of(at, word, is_first) {
-                None if step > 0 => return own.or(Some(Lead::Doubtful)),
-                None => return own,
-                Some(it) if it.is_conditional && !it.is_crate => return Some(Lead::Doubtful),
-                Some(_) if own.is_some() => return own,
+            let Some(it) = self.import_of(at, word, is_first) else {
+                return own.or(missing);
+            };
+            match it.lead {
+                _ if it.is_conditional && !it.is_crate => break,
+                _ if !matches!(own, Lead::Not) => return own,
                 // its own first name is a crate's
-                Some(it) if it.path.root() == word && !it.path.is_absolute => {
+                _ if it.path.root() == word && !it.path.is_absolute => {
                     let is_here = matches!(self.crate_lead(word), Lead::In(_));
-                    return is_here.then_some(Lead::Doubtful);
+                    return if is_here { Lead::Doubtful } else { Lead::Not };
                 }
-                Some(it) => match it.lead {
-                    Lead::In(place) if it.path.count > 0 => (at, word) = (place, it.last),
-                    lead => return Some(lead),
-                },
+                Lead::In(place) if it.path.count > 0 => (at, word) = (place, it.last),
+                lead => return lead,
             }
+            missing = Lead::Doubtful;
         }
-        Some(Lead::Doubtful)
+        Lead::Doubtful
     }
 
     /// The import of a module or a crate by this name that a module has, unless it only repeats the name; of the first name
     /// of a path also one for all modules.
-    pub(super) fn import_of(
-        &self,
-        module: usize,
-        name: &'a str,
-        is_first: bool,
-    ) -> Option<&Import<'a>> {
-        if !self.is_used(name) || (!is_first && !self.is_member(module, name)) {
-            return None;
+    pub(super) fn import_of(&self, module: usize, name: Name, is_first: bool) -> Option<&Import> {
+        for it in &self.imports {
+            let is_there = it.scope == module || (is_first && it.is_crate);
+            if it.name == name && is_there && (it.path.count > 0 || it.last != name) {
+                return Some(it);
+            }
         }
-        self.imports.iter().find(|it| (it.scope == module || (is_first && it.is_crate))
-            && it.name == name
-            && (it.path.count > 0 || it.last != it.name))
+        None
     }
 
-    /// Where a name leads that a module declares as that of a module or a type; nothing if it doesn't.
-    pub(super) fn own_lead(&self, module: usize, name: &'a str, is_first: bool) -> Option<Lead> {
-        let mut found = None;
+    /// Where a name leads that a module declares as that of a module or a type.
+    pub(super) fn own_lead(&self, module: usize, name: Name, is_first: bool) -> Lead {
+        let mut found = Lead::Not;
         let mut is_conditional = false;
-        let is_member = self.is_member(module, name);
+        let is_member = self.members.contains_key(&(name, module));
         let count = if is_member { self.scopes.len() } else { 0 };
-        for (place, it) in self.scopes.iter().enumerate().take(count) {
-            if it.outer != module || it.name != name {
-                continue;
-            }
+        for place in 0..count {
+            let it = self.scope(place);
             let lead = match it.kind {
+                _ if it.outer != module || it.name != name => continue,
                 Kind::Module => Lead::In(place),
-                Kind::Outline => self.file_in(module, name).map_or(Lead::Outside, Lead::In),
+                Kind::Outline => self.file_in(module, name),
                 Kind::Misnamed => Lead::Wrong(BROUGHT_IN),
-                kind => {
-                    is_conditional = is_conditional || kind == Kind::Conditional;
-                    continue;
-                }
+                _ => Lead::Not,
             };
-            found = Some(both(found, lead));
+            is_conditional = is_conditional || it.kind == Kind::Conditional;
+            found = both(found, lead);
         }
         match found {
-            Some(Lead::In(_)) if is_conditional && is_first => Some(Lead::Wrong(
+            Lead::In(_) if is_conditional && is_first => Lead::Wrong(
                 "` is in a module that stands under a condition: write `self::` or `crate::` before its path",
-            )),
-            Some(Lead::In(_)) if is_conditional && self.has_star(module) => Some(Lead::Doubtful),
-            None if self.has_type(Step::Scope(module), name) => Some(Lead::Type),
+            ),
+            Lead::In(_) if is_conditional && self.has_star(module) => Lead::Doubtful,
+            Lead::Not if self.has_type(Step::Scope(module), name) => Lead::Type,
             found => found,
         }
     }
 
-    /// Where a name leads that a `*` of a module brings in; nothing if none does. What others pass on to that is doubtful.
-    fn star_lead(&self, module: usize, name: &'a str) -> Option<Lead> {
-        let mut found = None;
+    /// Where a name leads that a `*` of a module brings in. What others pass on to that is doubtful.
+    fn star_lead(&self, module: usize, name: Name) -> Lead {
+        let mut found = Lead::Not;
         for it in &self.imports {
-            if !it.is_glob || !self.leads_to(module, it.scope) {
+            if it.name != NO_NAME || !self.leads_to(module, it.scope) {
                 continue;
             }
+            let is_sure = it.scope == module && !it.is_conditional;
             let lead = match it.lead {
-                Lead::In(place) if self.may_import(place, name) => Some(Lead::Doubtful),
+                Lead::In(place) if self.may_import(place, name) => Lead::Doubtful,
                 Lead::In(place) => self.own_lead(place, name, true),
-                Lead::Type | Lead::Known => None,
-                _ => Some(Lead::Open),
+                Lead::Type | Lead::Known => Lead::Not,
+                _ => Lead::Open,
             };
             found = match lead {
-                Some(Lead::In(_)) if it.is_conditional || it.scope != module => Some(
-                    Lead::Doubtful,
-                ),
-                Some(lead) => Some(both(found, lead)),
-                None => found,
+                Lead::In(_) if !is_sure => Lead::Doubtful,
+                lead => both(found, lead),
             };
         }
         found
     }
 
-    /// Whether a body round a scope may have a module or a type of this name, or bring one in.
-    pub(super) fn is_of_body(&self, scope: usize, name: &'a str) -> bool {
-        if is_start(name) {
+    /// Whether a first name leads out of the files: to the crate of that name, or to what a `use` brings in from one of these.
+    /// One that no file has does, where no body may bring it in.
+    pub fn is_foreign(&self, scope: usize, root: Name, crates: &[&str]) -> bool {
+        let (module, is_hidden) = self.beyond(scope, root);
+        if root == NO_NAME || is_hidden {
+            return !is_hidden;
+        }
+        if let Some(it) = self.import_of(module, root, true)
+            && (it.last != root || !is_among(self.tokens.text(it.path.first(root)), crates))
+        {
             return false;
         }
-        let mut at = scope;
-        for _ in 0..self.scopes.len() {
-            if !self.is_inner(at) {
-                break;
-            }
-            if self.has_star(at)
-                || self.may_import(at, name)
-                || self.own_lead(at, name, false).is_some()
-            {
-                return true;
-            }
-            at = self.scope(at).outer;
-        }
-        false
-    }
-
-    /// Whether a scope has a `use` of this name, perhaps under a condition.
-    pub(super) fn may_import(&self, scope: usize, name: &'a str) -> bool {
-        let mut imports = self.imports.iter();
-        self.is_member(scope, name) && imports.any(|it| it.scope == scope && it.name == name)
-    }
-
-    /// Whether a first name leads out of the files: to the crate of that name, or to what a `use` brings in from one of these.
-    pub fn is_foreign(&self, scope: usize, root: &'a str, crates: &[&str]) -> bool {
-        let module = self.module_of(scope);
-        let is_right = match self.import_of(module, root, true) {
-            Some(it) => it.last == root && is_among(it.path.first(root), crates),
-            None => true,
-        };
-        is_right
-            && !self.is_of_body(scope, root)
-            && matches!(self.first_lead(module, root), Lead::Known | Lead::Outside)
+        let lead = self.name_lead(module, root, true);
+        matches!(lead, Lead::Known | Lead::Outside)
     }
 }

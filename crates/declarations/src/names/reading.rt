@@ -1,30 +1,58 @@
-//! What the items of files declare, and what macros seem to.
-use super::{Import, Item, Kind, Scopes, What, put};
-use declaration_parser::attributes::{behind_first, first_word, front, name_at, up_to};
+//! What the items of files declare, and what macros seem to, as far as their rules and calls say.
+use super::leads::Lead;
+use super::{Import, Item, Kind, NO_NAME, Name, Scopes, Tokens, What, Words};
+use crate::known::is_everywhere;
 use declaration_parser::items::{self, ItemKind};
-use declaration_parser::tokens::{Token, Word, is_among, is_lifetime};
+use declaration_parser::tokens::Word;
 
 /// Why what a macro makes isn't taken.
-pub(super) const MADE: &str =
+const MADE: &str =
     "` is made by a macro, which isn't followed: write its declaration out, in a file of its own";
 
 /// What an alias stands for, by its words from its name on. Lifetimes are no parameters.
-fn alias_of(words: &[Token]) -> What<'_> {
-    let (head, value) = up_to(behind_first(words), &["="]);
-    let is_plain = head.iter().all(|token| {
-        let word = token.text.as_str();
-        is_lifetime(word) || is_among(word, &["<", ">", ","])
-    });
-    if is_plain {
-        What::Alias(behind_first(value))
-    } else {
-        What::Refused("` is an alias with parameters: write the type that it stands for")
+fn alias_of(tokens: &Tokens, words: Words) -> What {
+    let mut rest = words.behind_first();
+    for _ in 0..words.len() {
+        match tokens.front(rest) {
+            Word::Lifetime | Word::Less | Word::Greater | Word::Comma => rest = rest.behind_first(),
+            _ => break,
+        }
     }
+    match tokens.front(rest) {
+        Word::Equals => What::Alias(rest.behind_first()),
+        _ if rest.is_empty() => What::Alias(rest),
+        _ => What::Refused("` is an alias with parameters: write the type that it stands for"),
+    }
+}
+
+/// The name of the macro that has these rules.
+fn name_of(tokens: &Tokens, rules: &items::Item) -> Name {
+    tokens.nth(rules.words, 2).name
+}
+
+/// Whether words may make any name: one of others, as `struct [<$a $b>]` does in `paste!`, or a module. And whether they are
+/// rules of a macro that declare a type by the first name that they are handed.
+fn made_by(tokens: &Tokens, words: Words) -> (bool, bool) {
+    let (mut is_open, mut is_maker, mut handed) = (false, false, NO_NAME);
+    let mut rest = words;
+    for _ in 0..words.len() {
+        let behind = rest.behind_first();
+        let name = tokens.name_at(behind.behind_first());
+        match (tokens.front(rest), tokens.front(behind)) {
+            (Word::Module, _) | (Word::Bracket, Word::Less) => is_open = true,
+            (Word::Dollar, _) if handed == NO_NAME => handed = tokens.name_at(behind),
+            (Word::Struct | Word::Enum | Word::Union | Word::Alias, Word::Dollar) => is_maker =
+                is_maker || (name != NO_NAME && (handed == NO_NAME || handed == name)),
+            _ => {}
+        }
+        rest = behind;
+    }
+    (is_open, is_maker)
 }
 
 impl<'a> Scopes<'a> {
     /// Reads the items of all files: calls of macros, or the others. The rules of macros are known wherever they are.
-    pub(super) fn read_items(&mut self, items: &[items::Item<'a>], are_calls: bool) {
+    pub(super) fn read_items(&mut self, items: &[items::Item], are_calls: bool) {
         for item in items {
             if item.kind == ItemKind::Rules && !are_calls {
                 self.failed = self.rules.push(*item).is_err() || self.failed;
@@ -35,87 +63,185 @@ impl<'a> Scopes<'a> {
         }
     }
 
-    fn read_item(&mut self, item: &items::Item<'a>) {
-        let import = Import::of(item.scope, item.is_public, item.has("cfg"));
-        let kind = self.scope(item.scope).kind;
+    fn read_item(&mut self, item: &items::Item) {
+        let tokens = self.tokens;
+        let mut import = Import::default();
+        import.scope = item.scope;
+        import.is_crate = item.kind == ItemKind::Crate;
+        import.is_public = item.is_public || import.is_crate;
+        import.is_conditional = item.has(tokens, Word::Condition);
+        let is_in_impl = self.scope(item.scope).kind == Kind::Impl;
         let what = match item.kind {
             ItemKind::Type => match self.marked.get(&item.place) {
                 Some(index) => What::Marked(*index),
                 None => What::Unmarked,
             },
-            ItemKind::Alias => alias_of(item.words),
+            ItemKind::Alias => alias_of(tokens, item.words),
             ItemKind::Static => What::RefusedConstant(
                 "` is a `static`, whose value isn't read: make it a `const`",
             ),
             ItemKind::Constant => {
-                let (of, value) = up_to(behind_first(behind_first(item.words)), &["="]);
-                What::Constant(of, behind_first(value))
+                let of = item.words.behind_first().behind_first();
+                let value = tokens.up_to(of, &[Word::Equals]);
+                What::Constant(of.before(value), value.behind_first())
             }
-            ItemKind::Import => return self.read_use(import, item.words),
-            ItemKind::Crate => return self.read_crate(import, item.words),
-            ItemKind::Rules if kind != Kind::Impl => {
-                return self.read_made(import, item.inside, false);
-            }
-            ItemKind::Call if kind == Kind::Body => return self.read_call_of(item),
-            ItemKind::Call if kind != Kind::Impl => return self.read_call(item),
+            ItemKind::Import | ItemKind::Crate => return self.read_use(import, item.words),
+            ItemKind::Rules if !is_in_impl => return self.read_made(import, item.inside, false),
+            ItemKind::Call if !is_in_impl => return self.read_call(item),
             _ => return,
         };
         self.add(import, item.words, what);
     }
 
     /// Adds what the first of these words stands for, if it is a name, where something may be imported too.
-    pub(super) fn add(&mut self, import: Import<'a>, words: &'a [Token], what: What<'a>) {
-        if let Some(name) = name_at(words)
-            && self.scope(import.scope).kind != Kind::Impl
-        {
-            let item = Item {
-                name,
-                what,
-                scope: import.scope,
-                is_conditional: import.is_conditional,
-            };
-            self.failed = self.items.push(item).is_err() || self.failed;
-            self.failed = put(&mut self.named, name) || self.failed;
+    fn add(&mut self, import: Import, words: Words, what: What) {
+        let (name, scope) = (self.tokens.name_at(words), import.scope);
+        if name == NO_NAME || self.scope(scope).kind == Kind::Impl {
+            return;
         }
+        let is_conditional = import.is_conditional;
+        let item = Item {
+            name,
+            what,
+            scope,
+            is_conditional,
+        };
+        self.failed = self.items.push(item).is_err() || self.failed;
+        self.note(name);
     }
 
     /// Reads what the call of a macro may bring in or declare.
-    fn read_call(&mut self, item: &items::Item<'a>) {
-        let import = Import::of(item.scope, false, false);
-        match first_word(item.words) {
+    fn read_call(&mut self, item: &items::Item) {
+        let mut import = Import::default();
+        import.scope = item.scope;
+        let tokens = self.tokens;
+        match tokens.first_text(item.words) {
+            _ if self.is_inner(item.scope) => self.read_call_of(import, item),
             "include" => self.add_include(import),
-            "endpoints" | "topics" => {
-                self.failed = self.endpoints.push(item.inside).is_err() || self.failed;
-            }
+            "endpoints" | "topics" => self.failed = self.endpoints.push(item.inside).is_err()
+                || self.failed,
             "bitflags" => self.read_made(import, item.inside, true),
-            _ => self.read_call_of(item),
+            _ => self.read_call_of(import, item),
         }
     }
 
     /// Reads what a macro makes: names after the words of items, in all groups.
-    pub(super) fn read_made(&mut self, import: Import<'a>, inside: &'a [Token], are_bits: bool) {
-        let mut import = import;
+    fn read_made(&mut self, mut import: Import, inside: Words, are_bits: bool) {
+        let tokens = self.tokens;
         let mut rest = inside;
         for _ in 0..inside.len() {
-            let words = behind_first(rest);
-            let what = match front(rest) {
+            let words = rest.behind_first();
+            match tokens.front(rest) {
                 Word::Import => {
                     import.is_conditional = true;
-                    let (whole, _) = up_to(words, &[";"]);
-                    self.read_use(import, whole);
-                    None
+                    let behind = tokens.up_to(words, &[Word::Semicolon]);
+                    self.read_use(import, words.before(behind));
                 }
-                Word::Struct | Word::Enum | Word::Union if are_bits => Some(What::Refused(
-                    "` is made by `bitflags!`, and sent as its bits: write the integer behind its name",
-                )),
-                Word::Struct | Word::Enum | Word::Union | Word::Alias => Some(What::Refused(MADE)),
-                Word::Constant => Some(What::RefusedConstant(MADE)),
-                _ => None,
-            };
-            if let Some(what) = what {
-                self.add(import, words, what);
+                Word::Struct | Word::Enum | Word::Union if are_bits => {
+                    let why =
+                        "` is made by `bitflags!`, and sent as its bits: write the integer behind its name";
+                    self.add(import, words, What::Refused(why));
+                }
+                Word::Struct | Word::Enum | Word::Union | Word::Alias => self.add(
+                    import,
+                    words,
+                    What::Refused(MADE),
+                ),
+                Word::Constant => self.add(import, words, What::RefusedConstant(MADE)),
+                _ => {}
             }
             rest = words;
         }
+    }
+
+    /// Reads the call of a macro of which nothing is known but its rules. If it may make any name, it is as a `*` that leads out.
+    fn read_call_of(&mut self, import: Import, item: &items::Item) {
+        let tokens = self.tokens;
+        let path = item.words.before(tokens.up_to(item.words, &[Word::Not]));
+        let name = tokens.last(path).name;
+        let text = tokens.text(name);
+        // which declare no type and no length
+        if text.starts_with("assert_")
+            || text.starts_with("const_assert")
+            || text == "thread_local"
+        {
+            return;
+        }
+        let is_near = match path.len() {
+            1 => !self.is_imported(item.scope, name),
+            _ => matches!(tokens.front(path), Word::Crate | Word::Own | Word::Super),
+        };
+        let mut is_foreign = !self.is_inner(item.scope);
+        let (mut is_open, _) = made_by(tokens, item.inside);
+        for place in 0..self.rules.len() {
+            if let Some(rules) = self.rules.get(place).copied()
+                && is_near
+                && name_of(tokens, &rules) == name
+            {
+                is_foreign = false;
+                is_open = self.read_rules(import, item.inside, &rules) || is_open;
+            }
+        }
+        self.read_made(import, item.inside, false);
+        if is_foreign || is_open {
+            self.add_include(import);
+        }
+        self.failed = self.calls.push(*item).is_err() || self.failed;
+    }
+
+    /// Reads what the rules of a macro make where it is called, unless they are there; and whether they may make any name.
+    fn read_rules(&mut self, import: Import, handed: Words, rules: &items::Item) -> bool {
+        let tokens = self.tokens;
+        if rules.scope != import.scope {
+            self.read_made(import, rules.inside, false);
+        }
+        let (is_open, is_maker) = made_by(tokens, rules.inside);
+        if is_maker && is_everywhere(tokens.text(tokens.name_at(handed))) {
+            self.add(import, handed, What::Refused(MADE));
+        }
+        is_open || self.calls_another(rules)
+    }
+
+    /// Whether the rules of a macro may call another one of these files.
+    fn calls_another(&self, rules: &items::Item) -> bool {
+        for it in &self.rules {
+            let name = name_of(self.tokens, it);
+            let is_own = name == name_of(self.tokens, rules);
+            if !is_own && self.tokens.has_name(rules.inside, name) {
+                return true;
+            }
+        }
+        false
+    }
+
+    /// Whether a scope may have the macro of this name from another crate, by a `use` or by `extern crate`.
+    fn is_imported(&self, scope: usize, name: Name) -> bool {
+        for it in &self.imports {
+            let may_be = it.is_crate || (it.scope == scope && it.name == name);
+            if may_be && it.leads_out() && !matches!(it.lead, Lead::Known) {
+                return true;
+            }
+        }
+        false
+    }
+
+    /// Whether a module hands a name to a macro before others.
+    pub fn is_first_handed(&self, name: Name) -> bool {
+        for call in &self.calls {
+            if self.tokens.name_at(call.inside) == name && !self.is_inner(call.scope) {
+                return true;
+            }
+        }
+        false
+    }
+
+    /// Whether a scope hands a name to a macro, which may declare it there.
+    pub(super) fn is_handed(&self, scope: usize, name: Name) -> bool {
+        for call in &self.calls {
+            if call.scope == scope && self.tokens.has_name(call.inside, name) {
+                return true;
+            }
+        }
+        false
     }
 }

@@ -4,9 +4,9 @@ ghost use Rattle.declarations.specs.NameRule.{IsAnswerOf, IsAnsweredOrPassed, Is
 ghost use Rattle.declarations.specs.declared.names.candidates.Space.TheVariants as space;
 
 use super::candidates::{Only, Space, Step, is_within};
+use super::folders::module_of_file;
 use super::leads::Lead;
-pub use super::path::Path;
-use super::{Import, Item, Scopes, What, has_word};
+use super::{Import, Item, Kind, NO_NAME, Name, Path, Scopes, What};
 use crate::known::{is_everywhere, is_known, is_primitive, sent_as};
 use declaration_parser::faults::Faults;
 
@@ -25,11 +25,11 @@ const UNMARKED: &str =
 
 /// What a name stands for.
 #[derive(Clone, Copy, Drop)]
-pub enum Found<'a> {
+pub enum Found {
     /// What a scope declares.
-    In(What<'a>, usize),
+    In(What, usize),
     /// A known type by its own name.
-    Known(&'a str),
+    Known(Name),
     /// None, for this reason.
     Wrong(&'static str),
     /// One of two things.
@@ -41,29 +41,18 @@ pub enum Found<'a> {
 
 /// What a `use` brings into a step under a name.
 #[derive(Clone, Copy, Drop)]
-enum Brought<'b, 'a> {
+enum Brought<'b> {
     Nothing,
     /// A known type by its own name.
     Known,
     /// What this import leads to.
-    One(&'b Import<'a>),
+    One(&'b Import),
     Several,
-}
-
-/// Whether a `*` may bring in another than was found. A known crate has no other of a known name.
-fn may_bring(it: &Import<'_>, found: &Found<'_>, name: &str, space: Space) -> bool {
-    match it.lead {
-        Lead::In(_) => false,
-        Lead::Type => space == Space::Constants,
-        Lead::Known if space == Space::Types => !matches!(found, Found::Known(_))
-            && (is_known(name) || sent_as(name).is_some()),
-        _ => true,
-    }
 }
 
 impl<'a> Scopes<'a> {
     /// What an item is, unless a condition leaves it out, and the name may then be another.
-    fn declared(&self, item: &Item<'a>, name: &str) -> Found<'a>
+    fn declared(&self, item: &Item, name: Name) -> Found
         ensures { IsAnswerOf item.now result }
     {
         if self.is_at_times(item.scope, name, item.is_conditional) {
@@ -73,16 +62,16 @@ impl<'a> Scopes<'a> {
     }
 
     /// Whether a name that a scope has under a condition may be another without it.
-    fn is_at_times(&self, scope: usize, name: &str, is_conditional: bool) -> bool {
+    fn is_at_times(&self, scope: usize, name: Name, is_conditional: bool) -> bool {
         is_conditional
             && self.has(name)
-            && (is_known(name)
+            && (is_known(self.tokens.text(name))
                 || self.is_inner(scope)
                 || self.has_star(scope)
                 || self.is_handed(scope, name))
     }
 
-    fn found_as(&self, item: &Item<'a>) -> Found<'a>
+    fn found_as(&self, item: &Item) -> Found
         ensures { IsAnswerOf item.now result }
     {
         match item.what {
@@ -93,22 +82,19 @@ impl<'a> Scopes<'a> {
     }
 
     /// What a `use` brings into a step under a name; of what these files declare by that name, only if it is asked for.
-    fn brought(&self, step: Step<'_>, name: &str, space: Space, with_own: bool) -> Brought<'_, 'a> {
+    fn brought(&self, step: Step, name: Name, space: Space, with_own: bool) -> Brought<'_> {
         let mut brought = Brought::Nothing;
-        if !self.is_used(name) {
-            return brought;
-        }
         for it in &self.imports {
-            let is_it = !it.is_glob && it.name == name && is_within(&self.scopes, step, it.scope);
-            let is_own = it.last == it.name && matches!(it.lead, Lead::In(_));
-            if !is_it || (is_own && !with_own) {
+            let is_own = it.last == name && matches!(it.lead, Lead::In(_));
+            let is_it = it.name == name && name != NO_NAME && (with_own || !is_own);
+            if !is_it || !is_within(&self.scopes, step, it.scope) {
                 continue;
             }
             // a known type by its own name, from a crate that no module hides
-            let is_known = space == Space::Types
-                && it.path.is_known_as(it.name, it.last)
+            let is_known = it.is_known
+                && space == Space::Types
                 && matches!(it.lead, Lead::Known)
-                && !self.is_at_times(it.scope, it.name, it.is_conditional);
+                && !self.is_at_times(it.scope, name, it.is_conditional);
             brought = match brought {
                 Brought::Nothing | Brought::Known if is_known => Brought::Known,
                 Brought::Nothing => Brought::One(it),
@@ -119,11 +105,11 @@ impl<'a> Scopes<'a> {
     }
 
     /// What a name stands for where a scope uses it: what the scope has, before what is round it.
-    pub fn find(&self, scope: usize, name: &'a str, space: Space) -> Found<'a>
-        ensures only { IsOnlyOfAStep self.now name.now space result }
+    pub fn find(&self, scope: usize, name: Name, space: Space) -> Found
+        ensures only { IsOnlyOfAStep self.now name space result }
         ensures own { IsAnsweredOrPassed
-            (candidates_in self.now (Step.Scope scope) name.now space) result }
-        ensures last { IsNowhereIfNone (candidates_in self.now Step.All name.now space) result }
+            (candidates_in self.now (Step.Scope scope) name space) result }
+        ensures last { IsNowhereIfNone (candidates_in self.now Step.All name space) result }
     {
         match self.own(scope, name, space) {
             Found::Not => self.around(scope, name, space),
@@ -132,16 +118,17 @@ impl<'a> Scopes<'a> {
     }
 
     /// What a name stands for that a scope doesn't have: what a body's surroundings have, or what is beyond its module.
-    fn around(&self, scope: usize, name: &'a str, space: Space) -> Found<'a>
-        ensures only { IsOnlyOfAStep self.now name.now space result }
-        ensures last { IsNowhereIfNone (candidates_in self.now Step.All name.now space) result }
+    fn around(&self, scope: usize, name: Name, space: Space) -> Found
+        ensures only { IsOnlyOfAStep self.now name space result }
+        ensures last { IsNowhereIfNone (candidates_in self.now Step.All name space) result }
     {
+        let is_everywhere = is_everywhere(self.tokens.text(name));
         let mut at = scope;
         for _ in 0..self.scopes.len() {
             if !self.is_inner(at) {
                 break;
             }
-            if self.has_star(at) && (self.has(name) || !is_everywhere(name)) {
+            if self.has_star(at) && (self.has(name) || !is_everywhere) {
                 return Found::Wrong(BY_STAR);
             }
             at = self.scope(at).outer;
@@ -150,22 +137,18 @@ impl<'a> Scopes<'a> {
                 found => return found,
             }
         }
-        // what is beyond its module
-        if space == Space::Types && is_everywhere(name) {
-            return if self.has_star(at) && self.has(name) {
-                Found::Wrong(BY_STAR)
-            } else {
-                Found::Known(name)
-            };
+        match (space, is_everywhere) {
+            (Space::Types, true) if self.has_star(at) && self.has(name) => Found::Wrong(BY_STAR),
+            (Space::Types, true) => Found::Known(name),
+            _ => self.passed_on(at, name, space),
         }
-        self.passed_on(at, name, space)
     }
 
     /// What a scope itself declares or brings in under a name.
-    fn own(&self, scope: usize, name: &'a str, space: Space) -> Found<'a>
-        ensures only { IsOnlyOfAStep self.now name.now space result }
+    fn own(&self, scope: usize, name: Name, space: Space) -> Found
+        ensures only { IsOnlyOfAStep self.now name space result }
         ensures own { IsAnsweredOrPassed
-            (candidates_in self.now (Step.Scope scope) name.now space) result }
+            (candidates_in self.now (Step.Scope scope) name space) result }
     {
         let step = Step::Scope(scope);
         let brought = self.brought(step, name, space, true);
@@ -173,22 +156,21 @@ impl<'a> Scopes<'a> {
             (Only::Nothing, Brought::Nothing) => self.not_own(scope, name, space),
             (Only::Nothing, Brought::Known) => Found::Known(name),
             (Only::Nothing, Brought::One(it)) => self.brought_in(it, name, space),
-            (Only::One(item), Brought::Nothing) => self.declared(item, name),
+            (Only::One(item), Brought::Nothing) => self.declared(&item, name),
             _ => Found::Two,
         }
     }
 
     /// Refuses a name that a macro may make, and as a type the name of a module, unless it is the language's.
-    fn not_own(&self, scope: usize, name: &'a str, space: Space) -> Found<'a>
+    fn not_own(&self, scope: usize, name: Name, space: Space) -> Found
         ensures { IsStepAnswer [] result }
     {
-        if space == Space::Types
-            && !is_primitive(name)
-            && self.own_lead(scope, name, false).is_some()
-        {
+        let text = self.tokens.text(name);
+        let may_be_module = space == Space::Types && !is_primitive(text);
+        if may_be_module && !matches!(self.own_lead(scope, name, false), Lead::Not) {
             return Found::Wrong("` is a module here: write the type that is on the wire");
         }
-        if !is_everywhere(name) && self.is_handed(scope, name) {
+        if !is_everywhere(text) && self.is_handed(scope, name) {
             return Found::Wrong(
                 "` may be made by a macro that its module hands it to: write its path, or a `use` of it",
             );
@@ -197,8 +179,8 @@ impl<'a> Scopes<'a> {
     }
 
     /// What a `use` brings in: from other crates what is known; from these files what its path says, by the same name.
-    fn brought_in(&self, it: &Import<'a>, name: &'a str, space: Space) -> Found<'a>
-        ensures only { IsOnlyOfAStep self.now name.now space result }
+    fn brought_in(&self, it: &Import, name: Name, space: Space) -> Found
+        ensures only { IsOnlyOfAStep self.now name space result }
     {
         if self.is_at_times(it.scope, name, it.is_conditional) {
             return Found::Wrong(AT_TIMES);
@@ -215,30 +197,31 @@ impl<'a> Scopes<'a> {
     }
 
     /// The only thing that a step has under a name. What is brought in there from these files is in another.
-    fn step(&self, step: Step<'a>, name: &'a str, space: Space) -> Found<'a>
-        ensures answer { IsStepAnswer (candidates_in self.now step.entry name.now space) result }
-        ensures only { IsOnlyOfAStep self.now name.now space result }
+    fn step(&self, step: Step, name: Name, space: Space) -> Found
+        ensures answer { IsStepAnswer (candidates_in self.now step name space) result }
+        ensures only { IsOnlyOfAStep self.now name space result }
     {
         let brought = self.brought(step, name, space, false);
         match (self.only(step, name, space), brought) {
             (Only::Nothing, Brought::Nothing) => Found::Not,
             (Only::Nothing, Brought::Known) => Found::Known(name),
             (Only::Nothing, _) => Found::Wrong(BROUGHT_IN),
-            (Only::One(item), Brought::Nothing) => self.declared(item, name),
+            (Only::One(item), Brought::Nothing) => self.declared(&item, name),
             _ => Found::Two,
         }
     }
 
     /// What a module passes on under a name: the only candidate in all files or what is known, unless it may be another.
-    fn passed_on(&self, module: usize, name: &'a str, space: Space) -> Found<'a>
-        ensures only { IsOnlyOfAStep self.now name.now space result }
-        ensures answer { IsStepAnswer (candidates_in self.now Step.All name.now space) result }
+    fn passed_on(&self, module: usize, name: Name, space: Space) -> Found
+        ensures only { IsOnlyOfAStep self.now name space result }
+        ensures answer { IsStepAnswer (candidates_in self.now Step.All name space) result }
     {
+        let is_known = space == Space::Types && is_known(self.tokens.text(name));
         let found = match self.step(Step::All, name, space) {
-            Found::Not if space == Space::Types && is_known(name) => Found::Known(name),
+            Found::Not if is_known => Found::Known(name),
             found => found,
         };
-        if self.may_differ(module, &found, name, space) {
+        if self.may_differ(module, found, name, space) {
             return Found::Wrong(BY_STAR);
         }
         found
@@ -246,14 +229,11 @@ impl<'a> Scopes<'a> {
 
     /// Whether a name that a module passes on may be another than was found in all files: no `use` leads there, or on a
     /// way there a macro or what leads out of the files may make the name.
-    fn may_differ(&self, module: usize, found: &Found<'a>, name: &str, space: Space) -> bool {
-        if let Found::In(_, there) = found
-            && !self.may_lead_to(module, *there, name)
-        {
-            return true;
-        }
-        if !matches!(found, Found::In(..) | Found::Known(_) | Found::Not) {
-            return false;
+    fn may_differ(&self, module: usize, found: Found, name: Name, space: Space) -> bool {
+        match found {
+            Found::In(_, there) if !self.may_lead_to(module, there, name) => return true,
+            Found::In(..) | Found::Known(_) | Found::Not => {}
+            _ => return false,
         }
         for it in &self.imports {
             if it.name == name
@@ -267,48 +247,54 @@ impl<'a> Scopes<'a> {
     }
 
     /// Whether a scope may pass on what another has under a name: it is the other, or `use` leads there.
-    pub(super) fn may_lead_to(&self, from: usize, place: usize, name: &str) -> bool {
+    pub(super) fn may_lead_to(&self, from: usize, place: usize, name: Name) -> bool {
+        for it in &self.imports {
+            let is_way = matches!(it.lead, Lead::In(next) if self.leads_to(next, place));
+            if is_way && it.name == name {
+                return true;
+            }
+        }
         self.leads_to(from, place)
-            || (self.is_used(name)
-                && self.imports.iter().any(|it| it.name == name
-                    && matches!(it.lead, Lead::In(next) if self.leads_to(next, place))))
     }
 
-    /// Whether a scope has another than was found, or a `*` leads from it to one that has: by a macro, or by a `*` that
-    /// leads out of the files.
-    fn has_other(&self, from: usize, found: &Found<'a>, name: &str, space: Space) -> bool {
-        let is_other = |place: usize| self.leads_to(from, place)
-            && !matches!(found, Found::In(_, there) if *there == place)
-            && !self.imports.iter().any(|it| it.scope == place
-                && it.name == name
-                && !it.is_conditional);
-        self.imports.iter().any(|it| it.is_glob
-            && may_bring(it, found, name, space)
-            && is_other(it.scope))
-            || self
-                .calls
-                .iter()
-                .any(|it| is_other(it.scope) && has_word(it.inside, name))
+    /// Whether a scope has another than was found, or a `*` leads from it to one that has.
+    fn has_other(&self, from: usize, found: Found, name: Name, space: Space) -> bool {
+        for (way, _) in self.ways.range((from, 0)..=(from, usize::MAX)) {
+            if self.may_make(way.1, found, name, space) {
+                return true;
+            }
+        }
+        false
     }
 
-    pub(super) fn has_star(&self, scope: usize) -> bool {
-        let mut imports = self.imports.iter();
-        imports.any(|it| it.is_glob && it.scope == scope)
+    /// Whether a scope may have another than was found: by a macro, or by a `*` that leads out of the files. A known crate has no
+    /// other of a known name.
+    fn may_make(&self, scope: usize, found: Found, name: Name, space: Space) -> bool {
+        let text = self.tokens.text(name);
+        let is_other = !matches!(found, Found::Known(_));
+        let mut may_make = self.is_handed(scope, name);
+        for it in &self.imports {
+            let may_bring = match it.lead {
+                _ if it.scope != scope => continue,
+                _ if it.name == name && !it.is_conditional => return false,
+                Lead::In(_) => false,
+                Lead::Type => space == Space::Constants,
+                Lead::Known if space == Space::Types => is_other
+                    && (is_known(text) || sent_as(text).is_some()),
+                _ => true,
+            };
+            may_make = may_make || (may_bring && it.name == NO_NAME);
+        }
+        may_make && !matches!(found, Found::In(_, there) if there == scope)
     }
 
     /// What the last name of a path stands for, which a scope uses.
-    pub fn find_by_path(
-        &self,
-        scope: usize,
-        path: Path<'a>,
-        name: &'a str,
-        space: Space,
-    ) -> Found<'a>
-        ensures only { IsOnlyOfAStep self.now name.now space result }
+    pub fn find_by_path(&self, scope: usize, path: &Path, name: Name, space: Space) -> Found
+        ensures only { IsOnlyOfAStep self.now name space result }
     {
-        match self.lead(scope, &path, name) {
+        match self.lead(scope, path, name) {
             Lead::Known => Found::Known(name),
-            Lead::Outside | Lead::Lost | Lead::Type => Found::Outside,
+            Lead::Outside | Lead::Lost | Lead::Type | Lead::Not => Found::Outside,
             Lead::Doubtful | Lead::Open => Found::Two,
             Lead::Wrong(why) => Found::Wrong(why),
             Lead::In(place) => self.by_path(place, name, space),
@@ -316,8 +302,8 @@ impl<'a> Scopes<'a> {
     }
 
     /// What a module has under a name, or all files, if it only passes it on.
-    fn by_path(&self, module: usize, name: &'a str, space: Space) -> Found<'a>
-        ensures only { IsOnlyOfAStep self.now name.now space result }
+    fn by_path(&self, module: usize, name: Name, space: Space) -> Found
+        ensures only { IsOnlyOfAStep self.now name space result }
     {
         match self.step(Step::Scope(module), name, space) {
             Found::In(..) if self.may_import(module, name) => Found::Two,
@@ -332,14 +318,20 @@ impl<'a> Scopes<'a> {
     }
 
     /// Appends the paths of what a name may stand for, each once.
-    pub fn put_paths(&self, faults: &mut Faults<'_>, name: &str) {
+    pub fn put_paths(&self, faults: &mut Faults, name: Name) {
         let mut before = ", as in `";
         let mut last = "";
         for item in &self.items {
-            let module = self.scope(item.scope).name;
-            let is_it = item.name == name && is_within(&self.scopes, Step::All, item.scope);
-            if is_it && !module.is_empty() && module != last {
-                faults.put_all(&[before, module, "::", name, "`"]);
+            if item.name != name || !is_within(&self.scopes, Step::All, item.scope) {
+                continue;
+            }
+            let it = self.scope(item.scope);
+            let module = match it.kind {
+                Kind::File => module_of_file(self.tokens.name_of_file(it.file)),
+                _ => self.tokens.text(it.name),
+            };
+            if !module.is_empty() && module != last {
+                faults.put_all(&[before, module, "::", self.tokens.text(name), "`"]);
                 before = " or `";
                 last = module;
             }
@@ -347,8 +339,8 @@ impl<'a> Scopes<'a> {
     }
 
     /// What a name that is asked for stands for: a marked type or an alias, outside of bodies if there is one.
-    pub fn find_asked(&self, path: Path<'a>, name: &'a str) -> Found<'a>
-        ensures only { IsOnlyOfAStep self.now name.now space.Asked result }
+    pub fn find_asked(&self, path: &Path, name: Name) -> Found
+        ensures only { IsOnlyOfAStep self.now name space.Asked result }
     {
         let named = Step::Module(path.before());
         for step in [Step::All, Step::Bodies] {
@@ -356,7 +348,7 @@ impl<'a> Scopes<'a> {
             let step = if path.count > 0 { named } else { step };
             match self.only(step, name, Space::Asked) {
                 Only::Nothing => {}
-                Only::One(item) => return self.found_as(item),
+                Only::One(item) => return self.found_as(&item),
                 Only::Two => return Found::Two,
             }
         }

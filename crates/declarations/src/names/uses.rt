@@ -1,123 +1,128 @@
-//! What `use` brings into a scope, name by name.
-use super::leads::Lead;
-use super::rule::Path;
-use super::{Import, Scopes, put};
-use declaration_parser::attributes::{front, plain_name};
-use declaration_parser::tokens::{Token, Word};
+//! What `use` brings into a scope, name by name; and derives from other crates than serde by the names of serde's.
+use super::leads::{Lead, is_start};
+use super::{Import, NO_NAME, Name, Path, Scopes, Words};
+use crate::known::is_known_crate;
+use declaration_parser::derives::{has_own, has_serdes};
+use declaration_parser::tokens::{DESERIALIZE, SERIALIZE, Word, word_of};
 
-/// The words after a name, and the name that it has from there on.
-fn renamed<'a>(own: &'a str, words: &'a [Token]) -> (&'a str, &'a [Token]) {
-    match words {
-        [by, name, rest @ ..] if matches!(by.word, Word::As) => (
-            plain_name(name.text.as_str()),
-            rest,
-        ),
-        _ => (own, words),
-    }
-}
+/// What stands for the names of a file that isn't read: no text has this name.
+const INCLUDED: Name = Name::MAX;
 
-impl<'a> Import<'a> {
-    /// Nothing yet, in a scope.
-    pub(super) fn of(scope: usize, is_public: bool, is_conditional: bool) -> Import<'a> {
-        Import {
-            scope,
-            is_public,
-            is_conditional,
-            ..Import::default()
-        }
-    }
-
-    /// Whether it may make a module of this name one of its own that isn't in these files, or is called otherwise.
-    pub(super) fn may_pass_on(&self, name: &str) -> bool {
-        if self.name != name {
-            return self.is_glob && self.is_public && self.leads_out();
-        }
-        self.last != name || self.leads_out()
-    }
-
+impl Import {
     /// Whether it may bring in modules that aren't in these files.
     pub(super) fn leads_out(&self) -> bool {
         !matches!(self.lead, Lead::In(_) | Lead::Type)
     }
-
-    /// The last name of a path, by another one.
-    fn named(self, name: &'a str, path: Path<'a>, last: &'a str) -> Import<'a> {
-        Import {
-            name,
-            path,
-            last,
-            is_glob: name.is_empty(),
-            ..self
-        }
-    }
 }
 
 impl<'a> Scopes<'a> {
-    /// Adds what a `use` brings in by these words.
-    pub(super) fn read_use(&mut self, import: Import<'a>, words: &'a [Token]) {
-        let mut path = Path::default();
+    /// Adds what a `use` brings in by these words, or an `extern crate`.
+    pub(super) fn read_use(&mut self, mut import: Import, words: Words) {
+        let tokens = self.tokens;
         // The paths before each `{` that is open.
         let mut kept = Vec::new(self.alloc);
         let mut rest = words;
         for _ in 0..words.len() {
-            let [token, behind @ ..] = rest else {
-                break;
-            };
-            let word = plain_name(token.text.as_str());
-            rest = behind;
+            let token = tokens.first(rest);
+            rest = rest.behind_first();
             match token.word {
-                Word::Colon => path.begin(),
-                Word::Brace => self.failed = kept.push(path).is_err() || self.failed,
-                Word::Close => {
-                    kept.pop();
-                }
-                Word::Comma => path = kept.last().copied().unwrap_or_default(),
-                Word::Star => self.put_import(import.named("", path, "")),
-                _ if matches!(front(behind), Word::Colon) => path.go(word),
-                _ => {
-                    // `self` is what the path before it leads to
-                    let (path, last) = match word {
-                        "self" if path.count > 0 => (path.without_last(), path.before()),
-                        _ => (path, word),
-                    };
-                    let (name, behind) = renamed(last, behind);
-                    self.put_import(import.named(name, path, last));
-                    rest = behind;
-                }
+                Word::Colon => import.path.begin(),
+                Word::Brace => self.failed = kept.push(import.path).is_err() || self.failed,
+                Word::Close => _ = kept.pop(),
+                Word::Comma => import.path = kept.last().copied().unwrap_or_default(),
+                Word::Star => self.put_import(import),
+                _ if matches!(tokens.front(rest), Word::Colon) => import.path.go(token.name),
+                _ if token.name == NO_NAME => break,
+                _ => rest = self.read_last(import, token.name, rest),
             }
         }
     }
 
-    fn put_import(&mut self, import: Import<'a>) {
-        self.failed = self.imports.push(import).is_err() || self.failed;
-        self.failed = put(&mut self.used, import.name) || self.failed;
-        self.failed = put(&mut self.members, (import.scope, import.name)) || self.failed;
-        if !import.path.is_known_as(import.name, import.last) {
-            self.failed = put(&mut self.named, import.name) || self.failed;
+    /// Adds the last name of a path, which may have another from there on, and gives the words after it.
+    fn read_last(&mut self, mut import: Import, last: Name, words: Words) -> Words {
+        import.last = last;
+        // `self` is what the path before it leads to
+        if matches!(word_of(last), Word::Own) && import.path.count > 0 {
+            import.last = import.path.before();
+            import.path.count = import.path.count.saturating_sub(1);
         }
+        let by = words.behind_first();
+        let is_renamed = matches!(self.tokens.front(words), Word::As) && !by.is_empty();
+        import.name = if is_renamed {
+            self.tokens.first(by).name
+        } else {
+            import.last
+        };
+        self.put_import(import);
+        if is_renamed { by.behind_first() } else { words }
+    }
+
+    fn put_import(&mut self, mut import: Import) {
+        import.is_known = import.name == import.last
+            && import.path.count > 0
+            && is_known_crate(self.tokens.text(import.path.root()));
+        let member = (import.name, import.scope);
+        self.failed = self.members.insert(member, true).is_err() || self.failed;
+        if !import.is_known {
+            self.note(import.name);
+        }
+        self.failed = self.imports.push(import).is_err() || self.failed;
     }
 
     /// Adds another file's words, of which nothing is known.
-    pub(super) fn add_include(&mut self, import: Import<'a>) {
-        let mut path = Path::default();
-        path.go("include!");
-        self.put_import(Import {
-            is_public: true,
-            ..import.named("", path, "")
-        });
+    pub(super) fn add_include(&mut self, mut import: Import) {
+        import.last = INCLUDED;
+        import.is_public = true;
+        self.put_import(import);
     }
 
-    /// Adds a crate by the words after `extern crate`, which may give it another name.
-    pub(super) fn read_crate(&mut self, import: Import<'a>, words: &'a [Token]) {
-        let [token, behind @ ..] = words else {
-            return;
+    /// Whether a `use` brings in a derive that isn't serde's: by a path that doesn't begin with a crate that has serde's, also by
+    /// another name, or end with its name. Of the crates that a `*` may be of some are known to have one.
+    pub(super) fn brings_other(&self, it: &Import) -> bool {
+        let root = it.path.first(it.last);
+        if it.name == NO_NAME {
+            return has_own(self.tokens.text(root));
+        }
+        if !matches!(it.name, SERIALIZE | DESERIALIZE) || !it.leads_out() || is_start(root) {
+            return false;
+        }
+        let krate = match self.import_of(self.beyond(it.scope, NO_NAME).0, root, true) {
+            Some(by) => by.last,
+            None => root,
         };
-        let own = plain_name(token.text.as_str());
-        let (name, _) = renamed(own, behind);
-        self.put_import(Import {
-            is_crate: true,
-            is_public: true,
-            ..import.named(name, Path::default(), own)
-        });
+        let is_passed_on = it.path.count > 1 && has_serdes(self.tokens.text(it.path.before()));
+        it.last != it.name || !(is_passed_on || has_serdes(self.tokens.text(krate)))
+    }
+
+    /// Whether the derive of this name that a scope has may be another crate's; nothing if no `use` says it. What the scope itself
+    /// brings in by the name hides what a `*` brings in.
+    fn derive_in(&self, scope: usize, derive: Name) -> Option<bool> {
+        let mut found = None;
+        for it in &self.imports {
+            let is_own = it.scope == scope && it.name == derive;
+            let is_other = it.is_other
+                && (it.name == NO_NAME || it.name == derive)
+                && self.may_lead_to(scope, it.scope, derive);
+            match found {
+                _ if is_own && is_other => return Some(true),
+                _ if is_own && it.leads_out() => found = Some(false),
+                None if is_other => found = Some(true),
+                _ => {}
+            }
+        }
+        found
+    }
+
+    /// Whether the derive of this name that a scope uses may be another crate's. What a body brings in hides what is round it.
+    pub fn has_other_derive(&self, scope: usize, derive: Name) -> bool {
+        let mut at = scope;
+        for _ in 0..self.scopes.len() {
+            match self.derive_in(at, derive) {
+                Some(is_other) => return is_other,
+                None if self.is_inner(at) => at = self.scope(at).outer,
+                None => break,
+            }
+        }
+        false
     }
 }

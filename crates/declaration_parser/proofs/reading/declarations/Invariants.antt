@@ -1,8 +1,10 @@
-use Rattle.std.proofs.Common.{take}
+use Rattle.std.proofs.Common.{◌≡◌, drop}
 use Rattle.declaration_parser.specs.Silent.{SaysNothing}
-use Rattle.declaration_parser.specs.Standing.{AreGoneOver, tokens_in}
+use Rattle.declaration_parser.specs.Standing.{Accounts, end_after, end_of}
 use Rattle.declaration_parser.proofs.reading.declarations.Given as goal
 
--- the files that were read, unless something was wrong
-abbrev pub invariant-loop-file : goal.invariant-loop-file
-invariant-loop-file l = SaysNothing l.reading.faults → AreGoneOver l.reading.found.items (tokens_in (take l.file-index l.files))
+-- up to where the files are read, unless something was wrong
+abbrev pub invariant-loop-place : goal.invariant-loop-place
+invariant-loop-place l =
+    (SaysNothing l.reading.faults → Accounts l.tokens l.reading.found.items l.from)
+    × (end_after l.from (drop l.place l.tokens.files.items) ≡ end_of l.tokens.files.items)

@@ -1,13 +1,12 @@
 use Rattle.std.proofs.Common.{refl, rules}
 use Rattle.declaration_parser.specs.declared.declaration.Declaration.{Declaration}
-use Rattle.declaration_parser.proofs.StandingLemmas.{accounts_declared}
 use Rattle.declaration_parser.proofs.reading.Reading.keep.Goals as goal
 
-pub returns-clause-stands : goal.returns-clause-stands
-returns-clause-stands c silent unmarked =
+pub returns-clause-kept : goal.returns-clause-kept
+returns-clause-kept c silent =
     let it = c.args.declaration in
     let kept : Declaration = record {
-      attributes = c.args.attributes;
+      attributes = c.args.item.now.attributes;
       words = c.args.words;
       name = it.name;
       file = it.file;
@@ -22,4 +21,4 @@ returns-clause-stands c silent unmarked =
       sure = it.sure;
       wrong = c.apart_from.result;
     } in
-    accounts_declared c.args.self.now.found.items _ kept _ _ (search rules) refl refl unmarked
+    record { it = kept; whole = search rules; its_attributes = refl; its_words = refl }

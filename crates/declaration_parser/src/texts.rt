@@ -1,0 +1,51 @@
+//! Texts: letters, and lists of words with blanks between them.
+use unicode_ident::is_xid_continue;
+
+/// Whether a character can be in a word or a number.
+pub fn is_of_word(character: char) -> bool {
+    is_xid_continue(character)
+}
+
+/// The first letter of a word.
+pub fn first_letter(word: &str) -> Option<char> {
+    word.chars().next()
+}
+
+/// Whether a word is one of these.
+pub fn is_among(word: &str, words: &[&str]) -> bool {
+    for known in words {
+        if *known == word {
+            return true;
+        }
+    }
+    false
+}
+
+/// Whether a word is in a list, which has blanks between them.
+pub fn is_listed(word: &str, list: &str) -> bool {
+    for known in list.split_whitespace() {
+        if known == word {
+            return true;
+        }
+    }
+    false
+}
+
+/// What the first of these rows that lists a word says of it. A row is a list, a colon, and what is said.
+pub fn row_of(rows: &[&'static str], word: &str) -> Option<&'static str> {
+    for row in rows {
+        let (words, said) = row.split_once(": ")?;
+        if is_listed(word, words) {
+            return Some(said);
+        }
+    }
+    None
+}
+
+/// How many letters two words have in common at their starts, and at their ends, ignoring case.
+pub fn common(word: &str, other: &str) -> usize {
+    let is_same = |(first, second): &(char, char)| first.eq_ignore_ascii_case(second);
+    let front = word.chars().zip(other.chars()).take_while(is_same).count();
+    let pairs = word.chars().rev().zip(other.chars().rev());
+    front.saturating_add(pairs.take_while(is_same).count())
+}
