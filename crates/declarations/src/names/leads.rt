@@ -140,15 +140,20 @@ impl<'a> Scopes<'a> {
 
     /// Notes to which scopes a `*` leads from its own, and from those that lead there.
     fn find_ways(&mut self, scope: usize, to: usize) {
+        let mut places = Vec::new(self.alloc);
+        for (way, _) in self.ways.range((to, 0)..=(to, usize::MAX)) {
+            self.failed = places.push(way.1).is_err() || self.failed;
+        }
         for from in 0..self.scopes.len() {
-            if !self.leads_to(from, scope) {
-                continue;
+            if self.leads_to(from, scope) && !self.leads_to(from, to) {
+                self.add_ways(from, &places);
             }
-            for place in 0..self.scopes.len() {
-                if self.leads_to(to, place) {
-                    self.failed = self.ways.insert((from, place), ()).is_err() || self.failed;
-                }
-            }
+        }
+    }
+
+    fn add_ways(&mut self, from: usize, places: &[usize]) {
+        for place in places {
+            self.failed = self.ways.insert((from, *place), ()).is_err() || self.failed;
         }
     }
 

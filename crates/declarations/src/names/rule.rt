@@ -257,35 +257,47 @@ impl<'a> Scopes<'a> {
         self.leads_to(from, place)
     }
 
-    /// Whether a scope has another than was found, or a `*` leads from it to one that has.
+    /// Whether a scope has another than was found, or a `*` leads from it to one that has: by a macro, or by a `*` that leads out
+    /// of the files.
     fn has_other(&self, from: usize, found: Found, name: Name, space: Space) -> bool {
-        for (way, _) in self.ways.range((from, 0)..=(from, usize::MAX)) {
-            if self.may_make(way.1, found, name, space) {
+        for it in &self.imports {
+            let may_bring = it.name == NO_NAME && self.may_bring(it, found, name, space);
+            if may_bring && self.is_other(from, it.scope, found, name) {
+                return true;
+            }
+        }
+        for call in &self.calls {
+            let has_word = self.tokens.has_name(call.inside, name);
+            if has_word && self.is_other(from, call.scope, found, name) {
                 return true;
             }
         }
         false
     }
 
-    /// Whether a scope may have another than was found: by a macro, or by a `*` that leads out of the files. A known crate has no
-    /// other of a known name.
-    fn may_make(&self, scope: usize, found: Found, name: Name, space: Space) -> bool {
+    /// Whether a `*` may bring in another than was found. A known crate has no other of a known name.
+    fn may_bring(&self, it: &Import, found: Found, name: Name, space: Space) -> bool {
         let text = self.tokens.text(name);
-        let is_other = !matches!(found, Found::Known(_));
-        let mut may_make = self.is_handed(scope, name);
-        for it in &self.imports {
-            let may_bring = match it.lead {
-                _ if it.scope != scope => continue,
-                _ if it.name == name && !it.is_conditional => return false,
-                Lead::In(_) => false,
-                Lead::Type => space == Space::Constants,
-                Lead::Known if space == Space::Types => is_other
-                    && (is_known(text) || sent_as(text).is_some()),
-                _ => true,
-            };
-            may_make = may_make || (may_bring && it.name == NO_NAME);
+        match it.lead {
+            Lead::In(_) => false,
+            Lead::Type => space == Space::Constants,
+            Lead::Known if space == Space::Types => !matches!(found, Found::Known(_))
+                && (is_known(text) || sent_as(text).is_some()),
+            _ => true,
         }
-        may_make && !matches!(found, Found::In(_, there) if there == scope)
+    }
+
+    /// Whether a `*` leads from one scope to another, which isn't where the name was found, nor imports it.
+    fn is_other(&self, from: usize, scope: usize, found: Found, name: Name) -> bool {
+        if !self.leads_to(from, scope) || matches!(found, Found::In(_, there) if there == scope) {
+            return false;
+        }
+        for it in &self.imports {
+            if it.scope == scope && it.name == name && !it.is_conditional {
+                return false;
+            }
+        }
+        true
     }
 
     /// What the last name of a path stands for, which a scope uses.
