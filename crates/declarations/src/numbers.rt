@@ -71,6 +71,8 @@ pub fn computed_of(operator: char, first: Number, second: Number) -> Option<Numb
 
 /// A number by its digits, as Rust writes it, and the type that follows them, which may be left out.
 pub fn literal(word: &str) -> Option<(u64, &str)> {
+    // a name may begin with `_`
+    first_letter(word)?.to_digit(10)?;
     let (radix, front) = match word.get(..2) {
         Some("0x") => (16, 2),
         Some("0b") => (2, 2),
