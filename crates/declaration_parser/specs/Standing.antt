@@ -1,5 +1,5 @@
 -- The positions of declarations among the tokens of files.
-use Rattle.std.specs.Prelude.{◌≡◌, ◌≤◌, ℕ, List, [], ◌∷◌, ◌++◌, max}
+use Rattle.std.specs.Prelude.{◌≡◌, ◌≤◌, ℕ, List, [], ◌∷◌, ◌++◌, length, max}
 use Rattle.declaration_parser.specs.declared.declaration.Declaration.{Declaration}
 use Rattle.declaration_parser.specs.declared.tokens.File.{File}
 use Rattle.declaration_parser.specs.declared.tokens.Tokens.{Tokens}
@@ -41,3 +41,12 @@ end_after place (file ∷ more) = end_after (max file.words.to place) more
 -- the place behind all files
 abbrev pub end_of : List File → ℕ
 end_of files = end_after 0 files
+
+-- the last file has the tokens from this place on, up to the last of all
+pub record EndsInFile (tokens : Tokens) (from : ℕ) : Type 0 where
+  -- the files before it
+  pub before : List File
+  pub file : File
+  pub whole : tokens.files.items ≡ before ++ (file ∷ [])
+  pub begins : file.words.from ≡ from
+  pub ends : file.words.to ≡ length tokens.all.items

@@ -1,4 +1,7 @@
 //! From the text of a file to its tokens.
+ghost use Rattle.std.specs.Prelude.{IfOk, length};
+ghost use Rattle.declaration_parser.specs.Standing.{EndsInFile};
+
 use crate::faults::Faults;
 use crate::marks::{is_mark, way_of};
 use crate::texts::{first_letter, is_of_word};
@@ -106,7 +109,9 @@ impl Tokens {
     ///
     /// # Errors
     /// `AllocError` when out of memory.
-    pub fn with_file(self, alloc: Global, file: &str, text: &str) -> Result<Tokens, AllocError> {
+    pub fn with_file(self, alloc: Global, file: &str, text: &str) -> Result<Tokens, AllocError>
+        ensures last { IfOk result (λ tokens. EndsInFile tokens (length self.all.items)) }
+    {
         let text = text.strip_prefix('\u{feff}').unwrap_or(text);
         let from = self.all.len();
         let mut reader = Reader {
@@ -127,14 +132,21 @@ impl Tokens {
         }
         let name = String::from_str(alloc, file)?;
         let faults = reader.faults.finished()?;
-        let mut tokens = reader.tokens;
+        reader.tokens.ended(from, name, faults)
+    }
+
+    /// These tokens as those of one more file from this place on.
+    fn ended(self, from: usize, name: String, faults: String) -> Result<Tokens, AllocError>
+        ensures { IfOk result (λ tokens. EndsInFile tokens from) }
+    {
+        let mut tokens = self;
         let to = tokens.all.len();
-        let words = Words { from, to };
-        tokens.files.push(File {
+        let file = File {
             name,
-            words,
+            words: Words { from, to },
             faults,
-        })?;
+        };
+        tokens.files.push(file)?;
         Ok(tokens)
     }
 }

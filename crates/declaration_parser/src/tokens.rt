@@ -264,12 +264,6 @@ impl Tokens {
         }
     }
 
-    /// The words of all files, one after another.
-    pub fn whole(&self) -> Words {
-        let to = self.all.len();
-        Words { from: 0, to }
-    }
-
     /// The token at a place.
     pub fn at(&self, place: usize) -> Token {
         match self.all.get(place) {
