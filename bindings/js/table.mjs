@@ -24,11 +24,15 @@ export class Unread extends Error {
 
 const GREATEST_DEPTH = 1000;
 const INTEGER = /^([ui])(8|16|32|64|128)$/;
-const PARTS = new Map([["option", "node"], ["list", "node"], ["map", "node"], ["array", "node"], ["newtype", "node"], ["struct", "fields"], ["tuple", "nodes"]]);
+const PARTS = new Map([["option", "node"], ["list", "node"], ["map", "node"], ["array", "node"], ["newtype", "node"], ["struct", "fields"], ["enum", "variants"], ["tuple", "nodes"]]);
 const NO_PARTS = new Set(["bool", "char", "bytes", "text", "f32", "f64", "unit", "empty", "fixed"]);
 const UTF8 = new TextDecoder("utf-8", { fatal: true, ignoreBOM: true });
 const TEXT = new TextEncoder();
 const quoted = (text) => JSON.stringify(text);
+const isObject = (it) => typeof it === "object" && it !== null;
+const isInteger = (kind) => typeof kind === "string" && INTEGER.test(kind);
+/** The integer that a node is of, by its digits or of fixed width. */
+const integerIn = (node) => (node.kind === "fixed" ? node.integer : node.kind);
 const shown = (name) => name.replaceAll("\n", "\\n").replaceAll("\r", "\\r").replaceAll("\t", "\\t");
 
 // ---- bytes
@@ -130,8 +134,10 @@ function shortest(kind, x) {
     return [digits, point];
   }
   for (let n = 1; ; n++) {
-    const [, digits, point] = decimalOf(x.toExponential(n - 1));
-    for (const step of [0n, 1n, -1n]) { // beside a power of two the nearest decimal may lie outside
+    const [, digits, point] = decimalOf(x.toExponential(n - 1)), half = String(10n * BigInt(digits) - 5n);
+    const isTie = compared(half, point + half.length - digits.length - 1, x) === 0; // where toExponential takes the greater one, and ryu the even one
+    // beside a power of two the nearest decimal may lie outside
+    for (const step of isTie && BigInt(digits) % 2n ? [-1n, 0n] : [0n, 1n, -1n]) {
       const near = String(BigInt(digits) + step), at = point + near.length - digits.length;
       if (singleOf(`${near}e${at - near.length}`) === x) return [near.replace(/0+$/, "") || "0", at];
     }
@@ -262,21 +268,26 @@ export class Table {
     this.#check();
   }
   #check() {
-    const isCount = (n) => Number.isInteger(n) && n >= 0, isPlace = (n) => isCount(n) && n < this.nodes.length;
+    const isCount = (n) => Number.isInteger(n) && n >= 0;
     for (const node of this.nodes) {
-      if (typeof node !== "object" || node === null) throw new TypeError("the table has a node that is no object");
-      const parts = node.node !== undefined ? [node.node] : node.nodes ?? (node.fields ?? node.variants ?? []).map((it) => it.node);
-      const known = INTEGER.test(node.kind) || NO_PARTS.has(node.kind) ||
-        node.kind === "enum" || (PARTS.has(node.kind) && node[PARTS.get(node.kind)] !== undefined);
-      const names = (node.fields ?? node.variants ?? []).map((it) => it.name);
-      const named = names.every((it) => typeof it === "string") && new Set(names).size === names.length;
+      if (!isObject(node)) throw new TypeError("the table has a node that is no object");
       const isWhole = (node.kind !== "array" || isCount(node.count)) && (node.most == null || isCount(node.most)) &&
-        (node.kind !== "fixed" || (INTEGER.test(node.integer) && ["little", "big"].includes(node.order)));
-      if (!known || !parts.every(isPlace) || !named || !isWhole) {
-        throw new TypeError(`the table has a node that isn't known: ${JSON.stringify(node)}`);
-      }
+        (node.kind !== "fixed" || (isInteger(node.integer) && ["little", "big"].includes(node.order)));
+      if (!this.#hasParts(node) || !isWhole) throw new TypeError(`the table has a node that isn't known: ${JSON.stringify(node)}`);
     }
-    if (!this.types.every((it) => typeof it.name === "string" && isPlace(it.node))) throw new TypeError("the table has a type without a node");
+    if (!this.types.every((it) => this.#isNamed(it))) throw new TypeError("the table has a type without a node");
+  }
+  #isPlace(n) { return Number.isInteger(n) && n >= 0 && n < this.nodes.length; }
+  #isNamed(it) { return isObject(it) && typeof it.name === "string" && this.#isPlace(it.node); }
+  /** Whether a node's kind is known, and the node has the parts of that kind, whatever else it has. */
+  #hasParts(node) {
+    const part = PARTS.get(node.kind);
+    if (part === undefined) return NO_PARTS.has(node.kind) || isInteger(node.kind);
+    if (part === "node") return this.#isPlace(node.node);
+    const parts = node[part] ?? (node.kind === "enum" ? [] : undefined);
+    if (!Array.isArray(parts)) return false;
+    if (part === "nodes") return parts.every((it) => this.#isPlace(it));
+    return parts.every((it) => this.#isNamed(it)) && new Set(parts.map((it) => it.name)).size === parts.length;
   }
   /** The names of the declared types, in their order. Where several have one name, each is that name and its line: `Config:7`. */
   get names() {
@@ -297,8 +308,9 @@ export class Table {
     return true;
   }
   #hasTextKeys(pair) {
-    let place = this.nodes[pair].nodes?.[0];
-    if (place === undefined || this.nodes[pair].nodes.length !== 2) return false;
+    const { kind, nodes } = this.nodes[pair];
+    if (kind !== "tuple" || nodes.length !== 2) return false;
+    let place = nodes[0];
     for (let i = 0; i <= this.nodes.length; i++) {
       const node = this.nodes[place];
       if (node.kind === "enum") return (node.variants ?? []).every((it) => this.nodes[it.node].kind === "empty");
@@ -465,7 +477,7 @@ export class Table {
   }
   #putNumber(out, node, json) {
     if (json.number === undefined) throw new Wrong("expected a number");
-    const integer = node.integer ?? node.kind, n = integerOf(integer, json.number);
+    const integer = integerIn(node), n = integerOf(integer, json.number);
     if (n !== undefined) return this.#putInteger(out, node, n);
     throw new Wrong(/[.eE]/.test(json.number) ? "expected a number without fraction or exponent" : rangeOf(integer));
   }
@@ -560,7 +572,7 @@ export class Table {
       if (index < 0) throw new Wrong("the type has no such variant");
       return putVarint(out, BigInt(index));
     }
-    const integer = node.integer ?? node.kind, n = integerOf(integer, name);
+    const integer = integerIn(node), n = integerOf(integer, name);
     if (n === undefined) throw new Wrong(rangeOf(integer));
     this.#putInteger(out, node, n);
   }

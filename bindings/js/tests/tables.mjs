@@ -71,6 +71,10 @@ for (const [json, bits] of [["1.000000059604644775390625", "0000803f"], ["1.0000
   assert.equal(hex(single.write(0, json)), bits, json);
 }
 assert.throws(() => single.write(0, "340282356779733661637539395458142568448"), Wrong);
+// where two shortest decimals are as near, the even one, as ryu and `wire` have it
+for (const [json, bits] of [["2097152.2", "0100004a"], ["2097152.8", "0300004a"], ["-2862615.2", "5db82eca"], ["3427355.2", "6d30514a"]]) {
+  assert.equal(single.read(0, Buffer.from(bits, "hex")), json);
+}
 // what isn't bytes, a line or a place is refused, and no value is made of it; digits of many bytes are a value
 for (const it of [new ArrayBuffer(8), new DataView(new ArrayBuffer(8)), Uint16Array.of(700, 700), [700, 700, 700, 700], "abcd", undefined]) {
   assert.throws(() => single.read(0, it), TypeError);
@@ -100,9 +104,16 @@ assert.throws(() => list.write(0, none, { wrapped: 1 }), TypeError);
 // a table that isn't whole is refused as such, before bytes are read by it
 for (const node of [null, 5, { kind: "struct" }, { kind: "tuple" }, { kind: "option" }, { kind: "list", most: -1, node: 0 }, { kind: "array", node: 0 },
   { kind: "array", node: 0, count: -1 }, { kind: "array", count: 1 }, { kind: "fixed", integer: "u16" }, { kind: "text", most: "5" }, { kind: "other", undefined: 0 },
-  { kind: "struct", fields: [{ name: "a", node: 0 }, { name: "a", node: 0 }] }, { kind: "enum", variants: [{ name: "A", node: 0 }, { name: "A", node: 0 }] }]) {
+  { kind: "struct", fields: [{ name: "a", node: 0 }, { name: "a", node: 0 }] }, { kind: "enum", variants: [{ name: "A", node: 0 }, { name: "A", node: 0 }] },
+  { kind: ["u8"] }, { kind: "struct", fields: 5 }, { kind: "struct", fields: [null] }, { kind: "struct", node: 0, fields: [{ name: "a", node: 9 }] }, { kind: "tuple", nodes: "0" },
+  { kind: "enum", variants: [undefined] }, { kind: "enum", nodes: [0], variants: [{ name: "A" }] }, { kind: "fixed", integer: ["u16"], order: "big" }]) {
   assert.throws(() => of({ kind: "u8" }, node), /the table has a node that/, JSON.stringify(node));
 }
+for (const it of [null, undefined, 5, { name: "T" }, { name: "T", node: 1 }, { node: 0 }]) {
+  assert.throws(() => new Table({ version: 1, types: [it], nodes: [{ kind: "u8" }] }), /a type without a node/);
+}
+assert.throws(() => of({ kind: "u8", integer: "u16" }).write(0, "300"), /from 0 to 255/); // a member of another kind says nothing
+assert.equal(of({ kind: "map", node: 1 }, { kind: "u8", nodes: "ab" }).read(0, Uint8Array.of(1, 7)), "[7]");
 // types of one name are told apart by their lines; without a line none is chosen
 const twice = new Table({ version: 1, types: [["Config", 3, 0], ["Config", 7, 1], ["All", 9, 1]].map(([name, line, node]) => ({ name, line, node })), nodes: [{ kind: "u8" }, { kind: "u16" }] });
 assert.deepEqual(twice.names, ["Config:3", "Config:7", "All"]);
