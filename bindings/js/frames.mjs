@@ -80,9 +80,13 @@ const LARGE = 1 << 26;
 const notLarge = (it) => (it && it.bytes.length <= LARGE ? it : new Instance());
 const instance = () => (shared = notLarge(shared));
 
-/** A plain view of bytes. Those of a buffer that was transferred are gone: to make the view throws a TypeError then. */
+const { keys } = Uint8Array.prototype, { get: arrayName } = Object.getOwnPropertyDescriptor(Object.getPrototypeOf(Uint8Array.prototype), Symbol.toStringTag);
+/** A plain view of bytes. Those of a buffer that was transferred, or has shrunk, are gone: a TypeError then. */
 function bytesOf(it) {
-  if (ArrayBuffer.isView(it)) return new Uint8Array(it.buffer, it.byteOffset, it.byteLength);
+  if (ArrayBuffer.isView(it)) {
+    if (arrayName.call(it)) keys.call(it); // throws for one that its buffer has no room for any more, whose length is 0
+    return new Uint8Array(it.buffer, it.byteOffset, it.byteLength);
+  }
   if (isBuffer(it)) return new Uint8Array(it);
   throw new TypeError("frames: bytes are needed: a Uint8Array, another view or an ArrayBuffer");
 }
@@ -273,7 +277,10 @@ function receiverOf(limit, options) {
 }
 // the chunks of a source, which `end` gives back, also while a read waits. If that was one of an iterable, what it brings later goes to `late`.
 function chunksOf(source, late) {
-  const reader = typeof source?.getReader === "function" ? source.getReader() : undefined;
+  if (ArrayBuffer.isView(source) || isBuffer(source)) throw new TypeError("frames: a source gives bytes one after another: write [bytes]");
+  const isSource = ["getReader", Symbol.asyncIterator, Symbol.iterator].some((name) => typeof source?.[name] === "function");
+  if (!isSource) throw new TypeError("frames: a source is needed: a ReadableStream, as port.readable, a Node stream, or what gives bytes one after another");
+  const reader = typeof source.getReader === "function" ? source.getReader() : undefined;
   const chunks = reader ? undefined : (async function* () { yield* source; })();
   const over = { done: true };
   let wake, ended;

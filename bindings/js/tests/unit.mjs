@@ -100,6 +100,9 @@ const within = (promise) => new Promise((go, no) => {
 });
 /** A wait that is ended, by return() or by a signal: the stream is given back, and keeps what comes then. */
 async function ends() {
+  for (const [source, said] of [[HI, /write \[bytes\]/], [HI.buffer, /write \[bytes\]/], [null, /a source is needed/], [5, /a source is needed/], [{ readable: 1 }, /port\.readable/]]) {
+    await assert.rejects(frames.receive(source, 8).next(), (error) => error instanceof TypeError && said.test(error.message));
+  }
   const open = () => { let to; const stream = new ReadableStream({ start(it) { to = it; } }); return [stream, to]; };
   for (const end of ["return", "throw", "abort", "aborted"]) {
     const [stream, to] = open(), stop = new AbortController(), { signal } = stop, events = frames.receive(stream, 8, { signal });
@@ -285,6 +288,13 @@ function refusals() {
     assert.throws(() => new frames.Receiver(8).push(it), /detached/);
     assert.throws(() => new frames.Sender().send(it), /detached/);
     assert.throws(() => frames.seal(it), /detached/);
+  }
+  // nor are those for which a buffer has no room any more
+  const shrunk = new ArrayBuffer(8, { maxByteLength: 8 }), outside = [new Uint8Array(shrunk, 4, 4), new Uint32Array(shrunk, 4, 1), new DataView(shrunk, 4, 4)], all = new Uint8Array(shrunk);
+  if (shrunk.resizable) {
+    shrunk.resize(2);
+    for (const it of outside) assert.throws(() => new frames.Sender().send(it), TypeError);
+    assert.deepEqual(frames.encode(all), Uint8Array.of(1, 1, 1));
   }
   // bytes of another realm are bytes, and what only says so isn't
   for (const it of ["new Uint8Array([9, 8])", "new Uint8Array([9, 8]).buffer"]) assert.deepEqual(frames.encode(runInNewContext(it)), Uint8Array.of(3, 9, 8));
