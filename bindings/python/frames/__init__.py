@@ -279,6 +279,8 @@ class Sender(_Single):
                 self._is_writing = True
                 while out:
                     count = line.write(out)
+                    if count is True or (count and count > len(out)):  # else bytes would go out twice, or be missing
+                        raise TypeError(f"a write of the line returns how many bytes it took, not {count!r}")
                     if not count or count < 0:  # as a write of C says that it failed
                         raise OSError("the line takes nothing")
                     out = out[count:]

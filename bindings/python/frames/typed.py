@@ -38,6 +38,20 @@ class _Terms(Structure):
 _loaded: Optional[ctypes.CDLL] = None
 
 
+def _object(pairs: List[Tuple[str, Any]]) -> Any:
+    """A dictionary; of a map in which a key comes twice, all of its pairs."""
+    held = dict(pairs)
+    return held if len(held) == len(pairs) else [list(pair) for pair in pairs]
+
+
+_DECODER = json.JSONDecoder(object_pairs_hook=_object)
+
+
+def _answer(line: bytes) -> Dict[str, Any]:
+    answer: Dict[str, Any] = _DECODER.decode(line.decode())
+    return answer
+
+
 def library(path: Optional[str] = None) -> Optional[ctypes.CDLL]:
     """The shared object of typed messages, which is loaded at the first call; None if there is none.
 
@@ -119,7 +133,7 @@ class _Stream:
     def _answered(self, ends: bool) -> List[Dict[str, Any]]:
         self._terms.ends = ends
         _, text, used, inside = self._of.said(self._calls.wire_c_read, self._terms, self._left)
-        answers = [json.loads(line) for line in text.splitlines()]
+        answers = [_answer(line) for line in text.splitlines()]
         for answer in answers:
             for what, places in answer.items():
                 if what != "value":  # counted from the first byte that the call was handed
@@ -255,7 +269,7 @@ class _Process:
         self._feeder.start()
         assert self._process.stdout is not None
         for line in self._process.stdout:
-            yield json.loads(line)
+            yield _answer(line)
         self._process.wait()
         self._feeder.join(timeout=1)  # where the program stopped by itself, a read of the source may still be waiting
         self.close()
@@ -267,7 +281,7 @@ class _Process:
         self._begin()
         out, _ = self._process.communicate(stream)
         self.close()
-        return [json.loads(line) for line in out.splitlines()]
+        return [_answer(line) for line in out.splitlines()]
 
     def close(self) -> None:
         process = self._process
@@ -302,6 +316,8 @@ class _Process:
 
 class TypedReceiver(_Single):
     """Receives the messages of a type, each as a dictionary of what `wire read` prints.
+
+    A map is a dictionary if its keys can be texts and none comes twice, else a list of its pairs.
 
     Wrong declarations, a wrong type or a failing device are an `OSError`, at the latest from `close`, which the end of a `with` block calls.
     """

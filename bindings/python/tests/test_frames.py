@@ -128,6 +128,10 @@ def test_write():
         sender.write(line, b"yo")
         assert line.out == b"\0\x04\x02" + b"\0\x04\x02yo\0"
 
+    for count in (True, 99):  # of a line that returns no count: what it took isn't sent again
+        sender, line = frames.Sender(), Line(count)
+        assert refuses(TypeError, sender.write, line, b"hi") and sender.send(b"yo")[:1] == b"\0", count
+
     class Loop(io.BytesIO):
         def write(self, out):
             sender.write(io.BytesIO(), b"inside")
@@ -171,14 +175,14 @@ def test_inside(folder):
     finally:
         frames.Damaged = damaged
     if folder:
-        path, loads = os.path.join(folder, "inside.rs"), typed.json.loads
+        path, loads = os.path.join(folder, "inside.rs"), typed._answer
         pathlib.Path(path).touch()
         receiver = typed.TypedReceiver(path, "u8")
         try:
-            typed.json.loads = lambda line: {"refused": {"it": refuses(RuntimeError, receiver.answers, b"")}}
+            typed._answer = lambda line: {"refused": {"it": refuses(RuntimeError, receiver.answers, b"")}}
             assert in_time(lambda: receiver.answers(b"\2\7\0")) == [{"refused": {"it": 1}}]
         finally:
-            typed.json.loads = loads
+            typed._answer = loads
 
 
 def test_raised(folder):
@@ -196,23 +200,23 @@ def test_raised(folder):
         frames.Damaged = damaged
     assert receiver.push(line[5:] + b"\4\2hi\0") == [b"hi"]
     if folder:
-        path, loads = os.path.join(folder, "raised.rs"), typed.json.loads
+        path, loads = os.path.join(folder, "raised.rs"), typed._answer
         pathlib.Path(path).touch()
         stream, receiver = typed.write(path, "[u8; 3]", [[9, 2, 7], [1, 2, 3]]), typed.TypedReceiver(path, "[u8; 3]")
         heard = []
         try:
-            typed.json.loads = fails
+            typed._answer = fails
             assert refuses(MemoryError, list, receiver.listen(io.BytesIO(stream[:8])))
         finally:
-            typed.json.loads = loads
+            typed._answer = loads
         heard = list(receiver.listen(io.BytesIO(stream[8:])))
         assert heard == [{"value": [9, 2, 7]}, {"value": [1, 2, 3]}], heard
         # nor is a stream that was answered, or wasn't, in front of the next one
         try:
-            typed.json.loads = fails
+            typed._answer = fails
             assert refuses(MemoryError, receiver.answers, stream)
         finally:
-            typed.json.loads = loads
+            typed._answer = loads
         assert receiver.answers(b"\1" * 70000) == [{"too_long": {"from": 0, "to": 70000}}]
         assert receiver.answers(stream[1:]) == heard
 
@@ -563,6 +567,10 @@ def test_value_field(folder, wire):
         else:
             raise AssertionError(f"one of two values was sent for {values}")
     assert [written("[Node; 1]", [it]) for it in (none, one, two)] == [b"\0\1\1\0", b"\0\2\1\1\0", b"\0\3\1\1\1\0"]
+    # no pair of a map is lost, if a key comes twice
+    twice = b"\0" + frames.encode(b"\2\1a\1\1a\2") + b"\0"
+    assert typed.TypedReceiver(path, "BTreeMap<String, u8>", wire=wire).answers(twice) == [{"value": [["a", 1], ["a", 2]]}]
+    assert written("BTreeMap<String, u8>", [["a", 1], ["a", 2]]) == twice and written("BTreeMap<String, u8>", {"a": 1}) == b"\0\5\1\1a\1\0"
     # what has one meaning goes out, by itself or as a receiver answers it; and nothing else does
     assert written("Inner", {"value": 7}) == written("Inner", {"value": {"value": 7}}) == b"\0\2\7\0"
     assert written("Outer", {"value": {"value": 7}}, {"value": {"value": {"value": 8}}}) == b"\0\2\7\0\2\x08\0"
