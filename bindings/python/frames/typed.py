@@ -286,6 +286,7 @@ class _Process:
     def close(self) -> None:
         process = self._process
         assert process.stdin is not None and process.stdout is not None
+        is_ended_here = self._feeder is not None and process.poll() is None
         if self._feeder is not None:
             process.terminate()  # which does nothing to one that has ended
         elif not process.stdout.closed:
@@ -297,7 +298,7 @@ class _Process:
             self._said.seek(0)
             said = self._said.read().decode(errors="replace").strip()
             self._said.close()
-            if status > 1:
+            if status > 1 or (status < 0 and not is_ended_here):  # the latter by a signal, as of a system without memory
                 raise OSError(said or f"wire ended with status {status}")
 
     def _feed(self, source: Any, ends: bool) -> None:

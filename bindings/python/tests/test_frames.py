@@ -688,6 +688,31 @@ def test_typed(folder, wire):
         raise AssertionError("not refused")
 
 
+def test_killed(folder):
+    """A program that a signal ends, as where there is no memory, isn't the end of the stream; one that is ended by `close` is no error."""
+    path, killed = os.path.join(folder, "killed.rs"), os.path.join(folder, "killed")
+    pathlib.Path(path).touch()
+    pathlib.Path(killed).write_text("#!/bin/sh\nread -r _\necho '{\"value\":7}'\nkill -9 $$\n", encoding="utf-8")
+    os.chmod(killed, 0o755)
+    heard = []
+    for call in (
+        lambda receiver: receiver.answers(b"\n"),
+        lambda receiver: heard.extend(receiver.listen(io.BytesIO(b"\n"))),
+        lambda receiver: [heard.append(it) for it in receiver.listen(io.BytesIO(b"\n"))],
+        lambda receiver: receiver.close(),
+    ):
+        try:
+            call(typed.TypedReceiver(path, "u8", wire=killed))
+        except OSError as error:
+            assert "status -9" in str(error), error
+        else:
+            raise AssertionError("not raised")
+    assert heard[-1] == {"value": 7}
+    pathlib.Path(killed).write_text("#!/bin/sh\nread -r _\necho '{\"value\":7}'\nexec sleep 60\n", encoding="utf-8")
+    with typed.TypedReceiver(path, "u8", wire=killed) as receiver:
+        assert next(receiver.listen(io.BytesIO(b"\n"))) == {"value": 7}
+
+
 def main():
     rng = random.Random(7)
     test_codec(rng)
@@ -706,6 +731,7 @@ def main():
         by_library = typed.library()
         os.environ.pop("WIRE_LIBRARY", None)  # a wheel has its own, or none
         test_wheel(sys.argv[1])
+        test_killed(sys.argv[1])
         wire = os.environ.pop("WIRE", None)
         if by_library is not None:
             test_typed(sys.argv[1], None)
