@@ -269,6 +269,8 @@ class _Process:
         self._feeder.start()
         assert self._process.stdout is not None
         for line in self._process.stdout:
+            if not line.endswith(b"\n"):  # it was ended inside of it
+                break
             yield _answer(line)
         self._process.wait()
         self._feeder.join(timeout=1)  # where the program stopped by itself, a read of the source may still be waiting

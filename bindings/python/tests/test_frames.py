@@ -692,7 +692,7 @@ def test_killed(folder):
     """A program that a signal ends, as where there is no memory, isn't the end of the stream; one that is ended by `close` is no error."""
     path, killed = os.path.join(folder, "killed.rs"), os.path.join(folder, "killed")
     pathlib.Path(path).touch()
-    pathlib.Path(killed).write_text("#!/bin/sh\nread -r _\necho '{\"value\":7}'\nkill -9 $$\n", encoding="utf-8")
+    pathlib.Path(killed).write_text("#!/bin/sh\nread -r _\nprintf '{\"value\":7}\\n{\"val'\nkill -9 $$\n", encoding="utf-8")
     os.chmod(killed, 0o755)
     heard = []
     for call in (
