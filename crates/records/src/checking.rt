@@ -13,12 +13,18 @@ use sealed::Sealed;
 use std::io;
 use stores::{MemoryStore, Store, Stored};
 
+// The number of a record that counts.
+fn number_of(answer: &Answer<(u64, Entry)>) -> Option<u64> {
+    match answer {
+        Answer::Value((number, Sealed((sealed, _)))) if *number == *sealed => Some(*number),
+        _ => None,
+    }
+}
+
 // Why a stretch isn't a record that counts, if it isn't.
 fn held_against(answer: &Answer<(u64, Entry)>, again: bool) -> Option<&'static str> {
     match answer {
-        Answer::Value((number, Sealed((sealed, _)))) if *number == *sealed => {
-            if again { Some("a number again") } else { None }
-        }
+        _ if number_of(answer).is_some() => again.then_some("a number again"),
         Answer::TooLong => Some("too long"),
         _ => Some("damaged"),
     }
@@ -68,11 +74,12 @@ struct Printing<'a> {
     at: u64,
 }
 
-/// Prints the damage of a log as it is reported, or nothing; and keeps whether there was any.
+/// Prints the damage of a log as it is reported, or nothing; and keeps whether there was any, and the greatest number that counts.
 #[derive(Drop)]
 pub struct Printer<'a> {
     to: Option<Printing<'a>>,
     sound: bool,
+    greatest: Option<u64>,
 }
 
 impl<'a> Printer<'a> {
@@ -86,6 +93,7 @@ impl<'a> Printer<'a> {
                 at: 0,
             }),
             sound: true,
+            greatest: None,
         }
     }
 
@@ -94,6 +102,7 @@ impl<'a> Printer<'a> {
         Printer {
             to: None,
             sound: true,
+            greatest: None,
         }
     }
 
@@ -130,6 +139,7 @@ impl Watcher<Entry> for Printer<'_> {
             to.progress.step(to.rt, stretch.to.saturating_sub(to.at));
             to.at = stretch.to;
         }
+        self.greatest = self.greatest.max(number_of(&stretch.answer));
         let Some(what) = held_against(&stretch.answer, again) else {
             return Ok(());
         };
@@ -157,16 +167,20 @@ fn print_missing(rt: &HostRuntime, colour: Colour, tally: &Tally) -> io::Result<
     Ok(())
 }
 
-fn print_counted(rt: &HostRuntime, tally: &Tally) -> io::Result<()> {
-    let records = tally.counted();
-    match tally.next().checked_sub(1) {
-        Some(last) => println!(rt; "{records} records, 0..{last}"),
+fn print_counted(rt: &HostRuntime, records: u64, greatest: Option<u64>) -> io::Result<()> {
+    match greatest {
+        Some(greatest) => println!(rt; "{records} records, 0..{greatest}"),
         None => println!(rt; "no records"),
     }
 }
 
 // Prints the damage of the log as a whole, and how many records it has. Returns the status.
-fn sum_up(rt: &HostRuntime, report: &Report<Entry>, sound: bool) -> io::Result<u8> {
+fn sum_up(
+    rt: &HostRuntime,
+    report: &Report<Entry>,
+    sound: bool,
+    greatest: Option<u64>,
+) -> io::Result<u8> {
     let colour = Colour::new(rt);
     if let Some(last) = &report.unfinished {
         let from = last.from;
@@ -174,7 +188,7 @@ fn sum_up(rt: &HostRuntime, report: &Report<Entry>, sound: bool) -> io::Result<u
         println!(rt; "{on}bytes {from}..: cut{off}")?;
     }
     print_missing(rt, colour, &report.tally)?;
-    print_counted(rt, &report.tally)?;
+    print_counted(rt, report.tally.counted(), greatest)?;
     let whole = report.unfinished.is_none() && report.tally.missing().next().is_none();
     if whole && sound { Ok(0) } else { Ok(1) }
 }
@@ -189,7 +203,7 @@ fn check_in<S: Store>(rt: &HostRuntime, log: &str, store: &mut S) -> io::Result<
     );
     printer.end();
     match checked {
-        Ok(report) => sum_up(rt, &report, printer.sound),
+        Ok(report) => sum_up(rt, &report, printer.sound, printer.greatest),
         Err(e) => Ok(status_at(rt, log, e)),
     }
 }
