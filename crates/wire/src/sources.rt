@@ -1,6 +1,7 @@
 //! The files of declarations that FILES names: one, several separated by commas, and all in folders.
 use crate::failure::{Failure, no_file};
 use declarations::Source;
+use std::alloc::AllocError;
 use std::collections::BTreeMap;
 use std::fs;
 use std::io::{self, ErrorKind};
@@ -113,6 +114,22 @@ fn read(rt: &HostRuntime, file: String) -> Result<Source, Failure> {
     }
 }
 
+/// A path without `.` and repeated slashes, by which two names of one file are the same.
+fn plain_path(rt: &HostRuntime, path: &str) -> Result<String, AllocError> {
+    let mut plain = String::new(rt.alloc());
+    if path.starts_with('/') {
+        plain.push('/')?;
+    }
+    for part in path.split('/') {
+        if part.is_empty() || part == "." {
+            continue;
+        }
+        plain.push_str(part)?;
+        plain.push('/')?;
+    }
+    Ok(plain)
+}
+
 /// Returns the files that FILES names, in the order of their names, each once. A path with a comma is first tried as one path.
 pub fn sources_of(rt: &HostRuntime, word: &str) -> Result<Vec<Source>, Failure> {
     let mut files = Vec::new(rt.alloc());
@@ -130,8 +147,7 @@ pub fn sources_of(rt: &HostRuntime, word: &str) -> Result<Vec<Source>, Failure> 
     let mut sources = Vec::new(rt.alloc());
     let mut met = BTreeMap::new(rt.alloc());
     for file in files {
-        let path = String::from_str(rt.alloc(), file.as_str().trim_start_matches("./"))?;
-        match met.insert(path, ()) {
+        match met.insert(plain_path(rt, file.as_str())?, ()) {
             Ok(None) => sources.push(read(rt, file)?)?,
             Ok(Some(())) => {}
             Err(_) => return Err(Failure::NoMemory),
