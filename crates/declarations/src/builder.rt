@@ -197,7 +197,7 @@ impl<'a> Builder<'a> {
     /// without parameters, and says what is wrong with the files, which `faults` says, and with the other types.
     pub fn begin(&mut self, words: Option<Words>, faults: &str) -> usize {
         if let Some(words) = words {
-            return self.whole(words, self.at, DEEPEST);
+            return self.place(words, self.at, DEEPEST);
         }
         self.words.faults.put(faults);
         for (index, it) in self.all.iter().enumerate() {
@@ -205,8 +205,7 @@ impl<'a> Builder<'a> {
                 self.is_refused(index, it);
                 continue;
             }
-            let of = Vec::new(self.alloc);
-            self.owe_type(index, of, DEEPEST);
+            self.instance(index, DEEPEST);
             let name = self.text_of(self.tokens.text(it.name));
             let named = Named {
                 name,
@@ -225,34 +224,6 @@ impl<'a> Builder<'a> {
             self.words.faults.put(it.wrong.as_str());
         }
         is_refused
-    }
-
-    /// Whether the same words stand for parameters.
-    fn are_same(&self, first: &[Given], second: &[Given]) -> bool {
-        for (one, other) in first.iter().zip(second) {
-            if one.at != other.at || !self.tokens.are_same(one.words, other.words) {
-                return false;
-            }
-        }
-        true
-    }
-
-    /// The place of a declared type, of what stands for its parameters. It is made later, and until then one that can't be read.
-    fn owe_type(&mut self, index: usize, of: Vec<Given>, depth: u32) -> usize {
-        for made in &self.made {
-            if made.index == index && self.are_same(&made.of, &of) {
-                return made.place;
-            }
-        }
-        let place = self.add(Node::Option(NOWHERE), Names::Nothing);
-        let made = Made {
-            index,
-            of,
-            place,
-            depth,
-        };
-        self.words.push(&mut self.made, made);
-        place
     }
 
     /// Makes a declared type at its place, unless it can't be read.

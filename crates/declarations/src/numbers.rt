@@ -21,6 +21,9 @@ pub struct Number {
     pub most: u64,
 }
 
+/// What waits for its second number: a product, a sum and a shift, by their operators and first numbers.
+pub type Waiting = [Option<(char, Number)>; 3];
+
 /// What a type of numbers has at most, and how many bits: 0 if devices differ.
 pub fn width_of(word: &str) -> Option<(u64, u64)> {
     for (of, width) in OF_NUMBERS {
@@ -36,21 +39,32 @@ pub fn number_of(value: u64, most: u64) -> Option<Number> {
     (value <= most).then_some(Number { value, most })
 }
 
-/// The operator at the start of words, how weakly it binds, and the words after it: products 1, sums 2, shifts 3.
-pub fn operator_at(tokens: &Tokens, words: Words) -> Option<(char, u32, Words)> {
+/// The operator at the start of words, its place among what waits, and the words after it.
+pub fn operator_at(tokens: &Tokens, words: Words) -> Option<(char, usize, Words)> {
     let (first, rest) = (tokens.first(words).name, words.behind_first());
     let is_double = tokens.first(rest).name == first;
     let operator = first_letter(tokens.text(first))?;
     match operator {
-        '*' | '/' | '%' => Some((operator, 1, rest)),
-        '+' | '-' => Some((operator, 2, rest)),
-        '<' | '>' if is_double => Some((operator, 3, rest.behind_first())),
+        '*' | '/' | '%' => Some((operator, 0, rest)),
+        '+' | '-' => Some((operator, 1, rest)),
+        '<' | '>' if is_double => Some((operator, 2, rest.behind_first())),
         _ => None,
     }
 }
 
+/// What a number completes of what waits up to a place.
+pub fn completed(waiting: &mut Waiting, place: usize, number: Number) -> Option<Number> {
+    let mut number = number;
+    for it in waiting.iter_mut().take(place.saturating_add(1)) {
+        if let Some((operator, first)) = it.take() {
+            number = computed_of(operator, first, number)?;
+        }
+    }
+    Some(number)
+}
+
 /// What an operator makes of two numbers, if their type has that. What a shift is by has a type of its own.
-pub fn computed_of(operator: char, first: Number, second: Number) -> Option<Number> {
+fn computed_of(operator: char, first: Number, second: Number) -> Option<Number> {
     let most = match operator {
         '<' | '>' => first.most,
         _ => first.most.min(second.most),
@@ -69,8 +83,8 @@ pub fn computed_of(operator: char, first: Number, second: Number) -> Option<Numb
     number_of(value?, most)
 }
 
-/// A number by its digits, as Rust writes it, and the type that follows them, which may be left out.
-pub fn literal(word: &str) -> Option<(u64, &str)> {
+/// A number by its digits, as Rust writes it. It has at most so much, unless the type follows.
+pub fn literal(word: &str, most: u64) -> Option<Number> {
     // a name may begin with `_`
     first_letter(word)?.to_digit(10)?;
     let (radix, front) = match word.get(..2) {
@@ -90,5 +104,8 @@ pub fn literal(word: &str) -> Option<(u64, &str)> {
         }
         length = length.saturating_add(1);
     }
-    Some((number?, word.get(length..)?))
+    match word.get(length..)? {
+        "" => number_of(number?, most),
+        suffix => number_of(number?, width_of(suffix)?.0),
+    }
 }

@@ -9,7 +9,7 @@ use declaration_parser::tokens::{Word, Words};
 use schema_table::{IntegerType, Node};
 
 // What is said of a type that lacks what it holds, and of one whose bytes have no order.
-const NO_ARGUMENTS: &str =
+pub(super) const NO_ARGUMENTS: &str =
     "what a type holds is wanted in `<` and `>`, as `Option<u8>` and `ArrayVec<u8, 4>` have it";
 
 const NO_INTEGER: &str =
@@ -74,18 +74,9 @@ impl Builder<'_> {
         self.parts(words.before(rest), true)
     }
 
-    /// The place of a type that holds the types and the length in these parts.
-    #[cycle(types)]
-    pub(super) fn formed(&mut self, row: FormRow, parts: &[Words], depth: u32) -> usize {
-        let (form, types, length) = row;
-        if parts.len() < types {
-            return self.wrong(&[NO_ARGUMENTS]);
-        }
-        let mut places = Vec::new(self.alloc);
-        for words in parts.iter().take(types) {
-            let place = self.whole(*words, self.at, depth);
-            self.words.push(&mut places, place);
-        }
+    /// The place of a type that holds the types at these places and the length in these parts.
+    pub(super) fn formed(&mut self, row: FormRow, parts: &[Words], places: Vec<usize>) -> usize {
+        let (form, _, length) = row;
         let most = match parts.get(length) {
             Some(words) => Some(self.length(*words)),
             None => None,

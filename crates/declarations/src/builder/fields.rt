@@ -35,36 +35,32 @@ impl Builder<'_> {
         (Node::Struct(places), names)
     }
 
-    /// An enum of these variants.
+    /// An enum of these variants. One with a field without a name holds its type, any other a struct.
     pub(super) fn choice(&mut self, variants: &[VariantOf], depth: u32) -> (Node, Names) {
-        let mut payloads = Vec::new(self.alloc);
+        let mut places = Vec::new(self.alloc);
         let mut names = Vec::new(self.alloc);
-        for variant in variants {
-            self.words.variant = variant.name;
-            let payload = self.payload(&variant.fields, depth);
-            self.words.push(&mut payloads, payload);
-            let name = self.text_of(self.tokens.text(variant.name));
+        for VariantOf { name, fields } in variants {
+            self.words.variant = *name;
+            let place = match (fields.form, fields.items.as_slice(), fields.count) {
+                (Form::Tuple, [only], 1) => self.field(only, depth),
+                (Form::Unit, ..) => self.add(Node::Struct(Vec::new(self.alloc)), Names::Empty),
+                _ => {
+                    let (node, names) = self.group(fields, depth);
+                    self.add(node, names)
+                }
+            };
+            self.words.push(&mut places, place);
+            let name = self.text_of(self.tokens.text(*name));
             self.words.push(&mut names, name);
         }
-        (Node::Enum(payloads), Names::Variants(names))
-    }
-
-    /// The place of what a variant holds: of one field without a name its type, else a struct.
-    fn payload(&mut self, fields: &Fields, depth: u32) -> usize {
-        if let (Form::Tuple, [only], 1) = (fields.form, fields.items.as_slice(), fields.count) {
-            return self.field(only, depth);
-        }
-        match self.group(fields, depth) {
-            (node, Names::Unit) => self.add(node, Names::Empty),
-            (node, names) => self.add(node, names),
-        }
+        (Node::Enum(places), Names::Variants(names))
     }
 
     /// The place of the type of a field, whose bytes an attribute may lay out.
     fn field(&mut self, field: &Field, depth: u32) -> usize {
         self.words.is_wrong = false;
         self.words.field = Some((field.place, field.name));
-        let place = self.whole(field.of, self.at, depth);
+        let place = self.place(field.of, self.at, depth);
         if self.words.is_wrong {
             return NOWHERE;
         }

@@ -1,9 +1,9 @@
 //! The places of types, by their words.
-use super::{Builder, Context, DEEPEST, Given, NOWHERE};
+use super::containers::NO_ARGUMENTS;
+use super::{Builder, Context, DEEPEST, Given, Made, NOWHERE};
 use crate::Names;
-use crate::known::{KnownForm, form_of, is_known, plain_node, sent_as};
+use crate::known::{FormRow, KnownForm, form_of, is_known, plain_node, sent_as};
 use crate::names::{Found, Path, Space, What};
-use declaration_parser::declaration::Declaration;
 use declaration_parser::faults::Faults;
 use declaration_parser::texts::{common, is_listed};
 use declaration_parser::tokens::{NO_NAME, Name, Tokens, Word, Words, word_of};
@@ -39,6 +39,17 @@ const MORE: &str =
 const BEHIND: &str =
     "` can't stand behind a type: write a known type, or one that is declared and marked";
 
+/// What the words of a type say.
+#[derive(Drop)]
+enum Said {
+    /// The type at this place, or none that is right.
+    Place(usize),
+    /// What other words say there.
+    Other(Words, Context),
+    /// What holds the types and the length in these parts.
+    Formed(FormRow, Vec<Words>),
+}
+
 /// The path at the start of words, its last name, if there is one, and the words after it, as `<u8>` after `Vec::`.
 pub fn path_at(tokens: &Tokens, words: Words) -> (Path, Name, Words) {
     let mut path = Path::default();
@@ -64,109 +75,156 @@ pub fn path_at(tokens: &Tokens, words: Words) -> (Path, Name, Words) {
 }
 
 impl<'a> Builder<'a> {
-    /// The place of the type at the start of the words, which are taken. It may nest in so many words.
-    #[cycle(types)]
-    pub(super) fn place(&mut self, depth: u32) -> usize {
+    /// The place of the type that these words say there, and nothing after it. It may nest in so many words.
+    pub(super) fn place(&mut self, words: Words, at: Context, depth: u32) -> usize {
+        let (before, rest, line) = (self.at, self.words.rest, self.words.line);
+        self.turn_to(at);
+        self.words.rest = words;
+        let mut place = match self.said(depth) {
+            Said::Other(words, at) if depth > 0 => self.place(words, at, depth - 1),
+            Said::Formed(row, parts) if depth > 0 => {
+                let (form, types, length) = row;
+                let mut places = Vec::new(self.alloc);
+                for words in parts.iter().take(types) {
+                    let place = self.place(*words, at, depth - 1);
+                    self.words.push(&mut places, place);
+                }
+                self.formed(row, &parts, places)
+            }
+            Said::Place(place) => place,
+            _ => NOWHERE,
+        };
+        if !self.words.rest.is_empty() {
+            place = self.refuse(self.tokens.first(self.words.rest).name, BEHIND);
+        }
+        self.turn_to(before);
+        self.words.turn_to(rest);
+        self.words.line = line;
+        place
+    }
+
+    /// What the words of a type at the start say, which are taken.
+    fn said(&mut self, depth: u32) -> Said {
         if self.words.is_wrong {
-            return NOWHERE;
+            return Said::Place(NOWHERE);
         }
         if depth == 0 {
             // parameters that grow reach this many times
             self.words.is_wrong = self.is_too_deep;
             self.is_too_deep = true;
-            return self.wrong(&[
+            return Said::Place(self.wrong(&[
                 "types nest more than 64 deep, or hold themselves by aliases: declare a type for a part",
-            ]);
+            ]));
         }
         if self.schema.nodes.len() > MOST_NODES {
-            return self.wrong(&[
+            return Said::Place(self.wrong(&[
                 "the types have more than 100000 parts: read them from fewer files",
-            ]);
+            ]));
         }
         match (self.words.peek(), self.tokens.group(self.words.rest)) {
             (open @ (Word::Paren | Word::Bracket), Some((inside, rest))) => {
                 self.words.rest = rest;
-                self.bracketed(open, inside, depth - 1)
+                self.bracketed(open, inside)
             }
-            (Word::Less, _) => self.wrong(&[
+            (Word::Less, _) => Said::Place(self.wrong(&[
                 "`<..>::` isn't followed here: write the type that it stands for",
-            ]),
+            ])),
             (Word::And, _) => {
                 self.words.step();
                 self.words.take(Word::Lifetime);
                 self.words.take(Word::Mutable);
-                self.place(depth - 1)
+                let words = self.words.rest;
+                self.words.rest = Words::default();
+                Said::Other(words, self.at)
             }
             _ => self.named(depth - 1),
         }
     }
 
-    /// The place of what is in brackets: an array, or what is borrowed as a slice; in parentheses a tuple, or a type.
-    #[cycle(types)]
-    fn bracketed(&mut self, open: Word, inside: Words, depth: u32) -> usize {
+    /// What is in brackets: an array, or what is borrowed as a slice; in parentheses a tuple, or a type.
+    fn bracketed(&mut self, open: Word, inside: Words) -> Said {
         if open == Word::Paren {
             let parts = self.parts(inside, false);
             let form = match parts.len() {
                 1 if self.tokens.last(inside).word != Word::Comma => KnownForm::Inner,
                 _ => KnownForm::Tuple,
             };
-            return self.formed((form, parts.len(), NOWHERE), &parts, depth);
+            return Said::Formed((form, parts.len(), NOWHERE), parts);
         }
         let behind = self.tokens.up_to(inside, &[Word::Semicolon]);
         let row = match behind.is_empty() {
             true => (KnownForm::List, 1, NOWHERE),
             false => (KnownForm::Array, 1, 1),
         };
-        self.formed(row, &[inside.before(behind), behind.behind_first()], depth)
+        let mut parts = Vec::new(self.alloc);
+        self.words.push(&mut parts, inside.before(behind));
+        self.words.push(&mut parts, behind.behind_first());
+        Said::Formed(row, parts)
     }
 
-    /// The place of a type by its name or its path: a parameter, one that the files declare, or one that is known.
-    #[cycle(types)]
-    fn named(&mut self, depth: u32) -> usize {
+    /// What a name or a path says: a parameter, a type that the files declare, or one that is known.
+    fn named(&mut self, depth: u32) -> Said {
         let (path, last, rest) = path_at(self.tokens, self.words.rest);
         let first = self.words.step();
         if first.word != Word::Raw && is_listed(self.tokens.text(first.name), UNSENT) {
-            return self.refuse(first.name, CANNOT_BE_SENT);
+            return Said::Place(self.refuse(first.name, CANNOT_BE_SENT));
         }
         if last == NO_NAME {
-            return self.refuse(first.name, UNDECLARED);
+            return Said::Place(self.refuse(first.name, UNDECLARED));
         }
         self.words.rest = rest;
-        if path.is_empty() {
-            if let Some(it) = self.given(last, false) {
-                return self.whole(it.words, it.at, depth);
-            }
-            if word_of(last) == Word::OwnType {
-                return match self.made.get(self.at.own) {
-                    Some(made) => made.place,
-                    None => self.wrong(&["`Self` stands for no type here: write its name"]),
-                };
-            }
+        if path.is_empty()
+            && let Some(it) = self.given(self.at, last, false)
+        {
+            return Said::Other(it.words, it.at);
         }
-        match self.found(&path, last, Space::Types) {
-            Found::In(What::Marked(index), _) => self.instance(index, depth),
+        if path.is_empty() && word_of(last) == Word::OwnType {
+            return Said::Place(match self.made.get(self.at.own) {
+                Some(made) => made.place,
+                None => self.wrong(&["`Self` stands for no type here: write its name"]),
+            });
+        }
+        match self.found(self.at, &path, last, Space::Types) {
             Found::In(What::Alias(words), scope) => {
                 self.arguments_of(&[], &[]);
                 let own = NOWHERE;
-                self.whole(words, Context { scope, own }, depth)
+                Said::Other(words, Context { scope, own })
             }
-            Found::Known(name) => self.known(name, depth),
-            Found::Wrong(why) => self.refuse(last, why),
-            Found::Two => self.refuse_two(last),
-            Found::Outside => self.wrong(&[
+            Found::Known(name) => self.known(name),
+            Found::In(What::Marked(index), _) => Said::Place(self.instance(index, depth)),
+            Found::Wrong(why) => Said::Place(self.refuse(last, why)),
+            Found::Two => Said::Place(self.refuse_two(last)),
+            Found::Outside => Said::Place(self.wrong(&[
                 "`",
                 self.tokens.text(path.root()),
                 "::..`: write `",
                 self.tokens.text(last),
                 "` alone, and its declaration into this file, or the type that is on the wire",
-            ]),
-            _ => self.unknown(last),
+            ])),
+            _ => Said::Place(self.unknown(last)),
+        }
+    }
+
+    /// What a known type says, with what is in angle brackets after it.
+    fn known(&mut self, name: Name) -> Said {
+        let word = self.tokens.text(name);
+        match (form_of(word), plain_node(word)) {
+            (Some(row), _) if word != "String" || self.words.peek() == Word::Less => {
+                let parts = self.arguments();
+                if parts.len() < row.1 {
+                    self.wrong(&[NO_ARGUMENTS]);
+                }
+                Said::Formed(row, parts)
+            }
+            (_, Some(Node::LE(of))) => Said::Place(self.add(Node::LE(of), Names::Float)),
+            (_, Some(node)) => Said::Place(self.add(node, Names::Nothing)),
+            _ => Said::Place(self.unknown(name)),
         }
     }
 
     /// What a path stands for where it is read.
-    pub(super) fn found(&self, path: &Path, last: Name, space: Space) -> Found {
-        let scope = self.at.scope;
+    pub(super) fn found(&self, at: Context, path: &Path, last: Name, space: Space) -> Found {
+        let scope = at.scope;
         if scope == self.asked && space == Space::Types {
             match self.names.find_asked(path, last) {
                 Found::Not if !path.is_empty() => {}
@@ -182,7 +240,7 @@ impl<'a> Builder<'a> {
             return self.names.find(scope, last, space);
         }
         // what belongs to a parameter isn't known here
-        if !path.is_absolute && self.given(path.root(), false).is_some() {
+        if !path.is_absolute && self.given(at, path.root(), false).is_some() {
             return Found::Outside;
         }
         self.names.find_by_path(scope, path, last, space)
@@ -196,15 +254,11 @@ impl<'a> Builder<'a> {
         self.wrong(&["`", self.tokens.text(name), TWO, paths.as_str()])
     }
 
-    fn refuse_sent(&mut self, word: &str, sent: &str) -> usize {
-        self.wrong(&["`", word, "` is sent as `", sent, "`: write that"])
-    }
-
     /// Refuses a type that isn't known: one that is requested with the nearest, and with all that there are.
     fn unknown(&mut self, name: Name) -> usize {
         let word = self.tokens.text(name);
         if let Some(sent) = sent_as(word) {
-            return self.refuse_sent(word, sent);
+            return self.wrong(&["`", word, "` is sent as `", sent, "`: write that"]);
         }
         for words in &self.names.endpoints {
             if self.tokens.has_name(*words, name) {
@@ -243,8 +297,8 @@ impl<'a> Builder<'a> {
     }
 
     /// What stands for a parameter of this name, which is a length or a type.
-    pub(super) fn given(&self, name: Name, is_length: bool) -> Option<Given> {
-        for it in &self.made.get(self.at.own)?.of {
+    pub(super) fn given(&self, at: Context, name: Name, is_length: bool) -> Option<Given> {
+        for it in &self.made.get(at.own)?.of {
             if it.name == name && it.is_length == is_length {
                 return Some(*it);
             }
@@ -256,7 +310,7 @@ impl<'a> Builder<'a> {
     fn given_by(&self, name: Name, is_length: bool, words: Words) -> Given {
         let mut at = self.at;
         if let Some(own) = self.made.get(at.own)
-            && !self.tokens.has_name(words, self.tokens.found_name("Self"))
+            && !self.tokens.has_word(words, Word::OwnType)
         {
             at.own = NOWHERE;
             for it in &own.of {
@@ -297,8 +351,8 @@ impl<'a> Builder<'a> {
         given
     }
 
-    /// The place of a declared type, with what is in angle brackets after it.
-    fn instance(&mut self, index: usize, depth: u32) -> usize {
+    /// The place of a declared type, with what is in angle brackets after it. It is made later, and until then can't be read.
+    pub(super) fn instance(&mut self, index: usize, depth: u32) -> usize {
         let Some(it) = self.all.get(index) else {
             return NOWHERE;
         };
@@ -306,37 +360,30 @@ impl<'a> Builder<'a> {
         if self.words.is_wrong {
             return NOWHERE;
         }
-        let depth = if of.is_empty() { DEEPEST } else { depth };
-        self.owe_type(index, of, depth)
-    }
-
-    #[cycle(types)]
-    fn known(&mut self, name: Name, depth: u32) -> usize {
-        let word = self.tokens.text(name);
-        match (form_of(word), plain_node(word)) {
-            (Some(row), _) if word != "String" || self.words.peek() == Word::Less => {
-                let parts = self.arguments();
-                self.formed(row, &parts, depth)
+        for made in &self.made {
+            if made.index == index && self.are_same(&made.of, &of) {
+                return made.place;
             }
-            (_, Some(Node::LE(of))) => self.add(Node::LE(of), Names::Float),
-            (_, Some(node)) => self.add(node, Names::Nothing),
-            _ => self.unknown(name),
         }
+        let place = self.add(Node::Option(NOWHERE), Names::Nothing);
+        let depth = if of.is_empty() { DEEPEST } else { depth };
+        let made = Made {
+            index,
+            of,
+            place,
+            depth,
+        };
+        self.words.push(&mut self.made, made);
+        place
     }
 
-    /// The place of the type that these words say, and nothing after it.
-    #[cycle(types)]
-    pub(super) fn whole(&mut self, words: Words, at: Context, depth: u32) -> usize {
-        let (before, rest, line) = (self.at, self.words.rest, self.words.line);
-        self.turn_to(at);
-        self.words.rest = words;
-        let mut place = self.place(depth);
-        if !self.words.rest.is_empty() {
-            place = self.refuse(self.tokens.first(self.words.rest).name, BEHIND);
+    /// Whether the same words stand for parameters.
+    fn are_same(&self, first: &[Given], second: &[Given]) -> bool {
+        for (one, other) in first.iter().zip(second) {
+            if one.at != other.at || !self.tokens.are_same(one.words, other.words) {
+                return false;
+            }
         }
-        self.turn_to(before);
-        self.words.turn_to(rest);
-        self.words.line = line;
-        place
+        true
     }
 }
