@@ -3,16 +3,14 @@ ghost use Rattle.std.specs.Prelude.{IfOk};
 ghost use Rattle.declarations.specs.Tables.{HasItsTypes, NamesItsNodes};
 ghost use Rattle.schema_table.specs.Telling.{NamesTellParts};
 
-mod containers;
-mod fields;
 mod lengths;
 mod types;
 
-use crate::known::NOWHERE;
+use crate::known::{KnownForm, NOWHERE};
 use crate::names::Scopes;
 use crate::{CheckedSources, Error, Named, Names, Schema};
 use declaration_parser::cursor::Cursor;
-use declaration_parser::declaration::{Body, Declaration};
+use declaration_parser::declaration::{Body, Declaration, Field, Fields, Form, Layout, VariantOf};
 use declaration_parser::derives::OF_OTHER_CRATE;
 use declaration_parser::tokens::{DESERIALIZE, NO_NAME, Name, SERIALIZE, Tokens, Words};
 use schema_table::Node;
@@ -74,36 +72,38 @@ pub struct Builder<'a> {
     readable: Vec<bool>,
 }
 
-/// Whether the table has the places of all types in a node, and they can be read.
-fn is_right(node: &Node, readable: &[bool]) -> bool {
-    let parts = match node {
-        Node::Struct(parts) | Node::Enum(parts) => parts.as_slice(),
-        Node::Option(inner)
-        | Node::List(inner)
-        | Node::ListUpTo(_, inner)
-        | Node::Array(_, inner) => slice::from_ref(inner),
-        _ => &[],
-    };
-    for part in parts {
-        if !matches!(readable.get(*part), Some(true)) {
-            return false;
-        }
-    }
-    true
-}
-
 /// Notes that nodes can't be read whose types can't be, from the last node to the first; and whether there were some.
 fn find_unreadable(nodes: &[Node], readable: &mut [bool]) -> bool {
     let mut found = false;
     for (place, node) in nodes.iter().enumerate().rev() {
-        if !is_right(node, readable)
-            && let Some(it) = readable.get_mut(place)
-        {
-            found = found || *it;
-            *it = false;
+        let parts = match node {
+            Node::Struct(parts) | Node::Enum(parts) => parts.as_slice(),
+            Node::Option(inner)
+            | Node::List(inner)
+            | Node::ListUpTo(_, inner)
+            | Node::Array(_, inner) => slice::from_ref(inner),
+            _ => &[],
+        };
+        for part in parts {
+            if !matches!(readable.get(*part), Some(true))
+                && let Some(it) = readable.get_mut(place)
+            {
+                found = found || *it;
+                *it = false;
+            }
         }
     }
     found
+}
+
+/// What a path begins with that names a layout: each has to lead out of the files.
+fn roots_of(layout: Layout) -> &'static [&'static str] {
+    match layout {
+        Layout::Little | Layout::Big => &["postcard"],
+        Layout::Buffer => &["serde_bytes"],
+        Layout::Array => &["BigArray", "serde_big_array", "serde_arrays"],
+        Layout::Own => &[],
+    }
 }
 
 impl<'a> Builder<'a> {
@@ -257,6 +257,81 @@ impl<'a> Builder<'a> {
             Body::Enum(variants) => self.choice(variants, depth),
         };
         self.put(place, node, names);
+    }
+
+    /// A struct of these fields.
+    fn group(&mut self, fields: &Fields, depth: u32) -> (Node, Names) {
+        let mut places = Vec::new(self.alloc);
+        let mut names = Vec::new(self.alloc);
+        for field in &fields.items {
+            let place = self.field(field, depth);
+            self.words.push(&mut places, place);
+            let name = self.text_of(self.tokens.text(field.name));
+            self.words.push(&mut names, name);
+        }
+        let names = match fields.form {
+            Form::Unit => Names::Unit,
+            Form::Tuple if fields.items.len() == 1 && fields.count == 1 => Names::Newtype,
+            Form::Tuple => Names::Tuple,
+            Form::Named => Names::Fields(names),
+        };
+        (Node::Struct(places), names)
+    }
+
+    /// An enum of these variants. One with a field without a name holds its type, any other a struct.
+    fn choice(&mut self, variants: &[VariantOf], depth: u32) -> (Node, Names) {
+        let mut places = Vec::new(self.alloc);
+        let mut names = Vec::new(self.alloc);
+        for VariantOf { name, fields } in variants {
+            self.words.variant = *name;
+            let place = match (fields.form, fields.items.as_slice(), fields.count) {
+                (Form::Tuple, [only], 1) => self.field(only, depth),
+                (Form::Unit, ..) => self.add(Node::Struct(Vec::new(self.alloc)), Names::Empty),
+                _ => {
+                    let (node, names) = self.group(fields, depth);
+                    self.add(node, names)
+                }
+            };
+            self.words.push(&mut places, place);
+            let name = self.text_of(self.tokens.text(*name));
+            self.words.push(&mut names, name);
+        }
+        (Node::Enum(places), Names::Variants(names))
+    }
+
+    /// The place of the type of a field, whose bytes an attribute may lay out.
+    fn field(&mut self, field: &Field, depth: u32) -> usize {
+        self.words.is_wrong = false;
+        self.words.field = Some((field.place, field.name));
+        let place = self.place(field.of, self.at, depth);
+        if self.words.is_wrong {
+            return NOWHERE;
+        }
+        self.words.line = self.tokens.first(field.of).line;
+        let roots = roots_of(field.layout);
+        for root in roots {
+            if !self
+                .names
+                .is_foreign(self.at.scope, self.tokens.found_name(root), roots)
+            {
+                return self.wrong(&[
+                    "`with` names something of these files or of another crate here: write the type that is on the wire",
+                ]);
+            }
+        }
+        match (field.layout, self.schema.nodes.get(place)) {
+            (Layout::Little, _) => self.ordered(KnownForm::Little, field.of, place),
+            (Layout::Big, _) => self.ordered(KnownForm::Big, field.of, place),
+            (Layout::Own, _)
+            | (Layout::Buffer, Some(Node::Bytes))
+            | (Layout::Array, Some(Node::Array(..))) => place,
+            (Layout::Buffer, Some(Node::Option(inner)))
+                if matches!(self.schema.nodes.get(*inner), Some(Node::Bytes)) => place,
+            (Layout::Buffer, _) => self.wrong(&[
+                "`serde_bytes` sends how many bytes there are before them: write `ByteBuf` in its place",
+            ]),
+            _ => self.wrong(&["`with` is of an array here: write the type that is on the wire"]),
+        }
     }
 
     /// Makes the types that are still to be made, and those that these need; then it is known what can be read.

@@ -1,5 +1,6 @@
 //! The types that are known by their words, and their nodes.
 ghost use Rattle.std.specs.Prelude.{IfSome};
+ghost use Rattle.declarations.specs.KnownNodes.{IsNodeOf};
 ghost use Rattle.declarations.specs.TypeWords.{IsWordOf};
 
 pub use declaration_parser::sent::{is_primitive, sent_as};
@@ -89,6 +90,34 @@ pub fn form_of(word: &str) -> Option<FormRow> {
         }
     }
     None
+}
+
+/// The node of a known type, by the places of the types that it holds (of a map, that of its pairs), its length, and its type if
+/// that can be sent as its bytes. Nothing if it has no node of its own.
+pub fn node_of(
+    form: KnownForm,
+    places: Vec<usize>,
+    most: Option<u64>,
+    of: Option<IntegerType>,
+) -> Option<Node>
+    ensures { IfSome result (λ n. IsNodeOf form places.items most of n) }
+{
+    Some(match (form, places.as_slice(), most, of) {
+        (KnownForm::Option, [inner], _, _) => Node::Option(*inner),
+        (KnownForm::List, [inner], None, _) => Node::List(*inner),
+        (KnownForm::Set | KnownForm::Map, [inner], _, _) => Node::List(*inner),
+        (KnownForm::List, [inner], Some(most), _) => Node::ListUpTo(most, *inner),
+        (KnownForm::ListUpTo, [inner], Some(most), _) => Node::ListUpTo(most, *inner),
+        (KnownForm::MapUpTo, [inner], Some(most), _) => Node::ListUpTo(most, *inner),
+        (KnownForm::Array, [inner], Some(count), _) => Node::Array(count, *inner),
+        (KnownForm::Outcome, [_, _], _, _) => Node::Enum(places),
+        (KnownForm::Tuple, _, _, _) => Node::Struct(places),
+        (KnownForm::TextUpTo, _, Some(most), _) => Node::TextUpTo(most),
+        (KnownForm::Bytes, _, _, _) => Node::Bytes,
+        (KnownForm::Little, _, _, Some(of)) => Node::LE(of),
+        (KnownForm::Big, _, _, Some(of)) => Node::BE(of),
+        _ => return None,
+    })
 }
 
 /// Whether every file has this name, unless it declares it or a `use` brings another in.

@@ -8,7 +8,6 @@
 mod builder;
 mod known;
 mod names;
-mod numbers;
 mod read;
 
 pub use read::{

@@ -60,15 +60,16 @@ fn tokens_in(alloc: Global, sources: &[Source]) -> Result<(Tokens, Vec<Name>), A
     Ok((tokens, modules))
 }
 
-/// The table of a type by its words, and its place there; without words of all declared types without parameters.
+/// The table of a type by its words, whose place there is noted; without words of all declared types without parameters.
 fn table_of(
     alloc: Global,
     sources: &[Source],
     words: Option<&str>,
-) -> Result<(CheckedSources, usize), Error>
-    ensures told { IfOk result (λ r. NamesTellParts r.0.schema) }
-    ensures named { IfOk result (λ r. NamesItsNodes r.0.schema) }
-    ensures declared { IfOk result (λ r. HasItsTypes r.0.schema) }
+    place: &mut usize,
+) -> Result<CheckedSources, Error>
+    ensures told { IfOk result (λ made. NamesTellParts made.schema) }
+    ensures named { IfOk result (λ made. NamesItsNodes made.schema) }
+    ensures declared { IfOk result (λ made. HasItsTypes made.schema) }
 {
     let (tokens, modules) = tokens_in(alloc, sources)?;
     let mut tokens = tokens.with_file(alloc, "", words.unwrap_or(""))?;
@@ -80,9 +81,10 @@ fn table_of(
     let mut names = Scopes::new(alloc, &tokens, &modules, walk, &all)?;
     let outside = names.add_outside();
     let mut builder = Builder::new(alloc, &tokens, &all, &names, outside);
-    let place = builder.begin(asked, faults.as_str());
-    Ok((builder.finished()?, place))
+    *place = builder.begin(asked, faults.as_str());
+    builder.finished()
 }
+
 /// Returns one table of the marked declarations of a text: those after a line `// message`, or with `Serialize` or
 /// `Deserialize` among their derives. A type may hold itself.
 ///
@@ -132,8 +134,8 @@ pub fn read_type(alloc: Global, sources: &[Source], words: &str) -> Result<(Sche
     ensures named { IfOk result (λ r. NamesItsNodes r.0) }
     ensures within { IfOk result (λ r. r.1 < length r.0.nodes.items) }
 {
-    let (made, place) = table_of(alloc, sources, Some(words))?;
-    let schema = unless_wrong(made)?;
+    let mut place = 0;
+    let schema = unless_wrong(table_of(alloc, sources, Some(words), &mut place)?)?;
     if place >= schema.nodes.len() {
         return Err(Error::OutOfMemory);
     }
@@ -153,6 +155,5 @@ pub fn check_sources(alloc: Global, sources: &[Source]) -> Result<CheckedSources
     if sources.is_empty() {
         return Err(Error::Wrong(String::from_str(alloc, "no file of declarations is named\n")?));
     }
-    let (made, _) = table_of(alloc, sources, None)?;
-    Ok(made)
+    table_of(alloc, sources, None, &mut 0)
 }

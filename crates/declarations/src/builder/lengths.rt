@@ -3,8 +3,8 @@ use super::types::path_at;
 use super::{Builder, Context, DEEPEST, NOWHERE};
 use crate::known::is_primitive;
 use crate::names::{Found, Path, Space, What};
-use crate::numbers::{Number, completed, literal, number_of, operator_at, width_of};
-use declaration_parser::tokens::{NO_NAME, Name, Word, Words};
+use declaration_parser::texts::first_letter;
+use declaration_parser::tokens::{NO_NAME, Name, Tokens, Word, Words};
 
 /// How many numbers one length may be computed of.
 const MOST_NUMBERS: u32 = 10_000;
@@ -16,12 +16,112 @@ const GREATEST: u64 = 0xFFFF_FFFF;
 const TWO: &str =
     "` is more than one constant: leave out what isn't meant, or write its module before it";
 
-/// What stands before or after an operator.
+/// What the types of numbers have at most, and how many bits they have. A `usize` has 32 bits on most devices.
+const OF_NUMBERS: &[(&str, (u64, u64))] = &[
+    ("u8", (0xFF, 8)),
+    ("u16", (0xFFFF, 16)),
+    ("u32", (0xFFFF_FFFF, 32)),
+    ("u64", (u64::MAX, 64)),
+    ("usize", (0xFFFF_FFFF, 0)),
+    ("i8", (0x7F, 8)),
+    ("i16", (0x7FFF, 16)),
+    ("i32", (0x7FFF_FFFF, 32)),
+];
+
+/// A number, and the greatest value of its type.
 #[derive(Clone, Copy, Drop)]
-enum Operand {
-    Number(Number),
-    /// What these words compute there, if numbers have at most so much which don't say their type; and what its own type has.
-    Words(Words, Context, u64, Option<u64>),
+struct Number {
+    value: u64,
+    most: u64,
+}
+
+/// What waits for its second number: a product, a sum and a shift, by their operators and first numbers.
+type Waiting = [Option<(char, Number)>; 3];
+
+/// What a type of numbers has at most, and how many bits: 0 if devices differ.
+fn width_of(word: &str) -> Option<(u64, u64)> {
+    for (of, width) in OF_NUMBERS {
+        if *of == word {
+            return Some(*width);
+        }
+    }
+    None
+}
+
+/// A number of a type that has at most so much, if it has this one.
+fn number_of(value: u64, most: u64) -> Option<Number> {
+    (value <= most).then_some(Number { value, most })
+}
+
+/// The operator at the start of words, its place among what waits, and the words after it.
+fn operator_at(tokens: &Tokens, words: Words) -> Option<(char, usize, Words)> {
+    let (first, rest) = (tokens.first(words).name, words.behind_first());
+    let is_double = tokens.first(rest).name == first;
+    let operator = first_letter(tokens.text(first))?;
+    match operator {
+        '*' | '/' | '%' => Some((operator, 0, rest)),
+        '+' | '-' => Some((operator, 1, rest)),
+        '<' | '>' if is_double => Some((operator, 2, rest.behind_first())),
+        _ => None,
+    }
+}
+
+/// What a number completes of what waits up to a place.
+fn completed(waiting: &mut Waiting, place: usize, number: Number) -> Option<Number> {
+    let mut number = number;
+    for it in waiting.iter_mut().take(place.saturating_add(1)) {
+        if let Some((operator, first)) = it.take() {
+            number = computed_of(operator, first, number)?;
+        }
+    }
+    Some(number)
+}
+
+/// What an operator makes of two numbers, if their type has that. What a shift is by has a type of its own.
+fn computed_of(operator: char, first: Number, second: Number) -> Option<Number> {
+    let most = match operator {
+        '<' | '>' => first.most,
+        _ => first.most.min(second.most),
+    };
+    let (one, other) = (first.value, second.value);
+    let power = 1u64.checked_shl(u32::try_from(other).unwrap_or(u32::MAX));
+    let value = match operator {
+        '<' => one.checked_mul(power?),
+        '>' => one.checked_div(power?),
+        '+' => one.checked_add(other),
+        '-' => one.checked_sub(other),
+        '*' => one.checked_mul(other),
+        '/' => one.checked_div(other),
+        _ => one.checked_rem(other),
+    };
+    number_of(value?, most)
+}
+
+/// A number by its digits, as Rust writes it. It has at most so much, unless the type follows.
+fn literal(word: &str, most: u64) -> Option<Number> {
+    // a name may begin with `_`
+    first_letter(word)?.to_digit(10)?;
+    let (radix, front) = match word.get(..2) {
+        Some("0x") => (16, 2),
+        Some("0b") => (2, 2),
+        Some("0o") => (8, 2),
+        _ => (10, 0),
+    };
+    let mut length = front;
+    let mut number: Option<u64> = None;
+    for character in word.get(front..)?.chars() {
+        if let Some(digit) = character.to_digit(radix) {
+            let before = number.unwrap_or(0).checked_mul(u64::from(radix))?;
+            number = Some(before.checked_add(u64::from(digit))?);
+        } else if character != '_' {
+            break;
+        }
+        length = length.saturating_add(1);
+    }
+    match word.get(length..)? {
+        "" => number_of(number?, most),
+        suffix => number_of(number?, width_of(suffix)?.0),
+    }
 }
 
 impl Builder<'_> {
@@ -51,77 +151,78 @@ impl Builder<'_> {
     /// The number that all these words compute there, if numbers have at most so much which don't say their type.
     #[cycle(lengths)]
     fn value(&mut self, words: Words, at: Context, most: u64, depth: u32) -> Option<Number> {
-        let depth = depth.checked_sub(1)?;
         let (mut rest, mut number) = (words, None);
         let mut waiting = [None; 3];
         for _ in words.from..words.to {
-            let first = self.tokens.front(rest);
-            number = match number {
-                _ if rest.is_empty() => break,
-                None => {
-                    let (operand, behind) = self.operand(rest, at, most)?;
-                    rest = behind;
-                    match operand {
-                        Operand::Number(it) => Some(it),
-                        Operand::Words(words, at, most, own) => {
-                            let it = self.value(words, at, most, depth)?;
-                            Some(number_of(it.value, own.unwrap_or(it.most))?)
-                        }
-                    }
-                }
-                Some(it) if first == Word::As => {
-                    let of = self.tokens.first(rest.behind_first()).name;
-                    rest = rest.behind_first().behind_first();
-                    Some(number_of(it.value, self.width(of)?.0)?)
-                }
-                Some(it) => {
-                    let (operator, place, behind) = operator_at(self.tokens, rest)?;
-                    let it = completed(&mut waiting, place, it)?;
-                    if let Some(first) = waiting.get_mut(place) {
-                        *first = Some((operator, it));
-                    }
-                    rest = behind;
-                    None
-                }
+            if rest.is_empty() {
+                break;
+            }
+            let Some(it) = number else {
+                let (it, behind) = self.operand(rest, at, most, depth)?;
+                (number, rest) = (Some(it), behind);
+                continue;
             };
+            if self.tokens.front(rest) == Word::As {
+                let of = rest.behind_first();
+                number = number_of(it.value, self.width(self.tokens.first(of).name)?.0);
+                rest = of.behind_first();
+                continue;
+            }
+            let (operator, place, behind) = operator_at(self.tokens, rest)?;
+            let it = completed(&mut waiting, place, it)?;
+            if let Some(first) = waiting.get_mut(place) {
+                *first = Some((operator, it));
+            }
+            (number, rest) = (None, behind);
         }
         completed(&mut waiting, 2, number?)
     }
 
-    /// What is at the start of words, a number or the words that it is computed of, and what follows it.
-    fn operand(&mut self, words: Words, at: Context, most: u64) -> Option<(Operand, Words)> {
+    /// The number at the start, of digits, by a name, or in marks, and the words after it.
+    #[cycle(lengths)]
+    fn operand(
+        &mut self,
+        words: Words,
+        at: Context,
+        most: u64,
+        depth: u32,
+    ) -> Option<(Number, Words)> {
         self.left = self.left.checked_sub(1)?;
-        if self.tokens.front(words) != Word::Bracket
-            && let Some((inside, rest)) = self.tokens.group(words)
+        let depth = depth.checked_sub(1)?;
+        if let Some((inside, rest)) = self.tokens.group(words)
+            && self.tokens.front(words) != Word::Bracket
         {
-            return Some((Operand::Words(inside, at, most, None), rest));
+            return Some((self.value(inside, at, most, depth)?, rest));
         }
         if let Some(number) = literal(self.tokens.first_text(words), most) {
-            return Some((Operand::Number(number), words.behind_first()));
+            return Some((number, words.behind_first()));
         }
         let (path, last, rest) = path_at(self.tokens, words);
+        let before = path.before();
+        if is_primitive(self.tokens.text(before)) && !self.names.has_module(before) {
+            return Some((self.of_language(at, &path, last)?, rest));
+        }
+        let (words, at, most) = self.constant(at, &path, last)?;
+        let number = self.value(words, at, most, depth)?;
+        Some((number_of(number.value, most)?, rest))
+    }
+
+    /// The words of the parameter or the constant of a name, where they are, and what its type has at most.
+    fn constant(&mut self, at: Context, path: &Path, last: Name) -> Option<(Words, Context, u64)> {
         if path.is_empty()
             && let Some(it) = self.given(at, last, true)
         {
-            return Some((Operand::Words(it.words, it.at, GREATEST, Some(most)), rest));
+            return Some((it.words, it.at, GREATEST));
         }
-        let before = path.before();
-        if is_primitive(self.tokens.text(before)) && !self.names.has_module(before) {
-            let number = self.of_language(at, &path, last)?;
-            return Some((Operand::Number(number), rest));
-        }
-        match self.found(at, &path, last, Space::Constants) {
-            Found::In(What::Constant(of, value), scope) => {
+        match self.found(at, path, last, Space::Constants) {
+            Found::In(What::Constant(of, words), scope) => {
                 // one of a type that isn't known has at most what all types have
                 let most = match self.width(self.tokens.first(of).name) {
                     Some((most, _)) if of.len() == 1 => most,
                     _ => 0x7F,
                 };
                 let own = NOWHERE;
-                return Some((
-                    Operand::Words(value, Context { scope, own }, most, Some(most)),
-                    rest,
-                ));
+                return Some((words, Context { scope, own }, most));
             }
             Found::Wrong(why) => self.doubt = (last, why),
             Found::Two => self.doubt = (last, TWO),
