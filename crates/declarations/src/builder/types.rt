@@ -90,7 +90,7 @@ impl<'a> Builder<'a> {
         let mut place = match self.said(depth) {
             Said::Other(words, at) if depth > 0 => self.place(words, at, depth - 1),
             Said::Formed(row, parts) if depth > 0 => {
-                let (form, types, length) = row;
+                let (_, types, _) = row;
                 let mut places = Vec::new(self.alloc);
                 for words in parts.iter().take(types) {
                     let place = self.place(*words, at, depth - 1);
@@ -217,8 +217,9 @@ impl<'a> Builder<'a> {
         let word = self.tokens.text(name);
         match (form_of(word), plain_node(word)) {
             (Some(row), _) if word != "String" || self.words.peek() == Word::Less => {
+                let (_, types, _) = row;
                 let parts = self.arguments();
-                if parts.len() < row.1 {
+                if parts.len() < types {
                     self.wrong(&[NO_ARGUMENTS]);
                 }
                 Said::Formed(row, parts)
@@ -261,11 +262,15 @@ impl<'a> Builder<'a> {
         self.wrong(&["`", self.tokens.text(name), TWO, paths.as_str()])
     }
 
+    fn refuse_sent(&mut self, word: &str, sent: &str) -> usize {
+        self.wrong(&["`", word, "` is sent as `", sent, "`: write that"])
+    }
+
     /// Refuses a type that isn't known: one that is requested with the nearest, and with all that there are.
     fn unknown(&mut self, name: Name) -> usize {
         let word = self.tokens.text(name);
         if let Some(sent) = sent_as(word) {
-            return self.wrong(&["`", word, "` is sent as `", sent, "`: write that"]);
+            return self.refuse_sent(word, sent);
         }
         for words in &self.names.endpoints {
             if self.tokens.has_name(*words, name) {
@@ -434,14 +439,16 @@ impl<'a> Builder<'a> {
         if self.words.is_wrong {
             return NOWHERE;
         }
-        let words = parts.first().copied().unwrap_or_default();
-        match (form, places.as_slice()) {
-            (KnownForm::Inner, [inner]) => *inner,
-            (KnownForm::Little | KnownForm::Big, [inner]) => self.ordered(form, words, *inner),
-            (KnownForm::List, [inner]) if most.is_none() && self.is_byte(words, *inner) => {
+        match (form, parts, places.as_slice()) {
+            (KnownForm::Inner, _, [inner]) => *inner,
+            (KnownForm::Little | KnownForm::Big, [words, ..], [inner]) => {
+                self.ordered(form, *words, *inner)
+            }
+            (KnownForm::List, [words, ..], [inner])
+                if most.is_none() && self.is_byte(*words, *inner) => {
                 self.holding(KnownForm::Bytes, places, None)
             }
-            (KnownForm::Map | KnownForm::MapUpTo, _) => {
+            (KnownForm::Map | KnownForm::MapUpTo, ..) => {
                 let pair = self.holding(KnownForm::Tuple, places, None);
                 let mut pairs = Vec::new(self.alloc);
                 self.words.push(&mut pairs, pair);
@@ -474,7 +481,14 @@ impl<'a> Builder<'a> {
     fn holding(&mut self, form: KnownForm, places: Vec<usize>, most: Option<u64>) -> usize {
         let names = match form {
             KnownForm::Map | KnownForm::MapUpTo => Names::Map,
-            KnownForm::Outcome => self.outcome(),
+            KnownForm::Outcome => {
+                let mut names = Vec::new(self.alloc);
+                for name in ["Ok", "Err"] {
+                    let name = self.text_of(name);
+                    self.words.push(&mut names, name);
+                }
+                Names::Variants(names)
+            }
             KnownForm::Tuple if places.is_empty() => Names::Unit,
             KnownForm::Tuple => Names::Tuple,
             _ => Names::Nothing,
@@ -483,15 +497,5 @@ impl<'a> Builder<'a> {
             Some(node) => self.add(node, names),
             None => self.wrong(&[NO_ARGUMENTS]),
         }
-    }
-
-    /// What the variants of a `Result` are called by.
-    fn outcome(&mut self) -> Names {
-        let mut names = Vec::new(self.alloc);
-        for name in ["Ok", "Err"] {
-            let name = self.text_of(name);
-            self.words.push(&mut names, name);
-        }
-        Names::Variants(names)
     }
 }
