@@ -11,8 +11,8 @@ mod refusals;
 mod scope;
 mod text;
 
-use crate::printer::implementations;
 use crate::scope::{Origins, spell_raw};
+use crate::text::Text;
 use declaration_parser::faults::Faults;
 use declaration_parser::parser::Purpose;
 use declaration_parser::reading::{AllDeclared, declarations};
@@ -65,14 +65,17 @@ fn run(
     let mut tokens = Tokens::new(alloc)?.with_file(alloc, "", text.as_str())?;
     let AllDeclared { all, faults, .. } = declarations(alloc, Purpose::Implementations, &tokens)?;
     spell_raw(alloc, &mut tokens)?;
-    let mut scope = Origins::of(alloc, &tokens)?;
-    scope.add_uses(alloc, &all)?;
-    let refused = scope.refused(alloc, &all)?;
+    let origins = Origins::of(alloc, &tokens)?;
+    let mut implementations = Text::new(alloc, &origins, path);
+    for it in &all {
+        implementations.put_declaration(it, with_schemas);
+    }
+    let refused = implementations.refused(alloc, &all)?;
     if !faults.is_empty() || !refused.is_empty() {
         let said = eprint!(rt; "{faults}{refused}");
         return Ok(if said.is_ok() { 1 } else { 3 });
     }
-    let text = implementations(alloc, &scope, path, with_schemas, &all)?;
+    let text = implementations.finished(alloc)?;
     *device = "standard output";
     print!(rt; "{text}")?;
     Ok(0)

@@ -1,9 +1,9 @@
 //! From declarations to implementations, which `rt fmt` lays out.
-use crate::scope::Origins;
 use crate::text::{Text, is_fixed};
 use declaration_parser::declaration::{Body, Declaration, VariantOf};
+use declaration_parser::faults::Faults;
 use declaration_parser::texts::is_listed;
-use declaration_parser::tokens::Name;
+use declaration_parser::tokens::NO_NAME;
 use std::alloc::{AllocError, Global};
 use std::collections::BTreeSet;
 
@@ -119,14 +119,14 @@ impl Text<'_> {
     /// their bounds, and types with this one too; the bounds after `where`; the path of the module's definitions; what its fields
     /// have for it, or what closes its variants. Another stands for itself.
     fn put_of_all(&mut self, it: &Declaration, word: &str) {
-        let fours = self.count.saturating_sub(1) / 4;
+        let fours = self.fours();
         let singles = self.count.saturating_sub(fours.saturating_mul(3));
         match (word, &it.body) {
             ("name", _) => self.put_name(it.name),
             ("path", _) => self.put(self.path),
             ("where", _) => {
                 self.put(if it.bounds.is_empty() { "" } else { " where " });
-                self.put_words(it.bounds);
+                self.put_words(it, it.bounds, NO_NAME);
             }
             ("names" | "alias" | "plain" | "Readable" | "Serialize", _) => self.put_parameters(
                 it, word,
@@ -135,15 +135,20 @@ impl Text<'_> {
             ("singles", _) => self.put(if self.count % 4 == 1 { "" } else { SINGLES }),
             ("closes", _) => self.put_times(singles, ">"),
             ("matched", _) => self.put_times(fours, "},\n"),
-            (_, Body::Struct(fields)) => self.put_of_fields(it.name, fields, word),
+            (_, Body::Struct(fields)) => self.put_of_fields(it, it.name, fields, word),
             _ => self.put(word),
         }
     }
 
-    /// Appends what a word stands for in a variant of an enum of this name: of its shape, which is behind so many fours and then
-    /// single ones, the type and the constructor that hold it, or the word as often as it is behind others.
-    fn put_of_variant(&mut self, name: Name, index: usize, variant: &VariantOf, word: &str) {
-        let all_fours = self.count.saturating_sub(1) / 4;
+    /// How many fours of variants there are before those that are one by one.
+    fn fours(&self) -> usize {
+        self.count.saturating_sub(1) / 4
+    }
+
+    /// Appends what a word stands for in a variant of an enum: of its shape, which is behind so many fours and then single ones, the
+    /// type and the constructor that hold it, or the word as often as it is behind others.
+    fn put_of_variant(&mut self, it: &Declaration, index: usize, variant: &VariantOf, word: &str) {
+        let all_fours = self.fours();
         let fours = all_fours.min(index / 4);
         let ones = index.saturating_sub(all_fours.saturating_mul(4));
         let (holder, by) = match index % 4 {
@@ -154,17 +159,16 @@ impl Text<'_> {
             2 => ("Variants4", "V2"),
             _ => ("Variants4", "V3"),
         };
-        let own = self.tokens.text(variant.name);
-        let fields = variant.fields.items.as_slice();
+        let own = self.origins.tokens.text(variant.name);
         match word {
             "before" => self.put_before(index, ""),
-            "name" => self.put_name(name),
+            "name" => self.put_name(it.name),
             "variant" => self.put(own),
             // the constructors of shapes have these names
             "as" | "The" if !is_listed(own, "V0 V1 V2 V3 More This Other Last") => {}
-            "as" => self.put_both(" as The", own),
+            "as" => self.made.put_all(&[" as The", own]),
             "opens" if is_listed(by, "V1 V2 V3") => {}
-            "opens" => self.put_both(holder, "<"),
+            "opens" => self.made.put_all(&[holder, "<"]),
             "holder" => self.put(holder),
             "by" => self.put(by),
             "More (" => self.put_times(fours, word),
@@ -174,91 +178,89 @@ impl Text<'_> {
             "next" if index == 0 || index % 4 > 0 => {}
             "next" => self.put("Variants4::More(it) => match it {\n"),
             "binders" => {
-                for field in fields {
+                for field in &variant.fields.items {
                     self.put_numbered(" x", field.place);
                 }
             }
-            "kind" => self.put(if fields.is_empty() { "unit" } else { "newtype" }),
             "index" => self.put_numbered("", index),
-            "and" => self.put(match fields {
-                [] => "",
-                [field] if !is_fixed(field) => ", ",
+            "kind" | "and" => self.put(match (word, variant.fields.items.as_slice()) {
+                ("kind", []) => "unit",
+                ("kind", _) => "newtype",
+                (_, []) => "",
+                (_, [field]) if !is_fixed(field) => ", ",
                 _ => ", &",
             }),
-            _ => self.put_of_fields(variant.name, &variant.fields, word),
+            _ => self.put_of_fields(it, variant.name, &variant.fields, word),
         }
     }
 
-    /// Appends a part of a template, which may be a row for each variant.
-    fn put_part(&mut self, it: &Declaration, part: &str, is_row: bool) {
-        let variants = match &it.body {
-            Body::Enum(variants) => variants.as_slice(),
-            Body::Struct(_) => &[],
-        };
-        self.count = variants.len();
-        if !is_row {
-            for piece in part.split('%') {
-                self.put_of_all(it, piece);
-            }
-            return;
-        }
-        for (index, variant) in variants.iter().enumerate() {
-            for piece in part.split('%') {
-                self.put_of_variant(it.name, index, variant, piece);
+    /// Appends the pieces of a part of a template, which may be a row for a variant.
+    fn put_part(&mut self, it: &Declaration, part: &str, row: Option<(usize, &VariantOf)>) {
+        for piece in part.split('%') {
+            match row {
+                Some((index, variant)) => self.put_of_variant(it, index, variant, piece),
+                None => self.put_of_all(it, piece),
             }
         }
     }
 
-    fn put_declaration(&mut self, it: &Declaration, with_schemas: bool) {
-        let (shape, sent) = match &it.body {
-            Body::Enum(_) => (VARIANTS, MATCHING),
-            Body::Struct(fields) if fields.items.len() > 1 => (SEVERAL, SENDING),
-            Body::Struct(_) => (ALONE, SENDING),
-        };
-        let sent = if it.marks.written { sent } else { "" };
-        let schema = if it.marks.read && with_schemas {
-            SCHEMA
-        } else {
-            ""
-        };
-        for template in [shape, OF_ITS_SHAPE, sent, schema] {
-            for (place, part) in template.split('@').enumerate() {
-                self.put_part(it, part, place % 2 > 0);
+    fn put_template(&mut self, it: &Declaration, template: &str) {
+        for (place, part) in template.split('@').enumerate() {
+            match &it.body {
+                Body::Enum(variants) if place % 2 > 0 => {
+                    for (index, variant) in variants.iter().enumerate() {
+                        self.put_part(it, part, Some((index, variant)));
+                    }
+                }
+                _ => self.put_part(it, part, None),
             }
         }
     }
-}
 
-/// Returns the implementations of these declarations, with the schemas of those that are read or without. `path` is that of the
-/// definitions of the module that they are in, whose names these are.
-pub fn implementations(
-    alloc: Global,
-    scope: &Origins,
-    path: &str,
-    with_schemas: bool,
-    all: &[Declaration],
-) -> Result<String, AllocError> {
-    let mut text = Text::new(alloc, scope.tokens, path);
-    for it in all {
-        text.put_declaration(it, with_schemas);
+    /// Appends the implementations of a declaration, with its schema if it is read, or without.
+    pub fn put_declaration(&mut self, it: &Declaration, with_schemas: bool) {
+        self.made.note(self.uses.push((NO_NAME, it.name)).is_err());
+        let (count, shape, sent) = match &it.body {
+            Body::Enum(variants) => (variants.len(), VARIANTS, MATCHING),
+            Body::Struct(fields) if fields.items.len() > 1 => (0, SEVERAL, SENDING),
+            Body::Struct(_) => (0, ALONE, SENDING),
+        };
+        self.count = count;
+        self.put_template(it, shape);
+        self.put_template(it, OF_ITS_SHAPE);
+        if it.marks.written {
+            self.put_template(it, sent);
+        }
+        if it.marks.read && with_schemas {
+            self.put_template(it, SCHEMA);
+        }
     }
-    let written = text.made.finished()?;
-    let mut names = BTreeSet::new(alloc);
-    for (_, name) in &scope.uses {
-        names.insert(scope.tokens.text(*name))?;
+
+    /// The text, after what it brings in.
+    pub fn finished(self, alloc: Global) -> Result<String, AllocError> {
+        let tokens = self.origins.tokens;
+        let written = self.made.finished()?;
+        let mut names = BTreeSet::new(alloc);
+        for (_, name) in &self.uses {
+            names.insert(tokens.text(*name))?;
+        }
+        let mut whole = Faults::new(alloc);
+        let in_tables = written.contains("{ as_its_shape }");
+        whole.put_all(&[
+            HEAD,
+            if in_tables { OF_TABLES } else { "" },
+            LEMMAS,
+            "use super",
+        ]);
+        for (place, name) in names.iter().enumerate() {
+            whole.put(if place > 0 { ", " } else { "::{" });
+            whole.put(name);
+        }
+        whole.put("};\n");
+        for (sign, piece) in LIBRARIES {
+            whole.put(if written.contains(*sign) { *piece } else { "" });
+        }
+        whole.put(written.as_str());
+        whole.finished()
     }
-    let mut whole = Text::new(alloc, scope.tokens, path);
-    let in_tables = written.contains("{ as_its_shape }");
-    whole.put_both(HEAD, if in_tables { OF_TABLES } else { "" });
-    whole.put_both(LEMMAS, "use super");
-    for (place, name) in names.iter().enumerate() {
-        whole.put_before(place, "::{");
-        whole.put(name);
-    }
-    whole.put("};\n");
-    for (sign, piece) in LIBRARIES {
-        whole.put(if written.contains(*sign) { *piece } else { "" });
-    }
-    whole.put(written.as_str());
-    whole.made.finished()
 }

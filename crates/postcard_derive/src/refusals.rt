@@ -1,11 +1,12 @@
 //! What can't be implemented of declarations, a line each. Why a thing can't be is a text, which is empty if it can.
-use crate::scope::{Origins, PathWord, is_capital, is_of_crate, is_wordy, rows_of};
+use crate::scope::{Origins, are_at, is_capital, is_cased, is_wordy, path_word};
+use crate::text::Text;
 use declaration_parser::cursor::Cursor;
-use declaration_parser::declaration::{Declaration, Field, Layout};
+use declaration_parser::declaration::{Body, Declaration, Field, Fields, Layout};
 use declaration_parser::derives::OF_OTHER_CRATE;
 use declaration_parser::sent::{is_primitive, sent_as};
 use declaration_parser::texts::{first_letter, is_listed, row_of};
-use declaration_parser::tokens::{DESERIALIZE, NO_NAME, Name, SERIALIZE, Words};
+use declaration_parser::tokens::{DESERIALIZE, NO_NAME, Name, SERIALIZE, Word, Words};
 use std::alloc::{AllocError, Global};
 
 // Why a type can't be in a message: what begins with a backtick follows its name, else it is what to write.
@@ -54,17 +55,15 @@ fn refuse(at: &mut Cursor, word: Name, why: &str) {
 impl Origins<'_> {
     /// Why a field can't be sent as its attribute says, whose crate the file may hide by a name of its own.
     fn layout_refusal(&self, field: &Field) -> &'static str {
-        let mut word = PathWord::before(field.of);
-        let first = word.next(self.tokens);
-        let is_alone = word.next(self.tokens).is_empty();
-        let fixed = is_listed(first, "u16 u32 u64 u128 i16 i32 i64 i128") || is_capital(first);
-        let is_lent = first == "&" && word.precedes(self.tokens, &["[", "u8", "]"]);
+        let (tokens, of) = (self.tokens, field.of);
+        let first = tokens.first_text(of);
+        let is_integer = is_listed(first, "u16 u32 u64 u128 i16 i32 i64 i128") || is_capital(first);
         // with or without colons before the bracket
-        let is_bytes = is_lent
-            || self.ends_in_bytes(field.of, 4)
-            || self.ends_in_bytes(field.of, 6);
+        let is_bytes = are_at(tokens, of.to.saturating_sub(4), "Vec < u8 >")
+            || are_at(tokens, of.to.saturating_sub(6), "Vec : : < u8 >")
+            || (first == "&" && are_at(tokens, of.from.saturating_add(2), "[ u8 ]"));
         match field.layout {
-            Layout::Little | Layout::Big if !is_alone || !fixed =>
+            Layout::Little | Layout::Big if of.len() > 1 || !is_integer =>
                 "` can't be sent as its bytes: `postcard::fixint` has integers of 16 to 128 bits; write the type that is on the wire",
             Layout::Little | Layout::Big if self.hides("postcard") =>
                 "` is sent by `postcard::fixint`, but this file has another `postcard`: call that otherwise",
@@ -80,53 +79,38 @@ impl Origins<'_> {
         }
     }
 
-    /// Whether the last of these words, as many as this says, are a list of bytes.
-    fn ends_in_bytes(&self, of: Words, count: usize) -> bool {
-        let from = of.to.saturating_sub(count).max(of.from);
-        PathWord::before(Words { from, ..of }).precedes(self.tokens, &["Vec", "<", "u8"])
-    }
-
-    /// Why a reference can't be there.
-    fn reference_refusal(&self, it: &Declaration, mut word: PathWord) -> &'static str {
+    /// Why the word at a place, in a path with this first word, can't be in a type.
+    fn refusal(&self, it: &Declaration, place: usize, head: Name) -> &'static str {
         let tokens = self.tokens;
-        let lifetime = word.next(tokens);
-        let is_lent = word.precedes(tokens, &["str"]) || word.precedes(tokens, &["[", "u8", "]"]);
-        match lifetime.starts_with('\'') && !lifetime.ends_with('\'') {
-            false => "` is a reference without a lifetime: write one of the type, as `&'a str`",
-            true if it.marks.read && !is_lent =>
+        let word = path_word(tokens, place);
+        let (name, from) = (tokens.text(word.name), tokens.text(self.origin(head)));
+        let head = tokens.text(head);
+        let is_alone = !word.is_led && !word.leads;
+        let behind = place.saturating_add(2);
+        match name {
+            "Self" => HOLDS_ITSELF,
+            "!" | "?" => NO_TYPE,
+            "f32" => "` is no message: take `LE<u32>` of its bits",
+            "f64" => "` is no message: take `LE<u64>` of its bits",
+            "&" if tokens.at(place.saturating_add(1)).word != Word::Lifetime =>
+                "` is a reference without a lifetime: write one of the type, as `&'a str`",
+            "&"
+                if it.marks.read
+                    && !are_at(tokens, behind, "str")
+                    && !are_at(tokens, behind, "[ u8 ]") =>
                 "` can't be read: `&'a str` and `&'a [u8]` alone are lent; write `Vec` for a list, or the type itself",
-            true => "",
-        }
-    }
-
-    /// Why a name can't be a type's, or in a path to one.
-    fn name_refusal(&self, it: &Declaration, word: PathWord) -> &'static str {
-        let (name, head) = (self.tokens.text(word.name), self.tokens.text(word.head));
-        let from = self.tokens.text(self.origin(word.head));
-        let is_known = from == "std" || is_listed(head, "alloc core heapless std");
-        match (word.is_led, word.leads) {
-            (false, false) if it.parameters.contains(&word.name) || is_primitive(name) => "",
-            (false, false) if !is_capital(name) => NO_TYPE,
+            _ if !is_cased(name) => "",
+            _ if is_alone && (it.parameters.contains(&word.name) || is_primitive(name)) => "",
+            _ if is_alone && !is_capital(name) => NO_TYPE,
             _ if !is_wordy(head) =>
                 "` stands behind `::`, with which no path begins in Rattle: leave that out",
-            (false, false) if is_listed(from, "crate self super") => "",
-            (false, false) => no_message(from, name),
+            _ if is_alone && is_listed(from, "crate self super") => "",
+            _ if is_alone => no_message(from, name),
             _ if is_capital(head) => "` leads to a type of its own: write that type itself",
-            (true, false) if is_known => no_message(head, name),
-            _ => "",
-        }
-    }
-
-    /// Why a word can't be in a type.
-    fn refusal(&self, it: &Declaration, word: PathWord) -> &'static str {
-        let text = self.tokens.text(word.name);
-        match (text, first_letter(text)) {
-            ("Self", _) => HOLDS_ITSELF,
-            ("!" | "?", _) => NO_TYPE,
-            ("f32", _) => "` is no message: take `LE<u32>` of its bits",
-            ("f64", _) => "` is no message: take `LE<u64>` of its bits",
-            ("&", _) => self.reference_refusal(it, word),
-            (_, Some(c)) if c.is_lowercase() || c.is_uppercase() => self.name_refusal(it, word),
+            _ if word.leads => "",
+            _ if from == "std" || is_listed(head, "alloc core heapless std") => no_message(
+                head, name,
+            ),
             _ => "",
         }
     }
@@ -134,42 +118,81 @@ impl Origins<'_> {
     /// Says what is first wrong with a field.
     fn judge(&self, at: &mut Cursor, it: &Declaration, field: &Field) {
         let mut why = self.layout_refusal(field);
-        let mut word = PathWord::before(field.of);
-        for _ in 0..field.of.len() {
-            word.next(self.tokens);
+        let mut head = NO_NAME;
+        for place in field.of.from..field.of.to {
+            let token = self.tokens.at(place);
+            if token.word == Word::Colon {
+                continue;
+            }
+            if !are_at(self.tokens, place.saturating_sub(2), ": :") {
+                head = token.name;
+            }
             if why.is_empty() {
-                why = self.refusal(it, word);
+                why = self.refusal(it, place, head);
             }
             if !why.is_empty() {
-                at.line = word.line;
-                return refuse(at, word.name, why);
+                at.line = token.line;
+                return refuse(at, token.name, why);
             }
         }
     }
 
-    /// What can't be implemented of these declarations, a line each; nothing if all can.
+    /// Says what is wrong with fields, which may be a variant's.
+    fn judge_all(&self, at: &mut Cursor, it: &Declaration, variant: Name, fields: &Fields) {
+        at.variant = variant;
+        for field in &fields.items {
+            at.field = Some((field.place, field.name));
+            self.judge(at, it, field);
+        }
+    }
+}
+
+impl Text<'_> {
+    /// Whether a type of this name holds itself, also by way of others.
+    fn holds_itself(&self, alloc: Global, at: &mut Cursor, name: Name) -> bool {
+        let mut held = Vec::new(alloc);
+        let mut by = name;
+        for place in 0..=self.uses.len() {
+            for (holder, of) in &self.uses {
+                if *holder == by && !held.contains(of) {
+                    at.push(&mut held, *of);
+                }
+            }
+            match held.get(place) {
+                Some(next) => by = *next,
+                None => break,
+            }
+        }
+        held.contains(&name)
+    }
+
+    /// What can't be implemented of these declarations, which are in the text, a line each; nothing if all can.
     pub fn refused(&self, alloc: Global, all: &[Declaration]) -> Result<String, AllocError> {
-        let mut at = Cursor::new(alloc, self.tokens, 0, Words::default());
+        let origins = self.origins;
+        let mut at = Cursor::new(alloc, origins.tokens, 0, Words::default());
         for it in all {
             if !it.wrong.is_empty() {
                 at.faults.put(it.wrong.as_str());
                 continue;
             }
             at.name = it.name;
-            for (variant, field) in &rows_of(alloc, it)? {
-                at.variant = *variant;
-                at.field = Some((field.place, field.name));
-                self.judge(&mut at, it, field);
+            match &it.body {
+                Body::Struct(fields) => origins.judge_all(&mut at, it, NO_NAME, fields),
+                Body::Enum(variants) => {
+                    for variant in variants {
+                        origins.judge_all(&mut at, it, variant.name, &variant.fields);
+                    }
+                }
             }
             at.variant = NO_NAME;
             at.field = None;
             at.line = it.line;
             for derive in [SERIALIZE, DESERIALIZE] {
-                if it.is_by_use(derive) && self.hides(self.tokens.text(derive)) {
+                if it.is_by_use(derive) && origins.hides(origins.tokens.text(derive)) {
                     refuse(&mut at, derive, OF_OTHER_CRATE);
                 }
             }
-            if self.holds_itself(alloc, it.name)? {
+            if self.holds_itself(alloc, &mut at, it.name) {
                 refuse(&mut at, it.name, HOLDS_ITSELF);
             }
         }

@@ -1,16 +1,12 @@
 //! Texts that are made of pieces: types and bounds as the module below has them, and fields as their places want them.
-use crate::scope::{PathWord, is_wordy};
+use crate::scope::{Origins, is_wordy, path_word};
 use declaration_parser::declaration::{Declaration, Field, Fields, Form, Layout};
 use declaration_parser::faults::Faults;
-use declaration_parser::texts::is_listed;
-use declaration_parser::tokens::{NO_NAME, Name, Tokens, Word, Words};
+use declaration_parser::tokens::{NO_NAME, Name, Word, Words};
 use std::alloc::Global;
 
 /// How many parts a tuple has at most; more are in rows.
 const ROW: usize = 6;
-
-/// The places where fields are a tuple.
-const PLACES: &str = "types seen held sent lent taken rows";
 
 /// How a field is written in a place, how one that is sent as its bytes, and what stands for none. A word between two `%` stands
 /// for what it has: its `type`, its `member`, the name that it is `bound` to, its `place`, and the `way` that sends it; `&` is there
@@ -38,21 +34,24 @@ pub fn is_fixed(field: &Field) -> bool {
 /// A text that is made.
 #[derive(Drop)]
 pub struct Text<'a> {
-    pub tokens: &'a Tokens,
+    pub origins: &'a Origins<'a>,
     /// The path of the definitions of the module that declarations are in.
     pub path: &'a str,
     /// How many variants there are, where a declaration has some.
     pub count: usize,
+    /// Each name that is brought in, behind the type whose fields have it; behind none if bounds have it.
+    pub uses: Vec<(Name, Name)>,
     pub made: Faults,
 }
 
 impl<'a> Text<'a> {
     /// The empty text.
-    pub fn new(alloc: Global, tokens: &'a Tokens, path: &'a str) -> Text<'a> {
+    pub fn new(alloc: Global, origins: &'a Origins<'a>, path: &'a str) -> Text<'a> {
         Text {
-            tokens,
+            origins,
             path,
             count: 0,
+            uses: Vec::new(alloc),
             made: Faults::new(alloc),
         }
     }
@@ -62,15 +61,9 @@ impl<'a> Text<'a> {
         self.made.put(piece);
     }
 
-    /// Appends two pieces.
-    pub fn put_both(&mut self, piece: &str, other: &str) {
-        self.put(piece);
-        self.put(other);
-    }
-
     /// Appends the text of a name.
     pub fn put_name(&mut self, name: Name) {
-        self.made.put(self.tokens.text(name));
+        self.made.put(self.origins.tokens.text(name));
     }
 
     /// Appends what stands before the thing at a place of a list: this before the first, else a comma.
@@ -91,17 +84,16 @@ impl<'a> Text<'a> {
         self.made.put_number(number);
     }
 
-    /// Appends the words of a type or of bounds; one that begins a path which leads from the module above is another here.
-    pub fn put_words(&mut self, words: Words) {
-        let mut word = PathWord::before(words);
+    /// Appends the words of a type or of bounds; one that begins a path which leads from the module above is another here. Notes
+    /// which of them are brought in, for fields of a type of this name.
+    pub fn put_words(&mut self, it: &Declaration, words: Words, by: Name) {
+        let origins = self.origins;
         let mut before = "";
-        for _ in 0..words.len() {
-            let text = word.next(self.tokens);
-            self.put(match is_wordy(before) && is_wordy(text) {
-                _ if word.is_led => "::",
-                true => " ",
-                false => "",
-            });
+        for place in words.from..words.to {
+            let word = path_word(origins.tokens, place);
+            let text = origins.tokens.text(word.name);
+            let is_parted = is_wordy(before) && is_wordy(text);
+            self.put(if is_parted { " " } else { "" });
             self.put(match text {
                 _ if word.is_led || !word.leads => text,
                 "self" => "super",
@@ -110,51 +102,59 @@ impl<'a> Text<'a> {
                 _ => text,
             });
             before = text;
+            if origins.is_brought_in(it, word, by == NO_NAME) {
+                self.made.note(self.uses.push((by, word.name)).is_err());
+            }
         }
     }
 
     /// Appends a parameter without its default: without bounds for an `alias`, else with them and, if it is a type, with this one
     /// too, unless it is `plain`.
-    fn put_parameter(&mut self, words: Words, bound: &str) {
-        let tokens = self.tokens;
+    fn put_parameter(&mut self, it: &Declaration, words: Words, bound: &str) {
+        let tokens = self.origins.tokens;
         let front = tokens.front(words);
         let ends: &[Word] = match bound {
             "alias" if front != Word::Constant => &[Word::Equals, Word::Colon],
             _ => &[Word::Equals],
         };
         let words = words.before(tokens.type_up_to(words, ends));
-        self.put_words(words);
+        self.put_words(it, words, NO_NAME);
         let is_had = tokens.has_name(words, tokens.found_name(bound));
-        match (bound, front) {
-            _ if is_had => {}
-            ("alias" | "plain", _) | (_, Word::Constant | Word::Lifetime) => {}
-            _ if words.len() == 1 => self.put_both(": ", bound),
-            _ if words.len() == 2 => self.put_both(" ", bound),
-            _ => self.put_both(" + ", bound),
-        }
+        let before = match (bound, front) {
+            _ if is_had => return,
+            ("alias" | "plain", _) | (_, Word::Constant | Word::Lifetime) => return,
+            _ if words.len() == 1 => ": ",
+            _ if words.len() == 2 => " ",
+            _ => " + ",
+        };
+        self.put(before);
+        self.put(bound);
     }
 
     /// Appends the parameters of a declaration, each as [`put_parameter`](Text::put_parameter) has it, or their `names`.
     pub fn put_parameters(&mut self, it: &Declaration, bound: &str) {
         let mut rest = it.generics.behind_first();
         for (place, name) in it.parameters.iter().enumerate() {
-            let behind = self.tokens.type_up_to(rest, &[Word::Comma, Word::Greater]);
+            let behind = self
+                .origins
+                .tokens
+                .type_up_to(rest, &[Word::Comma, Word::Greater]);
             self.put_before(place, "<");
             match bound {
                 "names" => self.put_name(*name),
-                _ => self.put_parameter(rest.before(behind), bound),
+                _ => self.put_parameter(it, rest.before(behind), bound),
             }
             rest = behind.behind_first();
         }
         self.put(if it.parameters.is_empty() { "" } else { ">" });
     }
 
-    fn put_field(&mut self, field: &Field, place: &str, is_alone: bool) {
+    fn put_field(&mut self, it: &Declaration, field: &Field, place: &str, is_alone: bool) {
         let [own, fixed, _] = spelling_of(place);
         let pieces = if is_fixed(field) { fixed } else { own };
         for piece in pieces.split('%') {
             match piece {
-                "type" => self.put_words(field.of),
+                "type" => self.put_words(it, field.of, it.name),
                 "way" if field.layout == Layout::Little => self.put("fixint::LE"),
                 "way" => self.put("fixint::BE"),
                 "member" | "bound" if field.name != NO_NAME => self.put_name(field.name),
@@ -168,58 +168,63 @@ impl<'a> Text<'a> {
         }
     }
 
-    fn put_list(&mut self, open: &str, fields: &[Field], place: &str, close: &str) {
+    fn put_list(&mut self, it: &Declaration, fields: &[Field], place: &str, ends: [&str; 2]) {
+        let [open, close] = ends;
         self.put(open);
         for (count, field) in fields.iter().enumerate() {
             self.put_before(count, "");
-            self.put_field(field, place, false);
+            self.put_field(it, field, place, false);
         }
         self.put(close);
     }
 
-    /// Appends a tuple; one field stands for itself, and more than six are in rows, of which the names are for `rows`.
-    fn put_tuple(&mut self, fields: &[Field], place: &str) {
+    /// Appends a tuple; one field stands for itself, and more than six are in rows, of which the names are for `rows`. Those are
+    /// taken `apart`.
+    fn put_tuple(&mut self, it: &Declaration, fields: &[Field], place: &str) {
         match fields {
             [] => return self.put(spelling_of(place)[2]),
-            [field] => return self.put_field(field, place, true),
-            _ if fields.len() <= ROW => return self.put_list("(", fields, place, ")"),
-            _ => self.put("("),
+            [field] => return self.put_field(it, field, place, true),
+            _ if fields.len() <= ROW => return self.put_list(it, fields, place, ["(", ")"]),
+            _ => {}
         }
+        let is_apart = place == "apart";
+        self.put(if is_apart { "" } else { "(" });
         for (count, row) in fields.chunks(ROW).enumerate() {
-            self.put_before(count, "");
+            self.put_before(if is_apart { 0 } else { count }, "");
             match row {
-                [_] => self.put_list("", row, place, ""),
+                [_] if is_apart => {}
+                [field] => self.put_field(it, field, place, false),
+                _ if is_apart => {
+                    self.put_list(it, row, "taken", ["        let (", ") = row_"]);
+                    self.put_numbered("", count);
+                    self.put(";\n");
+                }
                 _ if place == "rows" => self.put_numbered("row_", count),
-                _ => self.put_list("(", row, place, ")"),
+                _ => self.put_list(it, row, place, ["(", ")"]),
             }
         }
-        self.put(")");
-    }
-
-    /// Takes the rows of a shape apart.
-    fn put_apart(&mut self, fields: &[Field]) {
-        for (count, row) in fields.chunks(ROW).enumerate() {
-            if fields.len() > ROW && row.len() > 1 {
-                self.put_list("        let (", row, "taken", ")");
-                self.put_numbered(" = row_", count);
-                self.put(";\n");
-            }
-        }
+        self.put(if is_apart { "" } else { ")" });
     }
 
     /// Appends what a word stands for in a struct or a variant of this name: its `value` has the names to which its fields are bound.
-    pub fn put_of_fields(&mut self, name: Name, fields: &Fields, word: &str) {
-        let (open, close) = match fields.form {
-            Form::Unit => ("", ""),
-            Form::Tuple => ("(", ")"),
-            Form::Named => (" { ", " }"),
-        };
+    pub fn put_of_fields(&mut self, it: &Declaration, name: Name, fields: &Fields, word: &str) {
+        let items = fields.items.as_slice();
         match word {
-            _ if is_listed(word, PLACES) => self.put_tuple(&fields.items, word),
-            "apart" => self.put_apart(&fields.items),
+            "apart" if items.len() <= ROW => {}
+            "types" | "seen" | "held" | "sent" | "lent" | "taken" | "rows" | "apart" =>
+                self.put_tuple(it, items, word),
             "value" => {
                 self.put_name(name);
-                self.put_list(open, &fields.items, word, close);
+                self.put_list(
+                    it,
+                    items,
+                    word,
+                    match fields.form {
+                        Form::Unit => ["", ""],
+                        Form::Tuple => ["(", ")"],
+                        Form::Named => [" { ", " }"],
+                    },
+                );
             }
             _ => self.put(word),
         }
