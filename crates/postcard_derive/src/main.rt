@@ -11,7 +11,7 @@ mod refusals;
 mod scope;
 mod text;
 
-use crate::scope::{Origins, spell_raw};
+use crate::scope::Origins;
 use crate::text::Text;
 use declaration_parser::faults::Faults;
 use declaration_parser::parser::Purpose;
@@ -62,9 +62,8 @@ fn run(
     let alloc = rt.alloc();
     *device = "standard input";
     let text = io::read_to_string(alloc, rt.reader())?;
-    let mut tokens = Tokens::new(alloc)?.with_file(alloc, "", text.as_str())?;
+    let tokens = Tokens::new(alloc)?.with_file(alloc, "", text.as_str())?;
     let AllDeclared { all, faults, .. } = declarations(alloc, Purpose::Implementations, &tokens)?;
-    spell_raw(alloc, &mut tokens)?;
     let origins = Origins::of(alloc, &tokens)?;
     let mut implementations = Text::new(alloc, &origins, path);
     for it in &all {

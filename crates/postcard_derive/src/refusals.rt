@@ -1,12 +1,12 @@
 //! What can't be implemented of declarations, a line each. Why a thing can't be is a text, which is empty if it can.
-use crate::scope::{Origins, are_at, is_capital, is_cased, is_wordy, path_word};
+use crate::scope::{Origins, are_at, is_capital, path_word};
 use crate::text::Text;
 use declaration_parser::cursor::Cursor;
 use declaration_parser::declaration::{Body, Declaration, Field, Fields, Layout};
 use declaration_parser::derives::OF_OTHER_CRATE;
 use declaration_parser::sent::{is_primitive, sent_as};
 use declaration_parser::texts::{first_letter, is_listed, row_of};
-use declaration_parser::tokens::{DESERIALIZE, NO_NAME, Name, SERIALIZE, Word, Words};
+use declaration_parser::tokens::{DESERIALIZE, NO_NAME, Name, SERIALIZE, Token, Word, Words};
 use std::alloc::{AllocError, Global};
 
 // Why a type can't be in a message: what begins with a backtick follows its name, else it is what to write.
@@ -41,17 +41,6 @@ fn no_message(from: &str, name: &str) -> &'static str {
     why.unwrap_or("")
 }
 
-/// Says why a word is wrong, which may be by what to write in its place.
-fn refuse(at: &mut Cursor, word: Name, why: &str) {
-    if why.starts_with('`') {
-        at.refuse(word, why);
-    } else {
-        let instead = "` can't stand in the type of a field: write `";
-        at.wrong(&["`", at.tokens.text(word), instead, why, "`"]);
-    }
-    at.is_wrong = false;
-}
-
 impl Origins<'_> {
     /// Why a field can't be sent as its attribute says, whose crate the file may hide by a name of its own.
     fn layout_refusal(&self, field: &Field) -> &'static str {
@@ -80,13 +69,14 @@ impl Origins<'_> {
     }
 
     /// Why the word at a place, in a path with this first word, can't be in a type.
-    fn refusal(&self, it: &Declaration, place: usize, head: Name) -> &'static str {
+    fn refusal(&self, it: &Declaration, place: usize, head: Token) -> &'static str {
         let tokens = self.tokens;
         let word = path_word(tokens, place);
-        let (name, from) = (tokens.text(word.name), tokens.text(self.origin(head)));
-        let head = tokens.text(head);
+        let name = tokens.text(word.name);
+        let (first, from) = (tokens.text(head.name), tokens.text(self.origin(head.name)));
         let is_alone = !word.is_led && !word.leads;
         let behind = place.saturating_add(2);
+        let token = tokens.at(place);
         match name {
             "Self" => HOLDS_ITSELF,
             "!" | "?" => NO_TYPE,
@@ -99,17 +89,18 @@ impl Origins<'_> {
                     && !are_at(tokens, behind, "str")
                     && !are_at(tokens, behind, "[ u8 ]") =>
                 "` can't be read: `&'a str` and `&'a [u8]` alone are lent; write `Vec` for a list, or the type itself",
-            _ if !is_cased(name) => "",
+            _ if token.word == Word::Raw => NO_TYPE,
+            _ if !token.is_name || name.starts_with('_') => "",
             _ if is_alone && (it.parameters.contains(&word.name) || is_primitive(name)) => "",
             _ if is_alone && !is_capital(name) => NO_TYPE,
-            _ if !is_wordy(head) =>
+            _ if !head.is_name =>
                 "` stands behind `::`, with which no path begins in Rattle: leave that out",
             _ if is_alone && is_listed(from, "crate self super") => "",
             _ if is_alone => no_message(from, name),
-            _ if is_capital(head) => "` leads to a type of its own: write that type itself",
+            _ if is_capital(first) => "` leads to a type of its own: write that type itself",
             _ if word.leads => "",
-            _ if from == "std" || is_listed(head, "alloc core heapless std") => no_message(
-                head, name,
+            _ if from == "std" || is_listed(first, "alloc core heapless std") => no_message(
+                first, name,
             ),
             _ => "",
         }
@@ -118,21 +109,29 @@ impl Origins<'_> {
     /// Says what is first wrong with a field.
     fn judge(&self, at: &mut Cursor, it: &Declaration, field: &Field) {
         let mut why = self.layout_refusal(field);
-        let mut head = NO_NAME;
+        let mut head = Token::default();
         for place in field.of.from..field.of.to {
             let token = self.tokens.at(place);
             if token.word == Word::Colon {
                 continue;
             }
-            if !are_at(self.tokens, place.saturating_sub(2), ": :") {
-                head = token.name;
+            if !path_word(self.tokens, place).is_led {
+                head = token;
             }
             if why.is_empty() {
                 why = self.refusal(it, place, head);
             }
             if !why.is_empty() {
                 at.line = token.line;
-                return refuse(at, token.name, why);
+                let raw = if token.word == Word::Raw { "r#" } else { "" };
+                let (before, behind) = if why.starts_with('`') {
+                    ("", "")
+                } else {
+                    ("` can't stand in the type of a field: write `", "`")
+                };
+                at.wrong(&["`", raw, self.tokens.text(token.name), before, why, behind]);
+                at.is_wrong = false;
+                return;
             }
         }
     }
@@ -189,11 +188,13 @@ impl Text<'_> {
             at.line = it.line;
             for derive in [SERIALIZE, DESERIALIZE] {
                 if it.is_by_use(derive) && origins.hides(origins.tokens.text(derive)) {
-                    refuse(&mut at, derive, OF_OTHER_CRATE);
+                    at.refuse(derive, OF_OTHER_CRATE);
+                    at.is_wrong = false;
                 }
             }
             if self.holds_itself(alloc, &mut at, it.name) {
-                refuse(&mut at, it.name, HOLDS_ITSELF);
+                at.refuse(it.name, HOLDS_ITSELF);
+                at.is_wrong = false;
             }
         }
         at.faults.finished()

@@ -1,7 +1,7 @@
 //! Where the names of a file come from, and how the paths that they are in are read.
 use declaration_parser::declaration::Declaration;
 use declaration_parser::derives::{has_own, has_serdes};
-use declaration_parser::texts::{first_letter, is_listed, is_of_word};
+use declaration_parser::texts::{first_letter, is_listed};
 use declaration_parser::tokens::{NO_NAME, Name, Token, Tokens, Word, word_of};
 use std::alloc::{AllocError, Global};
 
@@ -11,21 +11,6 @@ pub struct Origins<'a> {
     pub tokens: &'a Tokens,
     /// Each name with where it is from: the first word of the `use` that brings it in, or `self` if the file declares it.
     origins: Vec<(Name, Name)>,
-}
-
-/// Gives each raw name the text that it is written as, by which no other name is meant.
-pub fn spell_raw(alloc: Global, tokens: &mut Tokens) -> Result<(), AllocError> {
-    for place in 0..tokens.all.len() {
-        let token = tokens.at(place);
-        if token.word == Word::Raw {
-            let text = format!(in alloc; "r#{}", tokens.text(token.name))?;
-            let name = tokens.name_of(alloc, text.as_str())?;
-            if let Some(raw) = tokens.all.get_mut(place) {
-                raw.name = name;
-            }
-        }
-    }
-    Ok(())
 }
 
 impl<'a> Origins<'a> {
@@ -148,14 +133,4 @@ fn is_of_crate(name: Name) -> bool {
 /// Whether a word begins with a capital letter.
 pub fn is_capital(word: &str) -> bool {
     matches!(first_letter(word), Some(first) if first.is_uppercase())
-}
-
-/// Whether a word begins with a letter that is a capital or a small one.
-pub fn is_cased(word: &str) -> bool {
-    matches!(first_letter(word), Some(first) if first.is_lowercase() || first.is_uppercase())
-}
-
-/// Whether a word begins as a name, a number or a lifetime does.
-pub fn is_wordy(word: &str) -> bool {
-    matches!(first_letter(word), Some(first) if is_of_word(first) || first == '\'')
 }

@@ -1,7 +1,8 @@
 //! Texts that are made of pieces: types and bounds as the module below has them, and fields as their places want them.
-use crate::scope::{Origins, is_wordy, path_word};
+use crate::scope::{Origins, path_word};
 use declaration_parser::declaration::{Declaration, Field, Fields, Form, Layout};
 use declaration_parser::faults::Faults;
+use declaration_parser::texts::{first_letter, is_of_word};
 use declaration_parser::tokens::{NO_NAME, Name, Word, Words};
 use std::alloc::Global;
 
@@ -24,6 +25,11 @@ fn spelling_of(place: &str) -> [&'static str; 3] {
         "taken" | "rows" => ["%bound%", "%way%(%bound%)", "()"],
         _ => ["%bound%", "%bound%", ""],
     }
+}
+
+/// Whether a word begins as a name, a number or a lifetime does.
+fn is_wordy(word: &str) -> bool {
+    matches!(first_letter(word), Some(first) if is_of_word(first) || first == '\'')
 }
 
 /// Whether a field is sent as its bytes.
