@@ -1,8 +1,7 @@
 //! From declarations to implementations, which `rt fmt` lays out.
-use crate::text::{Text, is_fixed};
+use crate::text::Text;
 use declaration_parser::declaration::{Body, Declaration, VariantOf};
 use declaration_parser::faults::Faults;
-use declaration_parser::texts::is_listed;
 use declaration_parser::tokens::NO_NAME;
 use std::alloc::{AllocError, Global};
 use std::collections::BTreeSet;
@@ -34,7 +33,7 @@ const LIBRARIES: &[(&str, &str)] = &[
     ("{ as_its_shape }", "use schemas::SchemaOfShape;\n"),
 ];
 
-/// The shape of a struct that has one field or none. In what follows a word between two `%` stands for what `put_part` has.
+/// The shape of a struct that has one field or none. In what follows a word between two `%` stands for what `put_word` has.
 const ALONE: &str = "impl%plain% Shaped for %name%%names%%where% {
     type Shape = %types%;
     ghost shape = { λ v. %seen% };
@@ -56,20 +55,20 @@ impl%plain% Shaped for %name%%names%%where% {
 }
 ";
 
-/// The shape of an enum, which holds the variants in fours, and then one by one. What is between two `@` is there for each variant,
-/// and has the words of `put_of_variant`.
-const VARIANTS: &str = "type %name%Shape%alias% = @%before%%opens%%types%@%closes%;
+/// The shape of an enum, which holds the variants in fours, and then one by one. What is between two `@` is there for each variant.
+const VARIANTS: &str = "type %name%Shape%alias% = @%before%%opens%%types%@%*:>%;
 impl%plain% Shaped for %name%%names%%where% {
     ghost use Rattle%path%.%name%.TheVariants.{@%before%%variant%%as%@};
 %fours%%singles%    ghost use Rattle.postcard_tree.specs.declared.variants.Last.TheVariants.{Last};
     type Shape = %name%Shape%names%;
     ghost shape = { λ v. elim v [
-@| %The%%variant%%binders% ↦ %More (%%Other (%%by% %held%%ends%
+@| %The%%variant%%binders% ↦ %4:More (%%1:Other (%%by% %held%%*:)%
 @    ] };
     fn from_shape(it: %name%Shape%names%) -> %name%%names% {
         match it {
-@%next%%Variant::Other(%%holder%::%by%(%taken%)%ones% => %name%::%value%,
-@%matched%        }
+@%next%%1:Variant::Other(%%holder%::%by%(%taken%)%1:)% => %name%::%value%,
+@%4:},
+%        }
     }
 }
 ";
@@ -80,6 +79,9 @@ const FOURS: &str =
 
 const SINGLES: &str =
     "    ghost use Rattle.postcard_tree.specs.declared.variants.Variant.TheVariants.{This, Other};\n";
+
+/// What takes the next four variants apart.
+const NEXT: &str = "Variants4::More(it) => match it {\n";
 
 /// What a type takes from its shape.
 const OF_ITS_SHAPE: &str = "impl%Readable% Readable for %name%%names%%where% {
@@ -115,42 +117,46 @@ const MATCHING: &str = "impl%Serialize% Serialize for %name%%names%%where% {
 ";
 
 impl Text<'_> {
-    /// Appends what a word stands for in a declaration: its name; the names of its parameters, these as an alias has them, or with
-    /// their bounds, and types with this one too; the bounds after `where`; the path of the module's definitions; what its fields
-    /// have for it, or what closes its variants. Another stands for itself.
-    fn put_of_all(&mut self, it: &Declaration, word: &str) {
-        let fours = self.fours();
-        let singles = self.count.saturating_sub(fours.saturating_mul(3));
-        match (word, &it.body) {
-            ("name", _) => self.put_name(it.name),
-            ("path", _) => self.put(self.path),
-            ("where", _) => {
-                self.put(if it.bounds.is_empty() { "" } else { " where " });
+    /// Appends what a word of a template stands for: of the declaration its name; its parameters, as
+    /// [`put_parameters`](Text::put_parameters) has them; its bounds; and the path of the module's definitions. Behind `4:` is what is
+    /// there for each four of variants before the part, behind `1:` for each that is by itself, behind `*:` for both.
+    fn put_word(&mut self, it: &Declaration, row: Option<(usize, &VariantOf)>, word: &str) {
+        let (index, variant) = match row {
+            Some((index, variant)) => (index, Some(variant)),
+            None => (self.count, None),
+        };
+        let all_fours = self.count.saturating_sub(1) / 4;
+        let fours = all_fours.min(index / 4);
+        let ones = index.saturating_sub(all_fours.saturating_mul(4));
+        match word.split_once(':') {
+            Some(("4", piece)) => return self.put_times(fours, piece),
+            Some(("1", piece)) => return self.put_times(ones, piece),
+            Some(("*", piece)) => return self.put_times(fours.saturating_add(ones), piece),
+            _ => {}
+        }
+        match word {
+            "name" => self.put_name(it.name),
+            "path" => self.put(self.path),
+            "names" | "alias" | "plain" | "Readable" | "Serialize" => self.put_parameters(it, word),
+            "where" if it.bounds.is_empty() => {}
+            "where" => {
+                self.put(" where ");
                 self.put_words(it, it.bounds, NO_NAME);
             }
-            ("names" | "alias" | "plain" | "Readable" | "Serialize", _) => self.put_parameters(
-                it, word,
-            ),
-            ("fours", _) => self.put(if fours > 0 { FOURS } else { "" }),
-            ("singles", _) => self.put(if self.count % 4 == 1 { "" } else { SINGLES }),
-            ("closes", _) => self.put_times(singles, ">"),
-            ("matched", _) => self.put_times(fours, "},\n"),
-            (_, Body::Struct(fields)) => self.put_of_fields(it, it.name, fields, word),
-            _ => self.put(word),
+            "fours" => self.put(if fours > 0 { FOURS } else { "" }),
+            "singles" => self.put(if ones > 1 { SINGLES } else { "" }),
+            "next" if index > 0 && index % 4 == 0 => self.put(NEXT),
+            "next" => {}
+            "before" => self.put(if index > 0 { ", " } else { "" }),
+            "index" => self.put_numbered("", index),
+            "opens" | "holder" | "by" => self.put_holder(index, all_fours, word),
+            _ => self.put_of_fields(it, variant, word),
         }
     }
 
-    /// How many fours of variants there are before those that are one by one.
-    fn fours(&self) -> usize {
-        self.count.saturating_sub(1) / 4
-    }
-
-    /// Appends what a word stands for in a variant of an enum: of its shape, which is behind so many fours and then single ones, the
-    /// type and the constructor that hold it, or the word as often as it is behind others.
-    fn put_of_variant(&mut self, it: &Declaration, index: usize, variant: &VariantOf, word: &str) {
-        let all_fours = self.fours();
-        let fours = all_fours.min(index / 4);
-        let ones = index.saturating_sub(all_fours.saturating_mul(4));
+    /// Appends what holds a variant in the shape of its enum: the type, with `<` where that `opens`, or the constructor that it is held
+    /// `by`.
+    fn put_holder(&mut self, index: usize, all_fours: usize, word: &str) {
         let (holder, by) = match index % 4 {
             _ if index.saturating_add(1) == self.count => ("Last", "Last"),
             _ if index / 4 >= all_fours => ("Variant", "This"),
@@ -159,48 +165,18 @@ impl Text<'_> {
             2 => ("Variants4", "V2"),
             _ => ("Variants4", "V3"),
         };
-        let own = self.origins.tokens.text(variant.name);
-        match word {
-            "before" => self.put_before(index, ""),
-            "name" => self.put_name(it.name),
-            "variant" => self.put(own),
-            // the constructors of shapes have these names
-            "as" | "The" if !is_listed(own, "V0 V1 V2 V3 More This Other Last") => {}
-            "as" => self.made.put_all(&[" as The", own]),
-            "opens" if is_listed(by, "V1 V2 V3") => {}
-            "opens" => self.made.put_all(&[holder, "<"]),
-            "holder" => self.put(holder),
-            "by" => self.put(by),
-            "More (" => self.put_times(fours, word),
-            "Other (" | "Variant::Other(" => self.put_times(ones, word),
-            "ends" => self.put_times(fours.saturating_add(ones), ")"),
-            "ones" => self.put_times(ones, ")"),
-            "next" if index == 0 || index % 4 > 0 => {}
-            "next" => self.put("Variants4::More(it) => match it {\n"),
-            "binders" => {
-                for field in &variant.fields.items {
-                    self.put_numbered(" x", field.place);
-                }
-            }
-            "index" => self.put_numbered("", index),
-            "kind" | "and" => self.put(match (word, variant.fields.items.as_slice()) {
-                ("kind", []) => "unit",
-                ("kind", _) => "newtype",
-                (_, []) => "",
-                (_, [field]) if !is_fixed(field) => ", ",
-                _ => ", &",
-            }),
-            _ => self.put_of_fields(it, variant.name, &variant.fields, word),
+        match (word, by) {
+            ("by", _) => self.put(by),
+            ("holder", _) => self.put(holder),
+            (_, "V1" | "V2" | "V3") => {}
+            _ => self.made.put_all(&[holder, "<"]),
         }
     }
 
-    /// Appends the pieces of a part of a template, which may be a row for a variant.
-    fn put_part(&mut self, it: &Declaration, part: &str, row: Option<(usize, &VariantOf)>) {
-        for piece in part.split('%') {
-            match row {
-                Some((index, variant)) => self.put_of_variant(it, index, variant, piece),
-                None => self.put_of_all(it, piece),
-            }
+    /// Appends a part of a template, which may be a row for a variant.
+    fn put_part(&mut self, it: &Declaration, row: Option<(usize, &VariantOf)>, part: &str) {
+        for word in part.split('%') {
+            self.put_word(it, row, word);
         }
     }
 
@@ -208,11 +184,11 @@ impl Text<'_> {
         for (place, part) in template.split('@').enumerate() {
             match &it.body {
                 Body::Enum(variants) if place % 2 > 0 => {
-                    for (index, variant) in variants.iter().enumerate() {
-                        self.put_part(it, part, Some((index, variant)));
+                    for row in variants.iter().enumerate() {
+                        self.put_part(it, Some(row), part);
                     }
                 }
-                _ => self.put_part(it, part, None),
+                _ => self.put_part(it, None, part),
             }
         }
     }
@@ -226,13 +202,14 @@ impl Text<'_> {
             Body::Struct(_) => (0, ALONE, SENDING),
         };
         self.count = count;
-        self.put_template(it, shape);
-        self.put_template(it, OF_ITS_SHAPE);
-        if it.marks.written {
-            self.put_template(it, sent);
-        }
-        if it.marks.read && with_schemas {
-            self.put_template(it, SCHEMA);
+        let sent = if it.marks.written { sent } else { "" };
+        let schema = if it.marks.read && with_schemas {
+            SCHEMA
+        } else {
+            ""
+        };
+        for template in [shape, OF_ITS_SHAPE, sent, schema] {
+            self.put_template(it, template);
         }
     }
 
@@ -253,8 +230,7 @@ impl Text<'_> {
             "use super",
         ]);
         for (place, name) in names.iter().enumerate() {
-            whole.put(if place > 0 { ", " } else { "::{" });
-            whole.put(name);
+            whole.put_all(&[if place > 0 { ", " } else { "::{" }, name]);
         }
         whole.put("};\n");
         for (sign, piece) in LIBRARIES {

@@ -1,8 +1,8 @@
 //! Texts that are made of pieces: types and bounds as the module below has them, and fields as their places want them.
 use crate::scope::{Origins, path_word};
-use declaration_parser::declaration::{Declaration, Field, Fields, Form, Layout};
+use declaration_parser::declaration::{Body, Declaration, Field, Form, Layout, VariantOf};
 use declaration_parser::faults::Faults;
-use declaration_parser::texts::{first_letter, is_of_word};
+use declaration_parser::texts::{first_letter, is_listed, is_of_word};
 use declaration_parser::tokens::{NO_NAME, Name, Word, Words};
 use std::alloc::Global;
 
@@ -33,7 +33,7 @@ fn is_wordy(word: &str) -> bool {
 }
 
 /// Whether a field is sent as its bytes.
-pub fn is_fixed(field: &Field) -> bool {
+fn is_fixed(field: &Field) -> bool {
     matches!(field.layout, Layout::Little | Layout::Big)
 }
 
@@ -70,11 +70,6 @@ impl<'a> Text<'a> {
     /// Appends the text of a name.
     pub fn put_name(&mut self, name: Name) {
         self.made.put(self.origins.tokens.text(name));
-    }
-
-    /// Appends what stands before the thing at a place of a list: this before the first, else a comma.
-    pub fn put_before(&mut self, place: usize, first: &str) {
-        self.put(if place > 0 { ", " } else { first });
     }
 
     /// Appends a piece so many times.
@@ -145,7 +140,7 @@ impl<'a> Text<'a> {
                 .origins
                 .tokens
                 .type_up_to(rest, &[Word::Comma, Word::Greater]);
-            self.put_before(place, "<");
+            self.put(if place > 0 { ", " } else { "<" });
             match bound {
                 "names" => self.put_name(*name),
                 _ => self.put_parameter(it, rest.before(behind), bound),
@@ -178,7 +173,7 @@ impl<'a> Text<'a> {
         let [open, close] = ends;
         self.put(open);
         for (count, field) in fields.iter().enumerate() {
-            self.put_before(count, "");
+            self.put(if count > 0 { ", " } else { "" });
             self.put_field(it, field, place, false);
         }
         self.put(close);
@@ -196,7 +191,7 @@ impl<'a> Text<'a> {
         let is_apart = place == "apart";
         self.put(if is_apart { "" } else { "(" });
         for (count, row) in fields.chunks(ROW).enumerate() {
-            self.put_before(if is_apart { 0 } else { count }, "");
+            self.put(if count > 0 && !is_apart { ", " } else { "" });
             match row {
                 [_] if is_apart => {}
                 [field] => self.put_field(it, field, place, false),
@@ -212,15 +207,32 @@ impl<'a> Text<'a> {
         self.put(if is_apart { "" } else { ")" });
     }
 
-    /// Appends what a word stands for in a struct or a variant of this name: its `value` has the names to which its fields are bound.
-    pub fn put_of_fields(&mut self, it: &Declaration, name: Name, fields: &Fields, word: &str) {
+    /// Appends what a word stands for in a struct or a variant: its `value` has the names to which its fields are bound.
+    pub fn put_of_fields(&mut self, it: &Declaration, variant: Option<&VariantOf>, word: &str) {
+        let (name, fields) = match (variant, &it.body) {
+            (Some(variant), _) => (variant.name, &variant.fields),
+            (None, Body::Struct(fields)) => (it.name, fields),
+            _ => return self.put(word),
+        };
+        let own = self.origins.tokens.text(name);
         let items = fields.items.as_slice();
-        match word {
-            "apart" if items.len() <= ROW => {}
-            "types" | "seen" | "held" | "sent" | "lent" | "taken" | "rows" | "apart" =>
-                self.put_tuple(it, items, word),
-            "value" => {
-                self.put_name(name);
+        match (word, items) {
+            ("variant", _) => self.put(own),
+            // the constructors of shapes have these names
+            ("as" | "The", _) if !is_listed(own, "V0 V1 V2 V3 More This Other Last") => {}
+            ("as", _) => self.made.put_all(&[" as The", own]),
+            ("kind", []) => self.put("unit"),
+            ("kind", _) => self.put("newtype"),
+            ("and", []) => {}
+            ("and", [field]) if !is_fixed(field) => self.put(", "),
+            ("and", _) => self.put(", &"),
+            ("binders", _) => {
+                for field in items {
+                    self.put_numbered(" x", field.place);
+                }
+            }
+            ("value", _) => {
+                self.put(own);
                 self.put_list(
                     it,
                     items,
@@ -232,6 +244,9 @@ impl<'a> Text<'a> {
                     },
                 );
             }
+            ("apart", _) if items.len() <= ROW => {}
+            ("types" | "seen" | "held" | "sent" | "lent" | "taken" | "rows" | "apart", _) =>
+                self.put_tuple(it, items, word),
             _ => self.put(word),
         }
     }
