@@ -41,6 +41,19 @@ fn no_message(from: &str, name: &str) -> &'static str {
     why.unwrap_or("")
 }
 
+/// Says why a word is wrong, which may be by what to write in its place.
+fn refuse(at: &mut Cursor, word: Token, why: &str) {
+    let instead = "` can't stand in the type of a field: write `";
+    if word.word == Word::Raw {
+        at.wrong(&["`r#", at.tokens.text(word.name), why]);
+    } else if why.starts_with('`') {
+        at.refuse(word.name, why);
+    } else {
+        at.wrong(&["`", at.tokens.text(word.name), instead, why, "`"]);
+    }
+    at.is_wrong = false;
+}
+
 impl Origins<'_> {
     /// Why a field can't be sent as its attribute says, whose crate the file may hide by a name of its own.
     fn layout_refusal(&self, field: &Field) -> &'static str {
@@ -123,15 +136,7 @@ impl Origins<'_> {
             }
             if !why.is_empty() {
                 at.line = token.line;
-                let raw = if token.word == Word::Raw { "r#" } else { "" };
-                let (before, behind) = if why.starts_with('`') {
-                    ("", "")
-                } else {
-                    ("` can't stand in the type of a field: write `", "`")
-                };
-                at.wrong(&["`", raw, self.tokens.text(token.name), before, why, behind]);
-                at.is_wrong = false;
-                return;
+                return refuse(at, token, why);
             }
         }
     }
