@@ -91,6 +91,7 @@ impl Origins<'_> {
         let behind = place.saturating_add(2);
         let token = tokens.at(place);
         match name {
+            _ if token.word == Word::Raw => NO_TYPE,
             "Self" => HOLDS_ITSELF,
             "!" | "?" => NO_TYPE,
             "f32" => "` is no message: take `LE<u32>` of its bits",
@@ -102,7 +103,6 @@ impl Origins<'_> {
                     && !are_at(tokens, behind, "str")
                     && !are_at(tokens, behind, "[ u8 ]") =>
                 "` can't be read: `&'a str` and `&'a [u8]` alone are lent; write `Vec` for a list, or the type itself",
-            _ if token.word == Word::Raw => NO_TYPE,
             _ if !token.is_name || name.starts_with('_') => "",
             _ if is_alone && (it.parameters.contains(&word.name) || is_primitive(name)) => "",
             _ if is_alone && !is_capital(name) => NO_TYPE,
