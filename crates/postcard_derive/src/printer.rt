@@ -56,18 +56,18 @@ impl%plain% Shaped for %name%%names%%where% {
 ";
 
 /// The shape of an enum, which holds the variants in fours, and then one by one. What is between two `@` is there for each variant.
-const VARIANTS: &str = "type %name%Shape%alias% = @%before%%opens%%types%@%*:>%;
+const VARIANTS: &str = "type %name%Shape%alias% = @%before%%opens%%types%@%closes types%;
 impl%plain% Shaped for %name%%names%%where% {
     ghost use Rattle%path%.%name%.TheVariants.{@%before%%variant%%as%@};
 %fours%%singles%    ghost use Rattle.postcard_tree.specs.declared.variants.Last.TheVariants.{Last};
     type Shape = %name%Shape%names%;
     ghost shape = { λ v. elim v [
-@| %The%%variant%%binders% ↦ %4:More (%%1:Other (%%by% %held%%*:)%
+@| %The%%variant%%binders% ↦ %More (%%Other (%%by% %held%%closes all%
 @    ] };
     fn from_shape(it: %name%Shape%names%) -> %name%%names% {
         match it {
-@%next%%1:Variant::Other(%%holder%::%by%(%taken%)%1:)% => %name%::%value%,
-@%4:},
+@%next%%Variant::Other(%%holder%::%by%(%taken%)%closes one% => %name%::%value%,
+@%},
 %        }
     }
 }
@@ -118,22 +118,18 @@ const MATCHING: &str = "impl%Serialize% Serialize for %name%%names%%where% {
 
 impl Text<'_> {
     /// Appends what a word of a template stands for: of the declaration its name; its parameters, as
-    /// [`put_parameters`](Text::put_parameters) has them; its bounds; and the path of the module's definitions. Behind `4:` is what is
-    /// there for each four of variants before the part, behind `1:` for each that is by itself, behind `*:` for both.
-    fn put_word(&mut self, it: &Declaration, row: Option<(usize, &VariantOf)>, word: &str) {
-        let (index, variant) = match row {
-            Some((index, variant)) => (index, Some(variant)),
-            None => (self.count, None),
-        };
+    /// [`put_parameters`](Text::put_parameters) has them; its bounds; and the path of the module's definitions; of its variant, or of
+    /// what is behind all of them, how many fours and then single ones precede it.
+    fn put_word(
+        &mut self,
+        it: &Declaration,
+        index: usize,
+        variant: Option<&VariantOf>,
+        word: &str,
+    ) {
         let all_fours = self.count.saturating_sub(1) / 4;
         let fours = all_fours.min(index / 4);
         let ones = index.saturating_sub(all_fours.saturating_mul(4));
-        match word.split_once(':') {
-            Some(("4", piece)) => return self.put_times(fours, piece),
-            Some(("1", piece)) => return self.put_times(ones, piece),
-            Some(("*", piece)) => return self.put_times(fours.saturating_add(ones), piece),
-            _ => {}
-        }
         match word {
             "name" => self.put_name(it.name),
             "path" => self.put(self.path),
@@ -143,6 +139,11 @@ impl Text<'_> {
                 self.put(" where ");
                 self.put_words(it, it.bounds, NO_NAME);
             }
+            "More (" | "},\n" => self.put_times(fours, word),
+            "Other (" | "Variant::Other(" => self.put_times(ones, word),
+            "closes one" => self.put_times(ones, ")"),
+            "closes all" => self.put_times(fours.saturating_add(ones), ")"),
+            "closes types" => self.put_times(fours.saturating_add(ones), ">"),
             "fours" => self.put(if fours > 0 { FOURS } else { "" }),
             "singles" => self.put(if ones > 1 { SINGLES } else { "" }),
             "next" if index > 0 && index % 4 == 0 => self.put(NEXT),
@@ -173,23 +174,29 @@ impl Text<'_> {
         }
     }
 
-    /// Appends a part of a template, which may be a row for a variant.
-    fn put_part(&mut self, it: &Declaration, row: Option<(usize, &VariantOf)>, part: &str) {
-        for word in part.split('%') {
-            self.put_word(it, row, word);
-        }
-    }
-
     fn put_template(&mut self, it: &Declaration, template: &str) {
         for (place, part) in template.split('@').enumerate() {
             match &it.body {
                 Body::Enum(variants) if place % 2 > 0 => {
-                    for row in variants.iter().enumerate() {
-                        self.put_part(it, Some(row), part);
+                    for (index, variant) in variants.iter().enumerate() {
+                        self.put_part(it, index, Some(variant), part);
                     }
                 }
-                _ => self.put_part(it, None, part),
+                _ => self.put_part(it, self.count, None, part),
             }
+        }
+    }
+
+    /// Appends a part of a template, which may be a row for a variant.
+    fn put_part(
+        &mut self,
+        it: &Declaration,
+        index: usize,
+        variant: Option<&VariantOf>,
+        part: &str,
+    ) {
+        for word in part.split('%') {
+            self.put_word(it, index, variant, word);
         }
     }
 

@@ -9,6 +9,9 @@ use std::alloc::Global;
 /// How many parts a tuple has at most; more are in rows.
 const ROW: usize = 6;
 
+/// The places where fields are a tuple, and where the rows of one are taken apart.
+const PLACES: &str = "types seen held sent lent taken rows apart";
+
 /// How a field is written in a place, how one that is sent as its bytes, and what stands for none. A word between two `%` stands
 /// for what it has: its `type`, its `member`, the name that it is `bound` to, its `place`, and the `way` that sends it; `&` is there
 /// if others are beside it, and brackets are parentheses if none are.
@@ -169,8 +172,14 @@ impl<'a> Text<'a> {
         }
     }
 
-    fn put_list(&mut self, it: &Declaration, fields: &[Field], place: &str, ends: [&str; 2]) {
-        let [open, close] = ends;
+    fn put_list(
+        &mut self,
+        it: &Declaration,
+        open: &str,
+        fields: &[Field],
+        place: &str,
+        close: &str,
+    ) {
         self.put(open);
         for (count, field) in fields.iter().enumerate() {
             self.put(if count > 0 { ", " } else { "" });
@@ -185,7 +194,7 @@ impl<'a> Text<'a> {
         match fields {
             [] => return self.put(spelling_of(place)[2]),
             [field] => return self.put_field(it, field, place, true),
-            _ if fields.len() <= ROW => return self.put_list(it, fields, place, ["(", ")"]),
+            _ if fields.len() <= ROW => return self.put_list(it, "(", fields, place, ")"),
             _ => {}
         }
         let is_apart = place == "apart";
@@ -196,12 +205,12 @@ impl<'a> Text<'a> {
                 [_] if is_apart => {}
                 [field] => self.put_field(it, field, place, false),
                 _ if is_apart => {
-                    self.put_list(it, row, "taken", ["        let (", ") = row_"]);
+                    self.put_list(it, "        let (", row, "taken", ") = row_");
                     self.put_numbered("", count);
                     self.put(";\n");
                 }
                 _ if place == "rows" => self.put_numbered("row_", count),
-                _ => self.put_list(it, row, place, ["(", ")"]),
+                _ => self.put_list(it, "(", row, place, ")"),
             }
         }
         self.put(if is_apart { "" } else { ")" });
@@ -216,37 +225,33 @@ impl<'a> Text<'a> {
         };
         let own = self.origins.tokens.text(name);
         let items = fields.items.as_slice();
-        match (word, items) {
-            ("variant", _) => self.put(own),
+        let (open, close) = match fields.form {
+            Form::Unit => ("", ""),
+            Form::Tuple => ("(", ")"),
+            Form::Named => (" { ", " }"),
+        };
+        match word {
+            "apart" if items.len() <= ROW => {}
+            _ if is_listed(word, PLACES) => self.put_tuple(it, items, word),
+            "value" => {
+                self.put(own);
+                self.put_list(it, open, items, word, close);
+            }
+            "variant" => self.put(own),
             // the constructors of shapes have these names
-            ("as" | "The", _) if !is_listed(own, "V0 V1 V2 V3 More This Other Last") => {}
-            ("as", _) => self.made.put_all(&[" as The", own]),
-            ("kind", []) => self.put("unit"),
-            ("kind", _) => self.put("newtype"),
-            ("and", []) => {}
-            ("and", [field]) if !is_fixed(field) => self.put(", "),
-            ("and", _) => self.put(", &"),
-            ("binders", _) => {
+            "as" | "The" if !is_listed(own, "V0 V1 V2 V3 More This Other Last") => {}
+            "as" => self.made.put_all(&[" as The", own]),
+            "kind" => self.put(if items.is_empty() { "unit" } else { "newtype" }),
+            "and" => self.put(match items {
+                [] => "",
+                [field] if !is_fixed(field) => ", ",
+                _ => ", &",
+            }),
+            "binders" => {
                 for field in items {
                     self.put_numbered(" x", field.place);
                 }
             }
-            ("value", _) => {
-                self.put(own);
-                self.put_list(
-                    it,
-                    items,
-                    word,
-                    match fields.form {
-                        Form::Unit => ["", ""],
-                        Form::Tuple => ["(", ")"],
-                        Form::Named => [" { ", " }"],
-                    },
-                );
-            }
-            ("apart", _) if items.len() <= ROW => {}
-            ("types" | "seen" | "held" | "sent" | "lent" | "taken" | "rows" | "apart", _) =>
-                self.put_tuple(it, items, word),
             _ => self.put(word),
         }
     }
