@@ -35,29 +35,24 @@ pub fn derive_of(tokens: &Tokens, path: Words) -> Option<Token> {
 /// Whether a derive among these words has this name.
 pub fn is_derived(tokens: &Tokens, words: Words, name: Name) -> bool {
     let mut is_derive = false;
-    let mut rest = words;
-    for _ in 0..words.len() {
-        let token = tokens.first(rest);
-        if is_derive && token.name == name {
-            return true;
+    for place in words.from..words.to {
+        let token = tokens.at(place);
+        match token.word {
+            _ if is_derive && token.name == name => return true,
+            Word::Derive => is_derive = true,
+            Word::Close => is_derive = false,
+            _ => {}
         }
-        is_derive = match token.word {
-            Word::Derive => true,
-            Word::Close => false,
-            _ => is_derive,
-        };
-        rest = rest.behind_first();
     }
     false
 }
 
-/// Another name of a derive of serde's, or of a crate that has others, which a `use` brings in and a derive has.
-pub fn renamed_derive(tokens: &Tokens, words: Words) -> Option<Token> {
+/// The place of another name of a derive of serde's, or of a crate that has others, which a `use` brings in and a derive has.
+pub fn renamed_derive(tokens: &Tokens, words: Words) -> Option<usize> {
     // Whether the `use` that is gone over is of another crate that has such derives.
     let mut is_other = false;
-    let mut rest = words;
-    for _ in 2..words.len() {
-        let (own, by, name) = (tokens.first(rest), tokens.nth(rest, 1), tokens.nth(rest, 2));
+    for place in words.from.saturating_add(2)..words.to {
+        let (own, by, name) = (tokens.at(place - 2), tokens.at(place - 1), tokens.at(place));
         let is_own = matches!(own.word, Word::OfSerde) && !is_other;
         if matches!(own.word, Word::Import) {
             is_other = has_own(tokens.text(by.name));
@@ -66,9 +61,8 @@ pub fn renamed_derive(tokens: &Tokens, words: Words) -> Option<Token> {
             && (is_own || has_own(tokens.text(own.name)))
             && is_derived(tokens, words, name.name)
         {
-            return Some(name);
+            return Some(place);
         }
-        rest = rest.behind_first();
     }
     None
 }

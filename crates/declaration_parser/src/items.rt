@@ -76,8 +76,6 @@ pub struct Walk<'a> {
     tokens: &'a Tokens,
     pub scopes: Vec<Scope>,
     pub items: Vec<Item>,
-    /// The next file.
-    file: usize,
     /// The scope that is gone over, and the places behind the words of an item, in which there is no other, and behind the
     /// module whose files are in another folder.
     scope: usize,
@@ -101,14 +99,6 @@ impl Item {
         }
         false
     }
-
-    /// How many tokens after its attributes are passed over with it: those of a call.
-    pub fn passed(&self) -> usize {
-        match self.kind {
-            ItemKind::Rules | ItemKind::Call | ItemKind::Hidden => self.words.len(),
-            _ => 0,
-        }
-    }
 }
 
 /// What follows the attributes and marks at the start.
@@ -125,13 +115,12 @@ fn behind_attributes(tokens: &Tokens, words: Words) -> Words {
 }
 
 impl<'a> Walk<'a> {
-    /// No items yet, and the scopes of the files, which have no names.
-    pub fn new(alloc: Global, tokens: &'a Tokens) -> Walk<'a> {
+    /// The items and scopes of files. The first scopes are those of the files, and have no names.
+    pub fn of(alloc: Global, tokens: &'a Tokens) -> Walk<'a> {
         let mut walk = Walk {
             tokens,
             scopes: Vec::new(alloc),
             items: Vec::new(alloc),
-            file: 0,
             scope: 0,
             quiet: 0,
             moved: 0,
@@ -141,7 +130,19 @@ impl<'a> Walk<'a> {
             walk.scope = place;
             walk.add_scope(Kind::File, NO_NAME, 0);
         }
+        for (place, file) in tokens.files.iter().enumerate() {
+            walk.scope = place;
+            walk.read_file(file.words);
+        }
         walk
+    }
+
+    /// The file that an item is in, by its place.
+    pub fn file_of(&self, item: &Item) -> usize {
+        match self.scopes.get(item.scope) {
+            Some(it) => it.file,
+            None => 0,
+        }
     }
 
     /// Adds a scope in this one, which ends there, and gives its place.
@@ -160,12 +161,8 @@ impl<'a> Walk<'a> {
         place
     }
 
-    /// Adds the items of the next file, which has these words.
-    pub fn read_file(&mut self, words: Words) {
-        self.scope = self.file;
-        self.file = self.file.saturating_add(1);
-        self.quiet = 0;
-        self.moved = 0;
+    /// Adds the items of a file that has these words.
+    fn read_file(&mut self, words: Words) {
         let mut rest = words;
         for _ in 0..words.len() {
             if rest.is_empty() {

@@ -1,8 +1,8 @@
 //! The marked declarations of files.
-ghost use Rattle.std.specs.Prelude.{◌≡◌, ◌≤◌, IfOk, IsTrue, [], None, string_bytes, length};
+ghost use Rattle.std.specs.Prelude.{◌≡◌, ℕ, IfOk, [], string_bytes};
 ghost use Rattle.declaration_parser.specs.Marked.{NoMark, is_mark_at};
 ghost use Rattle.declaration_parser.specs.Silent.{SaysNothing};
-ghost use Rattle.declaration_parser.specs.Standing.{Accounts, AreDeclaredIn, AddsDeclaration, end_of};
+ghost use Rattle.declaration_parser.specs.Standing.{AreInOrder, MarksAreDeclared};
 
 use crate::declaration::Declaration;
 use crate::derives::{is_derived, renamed_derive};
@@ -12,7 +12,7 @@ use crate::items::{BODY, Item, ItemKind, Walk};
 use crate::marks::is_mark;
 use crate::parser::by_hand::Implemented;
 use crate::parser::{Job, Parser, Purpose};
-use crate::tokens::{DESERIALIZE, SERIALIZE, Token, Tokens, Words};
+use crate::tokens::{DESERIALIZE, SERIALIZE, Tokens, Word, Words};
 use crate::words::{ALMOST, IN_MACRO, IN_WORDS, RENAMES};
 use std::alloc::{AllocError, Global};
 
@@ -28,137 +28,70 @@ fn marks(tokens: &Tokens, place: usize) -> bool
     false
 }
 
-/// The place of the first token that marks.
-fn first_mark(tokens: &Tokens, words: Words) -> Option<usize>
-    ensures { result ≡ None → NoMark tokens.now words.from words.to }
-{
-    for place in words.from..words.to {
-        if marks(tokens, place) {
-            return Some(place);
-        }
-    }
-    None
-}
-
-/// Says why a token is wrong.
-fn refuse(job: Job<'_, '_>, token: Token, why: &str, faults: &mut Faults)
+/// Says why the token at a place is wrong.
+fn refuse(tokens: &Tokens, place: usize, why: &str, faults: &mut Faults)
     ensures { ¬ SaysNothing faults.new }
 {
-    let file = job.tokens.name_of_file(job.file);
-    faults.refuse(file, token.line, job.tokens.text(token.name), why);
+    let token = tokens.at(place);
+    let file = tokens.name_of_file(tokens.file_at(place));
+    faults.refuse(file, token.line, tokens.text(token.name), why);
 }
 
-fn refuse_mark(job: Job<'_, '_>, words: Words, why: &str, faults: &mut Faults)
-    ensures silent { SaysNothing faults.new → SaysNothing faults.old }
-    ensures no_mark { SaysNothing faults.new
-        → NoMark job.entry.tokens.now words.from words.to }
+/// Refuses a mark, or all that a macro's call holds, and returns up to where.
+fn refuse_mark(tokens: &Tokens, items: &[Item], place: usize, faults: &mut Faults) -> usize
+    ensures { ¬ SaysNothing faults.new }
 {
-    if let Some(place) = first_mark(job.tokens, words) {
-        refuse(job, job.tokens.at(place), why, faults);
+    for item in items {
+        if item.inside.from <= place && place < item.inside.to {
+            refuse(tokens, item.words.from, IN_MACRO, faults);
+            return item.inside.to;
+        }
     }
+    refuse(tokens, place, ALMOST, faults);
+    place
 }
 
-/// Whether the call of a macro holds something marked; rules only by comments.
-fn holds_mark(job: Job<'_, '_>, item: &Item) -> bool {
-    let may_derive = matches!(item.kind, ItemKind::Call | ItemKind::Hidden);
-    first_mark(job.tokens, item.inside).is_some()
-        || (may_derive
-            && (is_derived(job.tokens, item.inside, SERIALIZE)
-                || is_derived(job.tokens, item.inside, DESERIALIZE)))
-}
-
-/// Skips what isn't marked: attributes, and the words of a call after them, up to this place.
-fn pass_over(job: Job<'_, '_>, item: &Item, to: usize, faults: &mut Faults)
+/// Refuses the marks among words, of which those up to an end are a declaration's.
+fn refuse_marks(tokens: &Tokens, items: &[Item], words: Words, end: usize, faults: &mut Faults)
     ensures silent { SaysNothing faults.new → SaysNothing faults.old }
-    ensures no_mark { SaysNothing faults.new
-        → NoMark job.entry.tokens.now item.now.attributes.from to }
+    ensures no_mark { SaysNothing faults.new → NoMark tokens.now words.from words.to }
 {
-    let attributes = item.attributes;
-    refuse_mark(job, attributes, ALMOST, faults);
-    if holds_mark(job, item) {
-        return refuse(job, job.tokens.first(item.words), IN_MACRO, faults);
+    let mut told = 0;
+    for place in words.from..words.to {
+        if place < told || !marks(tokens, place) {
+            continue;
+        }
+        if place < end {
+            refuse(tokens, place, IN_WORDS, faults);
+        } else {
+            told = refuse_mark(tokens, items, place, faults);
+        }
     }
-    let from = attributes.to;
-    refuse_mark(job, Words { from, to }, ALMOST, faults);
 }
 
-/// The marked declarations that were read, and what is wrong with others.
-#[derive(Drop)]
-struct Reading {
-    found: Vec<Declaration>,
-    faults: Faults,
+/// Refuses each mark that isn't before one of these declarations.
+fn refuse_others(tokens: &Tokens, items: &[Item], found: &[Declaration], faults: &mut Faults)
+    ensures silent { SaysNothing faults.new → SaysNothing faults.old }
+    ensures declared { SaysNothing faults.new → MarksAreDeclared tokens.now found.now }
+{
+    let mut from = 0;
+    let mut end = 0;
+    for it in found {
+        let to = it.attributes.from;
+        refuse_marks(tokens, items, Words { from, to }, end, faults);
+        from = it.attributes.to;
+        end = it.words.to;
+    }
+    let to = tokens.all.len();
+    refuse_marks(tokens, items, Words { from, to }, end, faults);
 }
 
-impl Reading {
-    /// Keeps a declaration, with the item that it is, the words after its attributes, and what is wrong with it.
-    fn keep(&mut self, item: &Item, mut declaration: Declaration, words: Words, wrong: Faults)
-        ensures silent { SaysNothing self.new.faults → SaysNothing self.old.faults }
-        ensures kept { SaysNothing self.new.faults → AddsDeclaration self.old.found.items
-            self.new.found.items item.now.attributes words }
-    {
-        declaration.item = item.place;
-        declaration.attributes = item.attributes;
-        declaration.words = words;
-        declaration.wrong = wrong.apart_from(&mut self.faults);
-        self.faults.note(self.found.push(declaration).is_err());
-    }
-
-    /// Reads an item of a file that is read up to a place, and ends at another: skips it, or takes a declaration up to its body or
-    /// a semicolon, and these. Returns up to where it is read then. What is wrong with a declaration is kept with it.
-    fn read_item(&mut self, job: Job<'_, '_>, item: &Item, place: usize, end: usize) -> usize
-        ensures silent { SaysNothing self.new.faults → SaysNothing self.old.faults }
-        ensures within { place ≤ end → result ≤ end }
-        ensures stands { SaysNothing self.new.faults
-            → Accounts job.entry.tokens.now self.old.found.items place
-            → Accounts job.entry.tokens.now self.new.found.items result }
-    {
-        let attributes = item.attributes;
-        // what a declaration has taken isn't read anew
-        if attributes.from < place || attributes.to < attributes.from || end < attributes.to {
-            return place;
-        }
-        let to = attributes.from;
-        refuse_mark(job, Words { from: place, to }, ALMOST, &mut self.faults);
-        let marking = Marking::of(job.tokens, attributes);
-        if !marking.is_meant() {
-            let passed = attributes.to.saturating_add(item.passed()).min(end);
-            pass_over(job, item, passed, &mut self.faults);
-            return passed;
-        }
-        let from = attributes.to;
-        let body = job.tokens.type_up_to(Words { from, to: end }, BODY);
-        let to = job.tokens.behind(body).from.min(end).max(from);
-        let words = Words { from, to };
-        let mut parser = Parser::new(job, marking, attributes, words);
-        let declaration = parser.declaration(attributes);
-        refuse_mark(job, words, IN_WORDS, &mut self.faults);
-        self.keep(item, declaration, words, parser.at.faults);
-        to
-    }
-
-    /// Reads the declarations of a file with these words and items, after those of others.
-    fn add_file(&mut self, job: Job<'_, '_>, items: &[Item], words: Words)
-        ensures silent { SaysNothing self.new.faults → SaysNothing self.old.faults }
-        ensures accounts { SaysNothing self.new.faults → words.from ≤ words.to
-            → Accounts job.entry.tokens.now self.old.found.items words.from
-            → Accounts job.entry.tokens.now self.new.found.items words.to }
-    {
-        if let Some(file) = job.tokens.files.get(job.file) {
-            self.faults.put(file.faults.as_str());
-        }
-        if let Some(name) = renamed_derive(job.tokens, words) {
-            refuse(job, name, RENAMES, &mut self.faults);
-        }
-        let mut place = words.from;
-        for item in items {
-            place = self.read_item(job, item, place, words.to);
-        }
-        let left = Words {
-            from: place,
-            ..words
-        };
-        refuse_mark(job, left, ALMOST, &mut self.faults);
-    }
+/// Whether the call of a macro holds one of serde's derives, and no comment that marks, which is found with the others.
+fn holds_derive(tokens: &Tokens, call: &Item) -> bool {
+    matches!(call.kind, ItemKind::Call | ItemKind::Hidden)
+        && !tokens.has_word(call.inside, Word::Mark)
+        && (is_derived(tokens, call.inside, SERIALIZE)
+            || is_derived(tokens, call.inside, DESERIALIZE))
 }
 
 /// Says that nothing is marked, if there is nothing else to say.
@@ -177,6 +110,91 @@ fn refuse_nothing(tokens: &Tokens, finds_none: bool, faults: &mut Faults)
     faults.put("nothing is marked: write `// message` in a line of its own before a declaration\n");
 }
 
+/// The marked declarations that were read, and what is wrong with others.
+#[derive(Drop)]
+struct Reading {
+    found: Vec<Declaration>,
+    /// The place after the last of them.
+    end: usize,
+    faults: Faults,
+}
+
+impl Reading {
+    /// Adds what is wrong with the comments and texts of files, and with the names of derives.
+    fn add_files(&mut self, tokens: &Tokens)
+        ensures found { self.new.found ≡ self.old.found }
+        ensures end { self.new.end ≡ self.old.end }
+    {
+        for file in &tokens.files {
+            self.faults.put(file.faults.as_str());
+            if let Some(place) = renamed_derive(tokens, file.words) {
+                refuse(tokens, place, RENAMES, &mut self.faults);
+            }
+        }
+    }
+
+    /// Keeps a declaration that follows the others.
+    fn keep(&mut self, it: Declaration)
+        ensures { AreInOrder 0 self.old.found.items self.old.end
+            → AreInOrder 0 self.new.found.items self.new.end }
+    {
+        let (attributes, words) = (it.attributes, it.words);
+        if self.end <= attributes.from
+            && attributes.from <= attributes.to
+            && attributes.to == words.from
+            && words.from <= words.to
+        {
+            match self.found.push(it) {
+                Ok(()) => self.end = words.to,
+                Err(_) => self.faults.note(true),
+            }
+        }
+    }
+
+    /// Reads an item of a file that ends at a place: a declaration, if it is marked, up to its body or a semicolon. What is wrong
+    /// with a declaration is kept with it.
+    fn read_item(&mut self, job: Job<'_, '_>, item: &Item, to: usize)
+        ensures { AreInOrder 0 self.old.found.items self.old.end
+            → AreInOrder 0 self.new.found.items self.new.end }
+    {
+        let (tokens, attributes) = (job.tokens, item.attributes);
+        // what a declaration has taken isn't read anew
+        if attributes.from < self.end {
+            return;
+        }
+        let marking = Marking::of(tokens, attributes);
+        if !marking.is_meant() {
+            if holds_derive(tokens, item) {
+                refuse(tokens, item.words.from, IN_MACRO, &mut self.faults);
+            }
+            return;
+        }
+        let from = attributes.to;
+        let body = tokens.type_up_to(Words { from, to }, BODY);
+        let to = tokens.behind(body).from;
+        let words = Words { from, to };
+        let mut parser = Parser::new(job, marking, attributes, words);
+        let mut declaration = parser.declaration(attributes);
+        declaration.item = item.place;
+        declaration.words = words;
+        declaration.wrong = parser.at.faults.apart_from(&mut self.faults);
+        self.keep(declaration);
+    }
+
+    /// Reads the items of files.
+    fn read_items(&mut self, job: Job<'_, '_>, walk: &Walk<'_>)
+        ensures { AreInOrder 0 self.old.found.items self.old.end
+            → AreInOrder 0 self.new.found.items self.new.end }
+    {
+        for item in &walk.items {
+            let file = walk.file_of(item);
+            if let Some(it) = job.tokens.files.get(file) {
+                self.read_item(Job { file, ..job }, item, it.words.to);
+            }
+        }
+    }
+}
+
 /// What files declare.
 #[derive(Drop)]
 pub struct AllDeclared<'a> {
@@ -188,41 +206,38 @@ pub struct AllDeclared<'a> {
     pub faults: String,
 }
 
-/// Returns what files declare.
+/// Returns what files declare, in order.
 ///
-/// If nothing is wrong, each token of the files is in a declaration, or was skipped and is no mark.
+/// If nothing is wrong, each mark is before a declaration.
 pub fn declarations(
     alloc: Global,
     purpose: Purpose,
     tokens: &Tokens,
 ) -> Result<AllDeclared<'_>, AllocError>
-    ensures accounted { IfOk result (λ r. string_bytes r.faults ≡ []
-        → AreDeclaredIn tokens.now r.all.items 0 (end_of tokens.now.files.items)) }
+    ensures in_order { IfOk result (λ r. (end : ℕ) × AreInOrder 0 r.all.items end) }
+    ensures declared { IfOk result (λ r. string_bytes r.faults ≡ []
+        → MarksAreDeclared tokens.now r.all.items) }
 {
-    let mut walk = Walk::new(alloc, tokens);
+    let by_hand = Implemented::all(alloc, tokens)?;
     let mut reading = Reading {
         found: Vec::new(alloc),
+        end: 0,
         faults: Faults::new(alloc),
     };
-    let by_hand = Implemented::all(alloc, tokens)?;
-    let mut from = 0;
-    for (place, file) in tokens.files.iter().enumerate() {
-        let to = file.words.to.max(from);
-        let words = Words { from, to };
-        let before = walk.items.len();
-        walk.read_file(words);
-        let job = Job {
-            alloc,
-            purpose,
-            tokens,
-            file: place,
-            by_hand: &by_hand,
-        };
-        reading.add_file(job, walk.items.get(before..).unwrap_or(&[]), words);
-        from = to;
-    }
-    reading.faults.note(walk.failed);
-    refuse_nothing(tokens, reading.found.is_empty(), &mut reading.faults);
-    let (all, faults) = (reading.found, reading.faults.finished()?);
+    reading.add_files(tokens);
+    let walk = Walk::of(alloc, tokens);
+    let job = Job {
+        alloc,
+        purpose,
+        tokens,
+        file: 0,
+        by_hand: &by_hand,
+    };
+    reading.read_items(job, &walk);
+    let (all, mut faults) = (reading.found, reading.faults);
+    refuse_others(tokens, &walk.items, &all, &mut faults);
+    faults.note(walk.failed);
+    refuse_nothing(tokens, all.is_empty(), &mut faults);
+    let faults = faults.finished()?;
     Ok(AllDeclared { all, walk, faults })
 }

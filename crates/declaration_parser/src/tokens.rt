@@ -12,14 +12,16 @@ pub const SERIALIZE: Name = 1;
 
 pub const DESERIALIZE: Name = 2;
 
+pub const DOLLAR: Name = 3;
+
 /// The texts that are compared, in the order of their names, and which words they are.
 const WORDS: &[(&str, Word)] = &[
     ("", Word::Other),
     ("Serialize", Word::OfSerde),
     ("Deserialize", Word::OfSerde),
+    ("$", Word::Dollar),
     ("!", Word::Not),
     ("#", Word::Hash),
-    ("$", Word::Dollar),
     ("&", Word::And),
     ("*", Word::Star),
     (",", Word::Comma),
@@ -262,6 +264,16 @@ impl Tokens {
             Some(file) => file.name.as_str(),
             None => "",
         }
+    }
+
+    /// The file of the token at a place, by its own place.
+    pub fn file_at(&self, place: usize) -> usize {
+        for (index, file) in self.files.iter().enumerate() {
+            if place < file.words.to {
+                return index;
+            }
+        }
+        self.files.len()
     }
 
     /// The token at a place.

@@ -1,74 +1,73 @@
 //! Types that are written by hand where they aren't derived: on one side, or under a condition.
 use super::Parser;
-use crate::faults::Faults;
-use crate::tokens::{DESERIALIZE, Name, SERIALIZE, Tokens, Word, Words};
+use crate::tokens::{DESERIALIZE, DOLLAR, Name, SERIALIZE, Tokens, Word, Words};
 use crate::words::BY_HAND;
 use std::alloc::{AllocError, Global};
 
-/// One of serde's traits, all its names, and the types of files that implement it by hand.
+/// One of serde's traits, all its names, and the names that files implement it for by hand.
 #[derive(Drop)]
 pub struct Implemented {
     name: Name,
     names: Vec<Name>,
-    /// Of each name whether it is such a type's.
+    /// Of each name whether it is such a one. If that of `$` is, macros implement the trait for what they are handed.
     types: Vec<bool>,
-    /// Whether macros implement it: then each name that a macro is handed may be such a type.
-    is_by_macros: bool,
     /// Whether something was found since this was last asked.
     is_more: bool,
+}
+
+/// All names of one of serde's traits: its own, and those that a `use` gives it.
+fn names_of(alloc: Global, name: Name, tokens: &Tokens) -> Result<Vec<Name>, AllocError> {
+    let mut names = Vec::new(alloc);
+    names.push(name)?;
+    for place in 0..tokens.all.len() {
+        let (by, other) = (
+            tokens.at(place.saturating_add(1)),
+            tokens.at(place.saturating_add(2)),
+        );
+        if tokens.at(place).name == name && matches!(by.word, Word::As) {
+            names.push(other.name)?;
+        }
+    }
+    Ok(names)
 }
 
 impl Implemented {
     /// What files implement by hand of `Serialize`, and of `Deserialize`, so that each file is read once for all types.
     pub fn all(alloc: Global, tokens: &Tokens) -> Result<Vec<Implemented>, AllocError> {
         let mut all = Vec::new(alloc);
-        for name in [SERIALIZE, DESERIALIZE] {
-            let found = Implemented::of(alloc, name, tokens)?;
-            all.push(found)?;
-        }
+        all.push(Implemented::of(alloc, SERIALIZE, tokens)?)?;
+        all.push(Implemented::of(alloc, DESERIALIZE, tokens)?)?;
         Ok(all)
     }
 
-    /// The types of files that implement a trait of this name. An item may name what another one declares, so all are gone
-    /// over while more is found.
+    /// The types that implement a trait of this name. An item may name what another one declares, so all are gone over while more
+    /// is found.
     fn of(alloc: Global, name: Name, tokens: &Tokens) -> Result<Implemented, AllocError> {
         let mut found = Implemented {
             name,
-            names: Vec::new(alloc),
-            types: Vec::new(alloc),
-            is_by_macros: false,
+            names: names_of(alloc, name, tokens)?,
+            types: vec![in alloc; false; tokens.texts.len()]?,
             is_more: true,
         };
-        found.names.push(name)?;
-        found.types.resize(tokens.texts.len(), false)?;
-        for _ in 0..u32::MAX {
-            if !found.is_more {
-                break;
-            }
-            found.is_more = false;
-            for file in &tokens.files {
-                found.add_file(tokens, file.words)?;
-            }
+        for _ in &tokens.texts {
+            found.add_more(tokens);
         }
         Ok(found)
     }
 
-    /// Adds the types that are found at each word of a file.
-    fn add_file(&mut self, tokens: &Tokens, words: Words) -> Result<(), AllocError> {
-        let mut rest = words;
-        for _ in 0..words.len() {
-            let types = self.found_at(tokens, rest)?;
-            self.add(tokens, types);
-            rest = rest.behind_first();
+    /// Adds the types that are found at each word, if there may be more.
+    fn add_more(&mut self, tokens: &Tokens) {
+        let to = if self.is_more { tokens.all.len() } else { 0 };
+        self.is_more = false;
+        for from in 0..to {
+            self.add(tokens, self.found_at(tokens, Words { from, to }));
         }
-        Ok(())
     }
 
     /// Adds these names of types.
     fn add(&mut self, tokens: &Tokens, types: Words) {
-        for count in 0..types.len() {
-            let name = tokens.nth(types, count).name;
-            if let Some(it) = self.types.get_mut(name)
+        for place in types.from..types.to {
+            if let Some(it) = self.types.get_mut(tokens.at(place).name)
                 && !*it
             {
                 *it = true;
@@ -78,56 +77,38 @@ impl Implemented {
     }
 
     /// The names of types that the words at the start say: another name of one that was found, what a macro is handed, or what an
-    /// `impl` is for. Another name of the trait is added.
-    fn found_at(&mut self, tokens: &Tokens, words: Words) -> Result<Words, AllocError> {
+    /// `impl` is for.
+    fn found_at(&self, tokens: &Tokens, words: Words) -> Words {
         let rest = words.behind_first();
         let next = tokens.first(rest);
-        Ok(match (tokens.front(words), next.word) {
-            (_, Word::As) => {
-                let name = tokens.nth(words, 2).name;
-                if tokens.first(words).name == self.name && !self.names.contains(&name) {
-                    self.names.push(name)?;
-                    self.is_more = true;
-                }
-                if self.has(name) {
-                    words.before(rest)
-                } else {
-                    Words::default()
-                }
-            }
-            (_, Word::Not) => {
-                // one of another crate may implement it by its name
-                self.note_macro(tokens.first_text(words).contains("serialize"));
-                if self.is_by_macros {
-                    tokens.held(rest)
-                } else {
-                    Words::default()
-                }
-            }
+        match (tokens.front(words), next.word) {
+            (_, Word::As) if self.has(tokens.nth(words, 2).name) => words.before(rest),
+            (_, Word::Not) if self.is_handed(tokens, words) => tokens.held(rest),
             (Word::Alias, _) if self.has(next.name) => {
                 rest.before(tokens.up_to(rest, &[Word::Semicolon]))
             }
             (Word::Implementation, _) => self.implementing(tokens, words),
             _ => Words::default(),
-        })
+        }
+    }
+
+    /// Whether a macro may implement the trait for what it is handed: one of another crate may say so by its name.
+    fn is_handed(&self, tokens: &Tokens, words: Words) -> bool {
+        self.has(DOLLAR) || tokens.first_text(words).contains("serialize")
     }
 
     /// The names that the `impl` at the start is for, if it is of this trait: of a type, all of the path that leads to it.
-    fn implementing(&mut self, tokens: &Tokens, words: Words) -> Words {
+    fn implementing(&self, tokens: &Tokens, words: Words) -> Words {
         let whole = words.before(tokens.type_up_to(words, &[Word::Brace, Word::Semicolon]));
         let of = tokens.type_up_to(whole, &[Word::For]);
-        let named = tokens.type_up_to_name(whole.before(of), &self.names);
-        if named.is_empty() {
+        if tokens
+            .type_up_to_name(whole.before(of), &self.names)
+            .is_empty()
+        {
             return Words::default();
         }
-        self.note_macro(tokens.has_word(of, Word::Dollar));
         let path = of.behind_first();
         path.before(tokens.up_to(path, &[Word::Less, Word::Where]))
-    }
-
-    fn note_macro(&mut self, is_by_macro: bool) {
-        self.is_more = self.is_more || (is_by_macro && !self.is_by_macros);
-        self.is_by_macros = self.is_by_macros || is_by_macro;
     }
 
     /// Whether a type of this name was found.
