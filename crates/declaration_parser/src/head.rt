@@ -24,15 +24,6 @@ pub struct Marking {
     pub other: Option<Token>,
 }
 
-/// Whether a word of a comment that marks is one of serde's derives, and which.
-fn side_of(word: &str) -> Option<bool> {
-    match word {
-        "Serialize" => Some(true),
-        "Deserialize" => Some(false),
-        _ => None,
-    }
-}
-
 /// The words after the colon of a comment that marks; without one it marks all.
 fn words_of(comment: &str) -> &str {
     match comment.split_once(':') {
@@ -44,8 +35,9 @@ fn words_of(comment: &str) -> &str {
 /// The first word of a comment that marks nothing.
 pub fn wrong_word(comment: &str) -> Option<&str> {
     for word in words_of(comment).split(',') {
-        if side_of(word.trim()).is_none() {
-            return Some(word.trim());
+        match word.trim() {
+            "Serialize" | "Deserialize" => {}
+            wrong => return Some(wrong),
         }
     }
     None
@@ -82,13 +74,17 @@ impl Marking {
     /// Adds what a comment marks, all if it has no words.
     fn add_comment(&mut self, tokens: &Tokens, mark: Token) {
         for word in words_of(tokens.text(mark.name)).split(',') {
-            if let Some(is_written) = side_of(word.trim()) {
-                self.marks.add(is_written);
-                self.sure.add(is_written);
-                self.is_derived = false;
-            } else if self.wrong.is_none() {
-                self.wrong = Some(mark);
-            }
+            let is_written = match word.trim() {
+                "Serialize" => true,
+                "Deserialize" => false,
+                _ => {
+                    self.wrong = self.wrong.or(Some(mark));
+                    continue;
+                }
+            };
+            self.marks.add(is_written);
+            self.sure.add(is_written);
+            self.is_derived = false;
         }
     }
 

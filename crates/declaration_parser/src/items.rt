@@ -37,7 +37,7 @@ pub struct Scope {
 }
 
 /// What an item is.
-#[derive(Clone, Copy, PartialEq, Eq, Drop)]
+#[derive(Clone, Copy, Default, PartialEq, Eq, Drop)]
 pub enum ItemKind {
     Type,
     Alias,
@@ -51,11 +51,12 @@ pub enum ItemKind {
     Call,
     Hidden,
     /// What declares no name, after attributes.
+    #[default]
     Other,
 }
 
 /// An item.
-#[derive(Clone, Copy, Drop)]
+#[derive(Clone, Copy, Default, Drop)]
 pub struct Item {
     /// Its place among all items of all files.
     pub place: usize,
@@ -179,12 +180,9 @@ impl<'a> Walk<'a> {
         let attributes = tokens.before(words);
         let mut item = Item {
             place: self.items.len(),
-            kind: ItemKind::Other,
             scope: self.scope,
             attributes,
-            is_public: false,
-            words: Words::default(),
-            inside: Words::default(),
+            ..Item::default()
         };
         let rest = self.read_words(&mut item, words);
         if item.kind != ItemKind::Other || !attributes.is_empty() {
@@ -294,12 +292,10 @@ impl<'a> Walk<'a> {
     /// any folder.
     fn add_elsewhere(&mut self, attributes: Words, name: Name) {
         self.add_scope(Kind::Elsewhere, name, 0);
-        let mut rest = attributes;
-        for _ in 0..attributes.len() {
-            if matches!(self.tokens.front(rest), Word::Path) && rest.len() > 2 {
-                self.add_scope(Kind::Elsewhere, self.tokens.nth(rest, 2).name, 0);
+        for place in attributes.from..attributes.to.saturating_sub(2) {
+            if matches!(self.tokens.at(place).word, Word::Path) {
+                self.add_scope(Kind::Elsewhere, self.tokens.at(place + 2).name, 0);
             }
-            rest = rest.behind_first();
         }
     }
 

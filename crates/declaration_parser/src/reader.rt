@@ -5,7 +5,7 @@ ghost use Rattle.declaration_parser.specs.Standing.{EndsInFile};
 use crate::faults::Faults;
 use crate::marks::{is_mark, way_of};
 use crate::texts::{first_letter, is_of_word};
-use crate::tokens::{File, NO_NAME, Name, Token, Tokens, Word, Words, word_by};
+use crate::tokens::{File, Name, Token, Tokens, Word, Words, word_of};
 use crate::words::{ALMOST, ALMOST_WAY};
 use std::alloc::{AllocError, Global};
 use unicode_normalization::to_nfc;
@@ -172,24 +172,29 @@ impl<'a> Reader<'a> {
         let whole = self.rest.lines().next().unwrap_or("");
         self.rest = behind(self.rest, whole.len());
         let comment = whole.trim_end();
-        match (self.is_behind_code, is_mark(comment), way_of(comment)) {
-            (false, true, _) => {
-                let name = self.name_of(comment);
-                self.put(name, Word::Mark, false, self.line);
+        if is_mark(comment) {
+            return if self.is_behind_code {
+                self.refuse(comment, ALMOST)
+            } else {
+                self.put(comment, Some(Word::Mark), self.line)
+            };
+        }
+        let Some((equals, words)) = way_of(comment) else {
+            return;
+        };
+        if !self.is_behind_code {
+            self.put_way(equals, words);
+        } else if !equals.is_empty() {
+            self.refuse(comment, ALMOST_WAY);
+            self.faults.put("\n");
+        }
+    }
+
+    fn put_way(&mut self, equals: &str, words: &str) {
+        for word in ["#", "[", "with", equals, words, "]"] {
+            if !word.is_empty() {
+                self.put(word, None, self.line);
             }
-            (true, true, _) => self.refuse(comment, ALMOST),
-            (false, _, Some((equals, words))) => {
-                for word in ["#", "[", "with", equals, words, "]"] {
-                    if !word.is_empty() {
-                        self.put_text(word, self.line);
-                    }
-                }
-            }
-            (true, _, Some((equals, _))) if !equals.is_empty() => {
-                self.refuse(comment, ALMOST_WAY);
-                self.faults.put("\n");
-            }
-            _ => {}
         }
     }
 
@@ -218,8 +223,7 @@ impl<'a> Reader<'a> {
     fn read_raw(&mut self, raw: &'a str) {
         self.take_to(raw);
         let text = self.take_to(raw.trim_start_matches(is_of_word));
-        let name = self.name_of(text);
-        self.put(name, Word::Raw, true, self.line);
+        self.put(text, Some(Word::Raw), self.line);
     }
 
     /// Reads the text that begins with this `"`, and which one with so many `#` ends.
@@ -228,13 +232,13 @@ impl<'a> Reader<'a> {
         self.take_to(begun);
         let text = self.take_closed(behind_text(begun, wanted));
         self.take_to(behind(self.rest, wanted.unwrap_or(0)));
-        self.put_text(text, line);
+        self.put(text, None, line);
     }
 
     fn read_token(&mut self, rest: &'a str) {
         let line = self.line;
         let text = self.take_to(rest);
-        self.put_text(text, line);
+        self.put(text, None, line);
     }
 
     /// Takes a comment or a text up to this rest; all if nothing ends it, which is refused.
@@ -264,46 +268,52 @@ impl<'a> Reader<'a> {
     }
 
     /// The name of a text. To Rust its letters are one name however their dots and accents are written.
-    fn name_of(&mut self, text: &str) -> Name {
-        let name = if text.is_ascii() || text.starts_with('"') {
-            self.tokens.name_of(self.alloc, text)
-        } else {
-            match to_nfc(self.alloc, text) {
-                Ok(name) => self.tokens.name_of(self.alloc, name.as_str()),
-                Err(_) => Err(AllocError),
-            }
-        };
-        self.faults.note(name.is_err());
-        name.unwrap_or(NO_NAME)
+    fn name_of(&mut self, text: &str) -> Result<Name, AllocError> {
+        if text.is_ascii() || text.starts_with('"') {
+            return self.tokens.name_of(self.alloc, text);
+        }
+        match to_nfc(self.alloc, text) {
+            Ok(name) => self.tokens.name_of(self.alloc, name.as_str()),
+            Err(_) => Err(AllocError),
+        }
     }
 
-    fn put_text(&mut self, text: &str, line: usize) {
-        let name = self.name_of(text);
-        let is_name =
-            matches!(first_letter(text), Some(first) if first.is_alphabetic() || first == '_');
-        self.put(name, word_by(name, text), is_name, line);
+    /// Appends a token: this word, or which one its text is.
+    fn put(&mut self, text: &str, word: Option<Word>, line: usize) {
+        self.is_behind_code = true;
+        let Ok(name) = self.name_of(text) else {
+            return self.faults.note(true);
+        };
+        let first = first_letter(text).unwrap_or(' ');
+        let word = match word {
+            Some(word) => word,
+            None if first == '\'' && !text.ends_with('\'') => Word::Lifetime,
+            None => word_of(name),
+        };
+        self.push(Token {
+            name,
+            word,
+            is_name: first.is_alphabetic() || first == '_',
+            line,
+            span: 0,
+        });
     }
 
     /// Appends a token. One that ends a group says in the one that begins it how many tokens there are.
-    fn put(&mut self, name: Name, word: Word, is_name: bool, line: usize) {
-        self.is_behind_code = true;
+    fn push(&mut self, token: Token) {
         let place = self.tokens.all.len();
-        if matches!(word, Word::Paren | Word::Bracket | Word::Brace) {
-            self.faults.note(self.open.push(place).is_err());
+        match token.word {
+            Word::Paren | Word::Bracket | Word::Brace => {
+                self.faults.note(self.open.push(place).is_err());
+            }
+            Word::Close => {
+                let first = self.open.pop().unwrap_or(place);
+                if let Some(token) = self.tokens.all.get_mut(first) {
+                    token.span = place.saturating_sub(first).saturating_add(1);
+                }
+            }
+            _ => {}
         }
-        if matches!(word, Word::Close)
-            && let Some(first) = self.open.pop()
-            && let Some(token) = self.tokens.all.get_mut(first)
-        {
-            token.span = place.saturating_sub(first).saturating_add(1);
-        }
-        let token = Token {
-            name,
-            word,
-            is_name,
-            line,
-            span: 0,
-        };
         self.faults.note(self.tokens.all.push(token).is_err());
     }
 }

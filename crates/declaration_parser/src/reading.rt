@@ -41,11 +41,13 @@ fn refuse(tokens: &Tokens, place: usize, why: &str, faults: &mut Faults)
 fn refuse_mark(tokens: &Tokens, items: &[Item], place: usize, faults: &mut Faults) -> usize
     ensures { ¬ SaysNothing faults.new }
 {
-    for item in items {
-        if item.inside.from <= place && place < item.inside.to {
-            refuse(tokens, item.words.from, IN_MACRO, faults);
-            return item.inside.to;
-        }
+    let count = items.partition_point(|item| item.attributes.from <= place);
+    if let Some(call) = items.get(count.saturating_sub(1))
+        && call.inside.from <= place
+        && place < call.inside.to
+    {
+        refuse(tokens, call.words.from, IN_MACRO, faults);
+        return call.inside.to;
     }
     refuse(tokens, place, ALMOST, faults);
     place
@@ -94,6 +96,16 @@ fn holds_derive(tokens: &Tokens, call: &Item) -> bool {
             || is_derived(tokens, call.inside, DESERIALIZE))
 }
 
+/// Adds what is wrong with the comments and texts of files, and with the names of derives.
+fn add_files(tokens: &Tokens, faults: &mut Faults) {
+    for file in &tokens.files {
+        faults.put(file.faults.as_str());
+        if let Some(place) = renamed_derive(tokens, file.words) {
+            refuse(tokens, place, RENAMES, faults);
+        }
+    }
+}
+
 /// Says that nothing is marked, if there is nothing else to say.
 fn refuse_nothing(tokens: &Tokens, finds_none: bool, faults: &mut Faults)
     ensures { SaysNothing faults.new → SaysNothing faults.old }
@@ -120,19 +132,6 @@ struct Reading {
 }
 
 impl Reading {
-    /// Adds what is wrong with the comments and texts of files, and with the names of derives.
-    fn add_files(&mut self, tokens: &Tokens)
-        ensures found { self.new.found ≡ self.old.found }
-        ensures end { self.new.end ≡ self.old.end }
-    {
-        for file in &tokens.files {
-            self.faults.put(file.faults.as_str());
-            if let Some(place) = renamed_derive(tokens, file.words) {
-                refuse(tokens, place, RENAMES, &mut self.faults);
-            }
-        }
-    }
-
     /// Keeps a declaration that follows the others.
     fn keep(&mut self, it: Declaration)
         ensures { AreInOrder 0 self.old.found.items self.old.end
@@ -224,7 +223,7 @@ pub fn declarations(
         end: 0,
         faults: Faults::new(alloc),
     };
-    reading.add_files(tokens);
+    add_files(tokens, &mut reading.faults);
     let walk = Walk::of(alloc, tokens);
     let job = Job {
         alloc,

@@ -179,14 +179,6 @@ pub fn word_of(name: Name) -> Word {
     }
 }
 
-/// Which word a text of this name is.
-pub fn word_by(name: Name, text: &str) -> Word {
-    if text.starts_with('\'') && !text.ends_with('\'') {
-        return Word::Lifetime;
-    }
-    word_of(name)
-}
-
 impl Words {
     /// Whether there are none.
     pub fn is_empty(self) -> bool {
@@ -399,8 +391,8 @@ impl Tokens {
 
     /// Whether a name is among words.
     pub fn has_name(&self, words: Words, name: Name) -> bool {
-        for count in 0..words.len() {
-            if self.nth(words, count).name == name {
+        for place in words.from..words.to {
+            if self.at(place).name == name {
                 return true;
             }
         }
@@ -409,8 +401,8 @@ impl Tokens {
 
     /// Whether a word is among words.
     pub fn has_word(&self, words: Words, word: Word) -> bool {
-        for count in 0..words.len() {
-            if self.nth(words, count).word == word {
+        for place in words.from..words.to {
+            if self.at(place).word == word {
                 return true;
             }
         }
