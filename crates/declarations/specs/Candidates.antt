@@ -54,6 +54,8 @@ abbrev pub is_item_of : Space → What → Bool
 is_item_of space.Types it = not (is_constant_item it)
 is_item_of space.Constants it = is_constant_item it
 is_item_of space.Asked it = is_asked_item it
+is_item_of space.Roots it = not (is_constant_item it)
+is_item_of space.Modules it = not (is_constant_item it)
 
 -- whether an item has a name, is what the name is looked for as, and is in one of a step's scopes
 abbrev pub is_candidate : List Scope → Step → ℕ → Space → Item → Bool

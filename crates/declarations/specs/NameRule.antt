@@ -7,8 +7,9 @@ use Rattle.declaration_parser.specs.declared.items.Scope.{Scope}
 use Rattle.declarations.specs.declared.names.What.{What}
 use Rattle.declarations.specs.declared.names.candidates.Space.{Space}
 use Rattle.declarations.specs.declared.names.candidates.Step.{Step}
-use Rattle.declarations.specs.declared.names.rule.Found.{Found}
-use Rattle.declarations.specs.declared.names.rule.Found.TheVariants as found
+use Rattle.declarations.specs.declared.names.candidates.Step.TheVariants as step
+use Rattle.declarations.specs.declared.names.answers.Found.{Found}
+use Rattle.declarations.specs.declared.names.answers.Found.TheVariants as found
 
 -- the candidates of a step among the items of files
 abbrev pub candidates_in : Scopes → Step → ℕ → Space → List Item
@@ -66,3 +67,13 @@ IsOnlyOfAStep files name space (found.Wrong why) = Unit {0}
 IsOnlyOfAStep files name space found.Two = Unit {0}
 IsOnlyOfAStep files name space found.Outside = Unit {0}
 IsOnlyOfAStep files name space found.Not = Unit {0}
+
+-- if an item is answered, it is the only candidate of the scope that is answered with it
+abbrev pub IsOnlyThere : Scopes → ℕ → Space → Found → Type 0
+IsOnlyThere files name space (found.In it scope) =
+    (item : Item) × (candidates_in files (step.Scope scope) name space ≡ item ∷ []) × (item.what ≡ it)
+IsOnlyThere files name space (found.Known other) = Unit {0}
+IsOnlyThere files name space (found.Wrong why) = Unit {0}
+IsOnlyThere files name space found.Two = Unit {0}
+IsOnlyThere files name space found.Outside = Unit {0}
+IsOnlyThere files name space found.Not = Unit {0}

@@ -1,22 +1,23 @@
 //! The names of files: what each module declares, and what a `use` brings into it.
+mod answers;
 mod candidates;
 pub mod folders;
-mod leads;
+mod meaning;
 mod path;
 mod reading;
-mod rule;
 mod uses;
+mod ways;
 
 use crate::known::is_everywhere;
+pub use answers::Found;
 pub use candidates::Space;
 use declaration_parser::declaration::Declaration;
 use declaration_parser::items::{self, Kind, Scope, Walk};
 use declaration_parser::tokens::{NO_NAME, Name, Tokens, Words};
-use leads::Lead;
 pub use path::Path;
-pub use rule::Found;
 use std::alloc::{AllocError, Global};
 use std::collections::BTreeMap;
+use ways::Lead;
 
 /// What a name stands for where it is declared.
 #[derive(Clone, Copy, Drop)]
@@ -53,12 +54,9 @@ struct Import {
     is_crate: bool,
     is_public: bool,
     is_conditional: bool,
-    /// Whether the path begins with the name of a known crate, and the last name stays as it is.
-    is_known: bool,
-    /// Where it leads; one with `*` to what it brings in.
+    /// Whether it brings in a module or a type alone, as `self` does after a path.
+    is_module: bool,
     lead: Lead,
-    /// Whether it may bring in another crate's derive by the name of one of serde's.
-    is_other: bool,
 }
 
 /// The names of files. If memory runs out for one, [`failed`](Scopes::failed) says so.
@@ -73,8 +71,8 @@ pub struct Scopes<'a> {
     marked: BTreeMap<usize, usize>,
     /// Of each name whether it is declared, or brought in from what isn't known.
     named: Vec<bool>,
-    /// The names of modules and of what a `use` brings in, each with its scope, and whether a `use` has it.
-    members: BTreeMap<(Name, usize), bool>,
+    /// The names of items, modules and of what a `use` brings in, each with its scope; no name where a `*` is.
+    members: BTreeMap<(Name, usize), ()>,
     /// From which scope a `*` leads to which others, also by those of others; and from each to itself.
     ways: BTreeMap<(usize, usize), ()>,
     /// The rules of macros, and calls that may declare something.
@@ -131,7 +129,9 @@ impl<'a> Scopes<'a> {
                 it.name = *name;
             }
             let it = self.scope(place);
-            self.failed = self.members.insert((it.name, it.outer), false).is_err() || self.failed;
+            if it.name != NO_NAME {
+                self.add_member(it.name, it.outer);
+            }
             self.failed = self.ways.insert((place, place), ()).is_err() || self.failed;
         }
     }
@@ -177,6 +177,10 @@ impl<'a> Scopes<'a> {
         (own.0, false)
     }
 
+    fn add_member(&mut self, name: Name, scope: usize) {
+        self.failed = self.members.insert((name, scope), ()).is_err() || self.failed;
+    }
+
     /// Notes that a name is declared, or brought in from what isn't known.
     fn note(&mut self, name: Name) {
         if let Some(it) = self.named.get_mut(name) {
@@ -196,12 +200,12 @@ impl<'a> Scopes<'a> {
         !is_taken && is_everywhere(self.tokens.text(name))
     }
 
-    /// Whether a scope has a `use` of this name, perhaps under a condition.
-    fn may_import(&self, scope: usize, name: Name) -> bool {
-        matches!(self.members.get(&(name, scope)), Some(true))
+    fn has_star(&self, scope: usize) -> bool {
+        self.members.contains_key(&(NO_NAME, scope))
     }
 
-    fn has_star(&self, scope: usize) -> bool {
-        self.may_import(scope, NO_NAME)
+    /// Whether a scope is in a module, as a body is.
+    fn is_inner(&self, scope: usize) -> bool {
+        matches!(self.scope(scope).kind, Kind::Body | Kind::Impl)
     }
 }

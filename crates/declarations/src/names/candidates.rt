@@ -12,6 +12,16 @@ pub enum Space {
     Constants,
     /// Types that can be asked for by their names.
     Asked,
+    /// What a path may begin with, and go on with: modules and types; to begin with also crates.
+    Roots,
+    Modules,
+}
+
+impl Space {
+    /// Whether it is of what precedes `::`.
+    pub fn is_way(self) -> bool {
+        matches!(self, Space::Roots | Space::Modules)
+    }
 }
 
 /// A step: the scopes in which a name is looked for.
@@ -57,7 +67,7 @@ fn is_of(item: &Item, space: Space) -> bool
 {
     let is_constant = matches!(item.what, What::Constant(..) | What::RefusedConstant(_));
     match space {
-        Space::Types => !is_constant,
+        Space::Types | Space::Roots | Space::Modules => !is_constant,
         Space::Constants => is_constant,
         Space::Asked => matches!(item.what, What::Marked(_) | What::Alias(_)),
     }

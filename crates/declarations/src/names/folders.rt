@@ -1,6 +1,6 @@
 //! Which file a module has, by the folders that both are in.
-use super::leads::{Lead, both};
-use super::{Kind, NO_NAME, Name, Scopes};
+use super::meaning::Meaning;
+use super::{Kind, Name, Scopes};
 use crate::known::is_known_crate;
 use std::alloc::{AllocError, Global};
 
@@ -93,31 +93,38 @@ impl<'a> Scopes<'a> {
     }
 
     /// The only file of these that a module has for a module of this name.
-    pub(super) fn file_in(&self, module: usize, name: Name) -> Lead {
-        let mut found = Lead::Not;
+    pub(super) fn file_in(&self, module: usize, name: Name) -> Meaning {
+        let mut found = Meaning::Nothing;
         for file in 0..self.tokens.files.len() {
             if self.scope(file).name == name && self.is_file_in(module, file) {
-                found = both(found, Lead::In(file));
+                found = found.both(Meaning::Module(file));
             }
         }
-        if matches!(found, Lead::In(_)) {
-            found
+        if found == Meaning::Doubtful {
+            Meaning::Outside
         } else {
-            Lead::Outside
+            found.or(Meaning::Outside)
         }
     }
 
-    /// Where the name of a crate leads: to the only library whose folder has it.
-    pub(super) fn crate_lead(&self, name: Name) -> Lead {
-        let is_known = is_known_crate(self.tokens.text(name));
-        let mut found = Lead::Not;
+    /// What the name of a crate means: the only library whose folder has it, a known one, or what `extern crate` says.
+    pub(super) fn crate_of(&self, name: Name) -> Meaning {
+        let mut found = Meaning::Nothing;
         for file in 0..self.tokens.files.len() {
             let (_, stem) = parts_of(self.tokens.name_of_file(file));
             if self.scope(file).name == name && stem == "lib" {
-                found = both(found, Lead::In(file));
+                found = found.both(Meaning::Module(file));
             }
         }
-        found.or(if is_known { Lead::Known } else { Lead::Outside })
+        if found == Meaning::Nothing && is_known_crate(self.tokens.text(name)) {
+            found = Meaning::Known(name);
+        }
+        for it in &self.imports {
+            if it.is_crate && it.name == name {
+                found = found.both(it.lead.before);
+            }
+        }
+        found
     }
 
     /// Whether a module may have a file that isn't where the module's name says.
@@ -133,41 +140,41 @@ impl<'a> Scopes<'a> {
     }
 
     /// The module that has a file: doubtful if another may have it too, none if none may.
-    fn parent_of(&self, file: usize) -> Lead {
+    fn parent_of(&self, file: usize) -> Meaning {
         let mut found = if self.is_elsewhere(file) {
-            Lead::Doubtful
+            Meaning::Doubtful
         } else {
-            Lead::Not
+            Meaning::Nothing
         };
         for (place, it) in self.scopes.iter().enumerate() {
             let is_named = it.kind == Kind::Outline && it.name == self.scope(file).name;
             if is_named && self.is_file_in(it.outer, file) {
-                found = both(found, Lead::In(place));
+                found = found.both(Meaning::Module(place));
             }
         }
         match found {
-            Lead::In(place) => Lead::In(self.scope(place).outer),
-            lead => lead,
+            Meaning::Module(place) => Meaning::Module(self.scope(place).outer),
+            found => found,
         }
     }
 
     /// The module round another one, if these files have it.
-    pub(super) fn around_module(&self, module: usize) -> Lead {
+    pub(super) fn around_module(&self, module: usize) -> Meaning {
         let it = self.scope(module);
         let parent = match it.kind {
             Kind::File => self.parent_of(it.file),
-            _ => Lead::In(self.beyond(it.outer, NO_NAME).0),
+            _ => Meaning::Module(self.module_of(it.outer)),
         };
-        if matches!(parent, Lead::In(_)) {
+        if matches!(parent, Meaning::Module(_)) {
             parent
         } else {
-            Lead::Lost
+            Meaning::Lost
         }
     }
 
     /// The root of the crate whose modules lead to a scope: a file by its name, by its folder, or since it is alone and not in a
     /// `src`. Words in no file are taken as those of the only file.
-    pub(super) fn root_of(&self, scope: usize) -> Lead {
+    pub(super) fn root_of(&self, scope: usize) -> Meaning {
         let count = self.tokens.files.len();
         let mut file = if count == 1 {
             0
@@ -179,11 +186,11 @@ impl<'a> Scopes<'a> {
             let is_alone = count == 1 && !is_in_src(folder);
             let may_be_root = is_root(stem) || has_roots(folder) || is_alone;
             match (may_be_root, self.parent_of(file)) {
-                (true, Lead::Not) if file < count => return Lead::In(file),
-                (false, Lead::In(module)) if file < count => file = self.scope(module).file,
+                (true, Meaning::Nothing) if file < count => return Meaning::Module(file),
+                (false, Meaning::Module(module)) if file < count => file = self.scope(module).file,
                 _ => break,
             }
         }
-        Lead::Lost
+        Meaning::Lost
     }
 }

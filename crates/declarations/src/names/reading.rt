@@ -1,5 +1,5 @@
 //! What the items of files declare, and what macros seem to, as far as their rules and calls say.
-use super::leads::Lead;
+use super::meaning::Meaning;
 use super::{Import, Item, Kind, NO_NAME, Name, Scopes, Tokens, What, Words};
 use crate::known::is_everywhere;
 use declaration_parser::items::{self, ItemKind};
@@ -107,6 +107,7 @@ impl<'a> Scopes<'a> {
             is_conditional,
         };
         self.failed = self.items.push(item).is_err() || self.failed;
+        self.add_member(name, scope);
         self.note(name);
     }
 
@@ -218,7 +219,7 @@ impl<'a> Scopes<'a> {
     fn is_imported(&self, scope: usize, name: Name) -> bool {
         for it in &self.imports {
             let may_be = it.is_crate || (it.scope == scope && it.name == name);
-            if may_be && it.leads_out() && !matches!(it.lead, Lead::Known) {
+            if may_be && it.leads_out() && !matches!(it.lead.before, Meaning::Known(_)) {
                 return true;
             }
         }

@@ -1,5 +1,5 @@
 //! What `use` brings into a scope, name by name; and derives from other crates than serde by the names of serde's.
-use super::leads::{Lead, is_start};
+use super::meaning::{Meaning, is_start};
 use super::{Import, NO_NAME, Name, Path, Scopes, Words};
 use crate::known::is_known_crate;
 use declaration_parser::derives::{has_own, has_serdes};
@@ -7,13 +7,6 @@ use declaration_parser::tokens::{DESERIALIZE, SERIALIZE, Word, word_of};
 
 /// What stands for the names of a file that isn't read: no text has this name.
 const INCLUDED: Name = Name::MAX;
-
-impl Import {
-    /// Whether it may bring in modules that aren't in these files.
-    pub(super) fn leads_out(&self) -> bool {
-        !matches!(self.lead, Lead::In(_) | Lead::Type)
-    }
-}
 
 impl<'a> Scopes<'a> {
     /// Adds what a `use` brings in by these words, or an `extern crate`.
@@ -45,6 +38,7 @@ impl<'a> Scopes<'a> {
         if matches!(word_of(last), Word::Own) && import.path.count > 0 {
             import.last = import.path.before();
             import.path.count = import.path.count.saturating_sub(1);
+            import.is_module = true;
         }
         let by = words.behind_first();
         let is_renamed = matches!(self.tokens.front(words), Word::As) && !by.is_empty();
@@ -57,13 +51,12 @@ impl<'a> Scopes<'a> {
         if is_renamed { by.behind_first() } else { words }
     }
 
-    fn put_import(&mut self, mut import: Import) {
-        import.is_known = import.name == import.last
+    fn put_import(&mut self, import: Import) {
+        let is_known = import.name == import.last
             && import.path.count > 0
             && is_known_crate(self.tokens.text(import.path.root()));
-        let member = (import.name, import.scope);
-        self.failed = self.members.insert(member, true).is_err() || self.failed;
-        if !import.is_known {
+        self.add_member(import.name, import.scope);
+        if !is_known {
             self.note(import.name);
         }
         self.failed = self.imports.push(import).is_err() || self.failed;
@@ -78,7 +71,7 @@ impl<'a> Scopes<'a> {
 
     /// Whether a `use` brings in a derive that isn't serde's: by a path that doesn't begin with a crate that has serde's, also by
     /// another name, or end with its name. Of the crates that a `*` may be of some are known to have one.
-    pub(super) fn brings_other(&self, it: &Import) -> bool {
+    fn brings_other(&self, it: &Import) -> bool {
         let root = it.path.first(it.last);
         if it.name == NO_NAME {
             return has_own(self.tokens.text(root));
@@ -86,12 +79,32 @@ impl<'a> Scopes<'a> {
         if !matches!(it.name, SERIALIZE | DESERIALIZE) || !it.leads_out() || is_start(root) {
             return false;
         }
-        let krate = match self.import_of(self.beyond(it.scope, NO_NAME).0, root, true) {
-            Some(by) => by.last,
-            None => root,
-        };
+        let krate = self.crate_by(self.module_of(it.scope), root);
         let is_passed_on = it.path.count > 1 && has_serdes(self.tokens.text(it.path.before()));
         it.last != it.name || !(is_passed_on || has_serdes(self.tokens.text(krate)))
+    }
+
+    /// The name of what a module, or `extern crate`, calls so; or the same name.
+    fn crate_by(&self, module: usize, name: Name) -> Name {
+        for it in &self.imports {
+            let is_there = it.scope == module || it.is_crate;
+            if it.name == name && is_there && (it.path.count > 0 || it.last != name) {
+                return it.last;
+            }
+        }
+        name
+    }
+
+    /// Whether a scope may pass on what another has under a name: it is the other, or `use` leads there.
+    fn may_lead_to(&self, from: usize, place: usize, name: Name) -> bool {
+        for it in &self.imports {
+            let is_way =
+                matches!(it.lead.before, Meaning::Module(next) if self.leads_to(next, place));
+            if is_way && it.name == name {
+                return true;
+            }
+        }
+        self.leads_to(from, place)
     }
 
     /// Whether the derive of this name that a scope has may be another crate's; nothing if no `use` says it. What the scope itself
@@ -100,8 +113,8 @@ impl<'a> Scopes<'a> {
         let mut found = None;
         for it in &self.imports {
             let is_own = it.scope == scope && it.name == derive;
-            let is_other = it.is_other
-                && (it.name == NO_NAME || it.name == derive)
+            let is_other = (it.name == NO_NAME || it.name == derive)
+                && self.brings_other(it)
                 && self.may_lead_to(scope, it.scope, derive);
             match found {
                 _ if is_own && is_other => return Some(true),

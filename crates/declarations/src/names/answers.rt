@@ -1,0 +1,170 @@
+//! What a name is answered as.
+ghost use Rattle.declarations.specs.Candidates.{TellsOnly};
+ghost use Rattle.declarations.specs.NameRule.{IsAnswerOf, IsAnsweredOrPassed, IsNowhereIfNone, IsOnlyOfAStep, IsOnlyThere, candidates_in};
+ghost use Rattle.declarations.specs.declared.names.candidates.Space.TheVariants as space;
+
+use super::candidates::{Only, Space, Step, is_within, only_of};
+use super::folders::module_of_file;
+use super::meaning::{BROUGHT_IN, BY_STAR, Meaning};
+use super::{Item, Kind, NO_NAME, Name, Path, Scopes, What};
+use crate::known::{is_known, is_primitive};
+use declaration_parser::faults::Faults;
+use declaration_parser::texts::is_among;
+
+const UNMARKED: &str =
+    "` isn't declared and marked here: write `// message` before its declaration, if its fields are what is sent";
+
+/// What a name stands for.
+#[derive(Clone, Copy, Drop)]
+pub enum Found {
+    /// What a scope declares.
+    In(What, usize),
+    /// A known type by its own name.
+    Known(Name),
+    /// None, for this reason.
+    Wrong(&'static str),
+    /// One of two things.
+    Two,
+    /// What leads out of the files.
+    Outside,
+    Not,
+}
+
+/// What an item is answered as: what it is, unless it isn't taken.
+fn found_as(item: &Item) -> Found
+    ensures { IsAnswerOf item.now result }
+{
+    match item.what {
+        What::Unmarked => Found::Wrong(UNMARKED),
+        What::Refused(why) | What::RefusedConstant(why) => Found::Wrong(why),
+        what => Found::In(what, item.scope),
+    }
+}
+
+impl<'a> Scopes<'a> {
+    /// The candidates of a step.
+    pub(super) fn only(&self, step: Step, name: Name, space: Space) -> Only
+        ensures only { TellsOnly result (candidates_in self.now step name space) }
+    {
+        only_of(&self.items, &self.scopes, step, name, space)
+    }
+
+    /// What a name stands for where a scope uses it.
+    pub fn find(&self, scope: usize, name: Name, space: Space) -> Found
+        ensures only { IsOnlyThere self.now name space result }
+        ensures own { IsAnsweredOrPassed
+            (candidates_in self.now (Step.Scope scope) name space) result }
+        ensures last { IsNowhereIfNone (candidates_in self.now Step.All name space) result }
+    {
+        let meaning = self.seen(scope, name, space);
+        match (self.only(Step::Scope(scope), name, space), meaning) {
+            (Only::Nothing, meaning) => self.answered(meaning, name, space),
+            (Only::One(item), Meaning::Item(place)) if place == scope => found_as(&item),
+            (_, Meaning::Wrong(why)) => Found::Wrong(why),
+            _ => Found::Two,
+        }
+    }
+
+    /// What a name is answered as that means this.
+    fn answered(&self, meaning: Meaning, name: Name, space: Space) -> Found
+        ensures only { IsOnlyThere self.now name space result }
+        ensures last { IsNowhereIfNone (candidates_in self.now Step.All name space) result }
+    {
+        match meaning {
+            Meaning::Item(place) => match self.only(Step::Scope(place), name, space) {
+                Only::One(item) => found_as(&item),
+                _ => Found::Two,
+            },
+            Meaning::Known(known) => Found::Known(known),
+            Meaning::Module(_) if is_primitive(self.tokens.text(name)) => Found::Known(name),
+            Meaning::Module(_) => Found::Wrong(
+                "` is a module here: write the type that is on the wire",
+            ),
+            Meaning::Outside | Meaning::Lost => Found::Wrong(BROUGHT_IN),
+            Meaning::Open => Found::Wrong(BY_STAR),
+            Meaning::Wrong(why) => Found::Wrong(why),
+            Meaning::Doubtful => Found::Two,
+            Meaning::Nothing => match self.only(Step::All, name, space) {
+                Only::Nothing if space == Space::Types && is_known(self.tokens.text(name)) =>
+                    Found::Known(name),
+                Only::Nothing => Found::Not,
+                _ => Found::Wrong(BY_STAR),
+            },
+        }
+    }
+
+    /// What the last name of a path stands for, which a scope uses.
+    pub fn find_by_path(&self, scope: usize, path: &Path, name: Name, space: Space) -> Found
+        ensures only { IsOnlyThere self.now name space result }
+    {
+        let before = self.way(scope, path, name);
+        match (before, self.next(before, name, space)) {
+            (Meaning::Module(_), Meaning::Nothing) => Found::Wrong(
+                "` isn't declared in the module that its path names: name the file of its declaration too",
+            ),
+            (Meaning::Module(_) | Meaning::Wrong(_), meaning) => self.answered(
+                meaning, name, space,
+            ),
+            (Meaning::Known(_), _) => Found::Known(name),
+            (Meaning::Open | Meaning::Doubtful, _) => Found::Two,
+            _ => Found::Outside,
+        }
+    }
+
+    /// What a name that is asked for stands for: a marked type or an alias, outside of bodies if there is one.
+    pub fn find_asked(&self, path: &Path, name: Name) -> Found
+        ensures only { IsOnlyOfAStep self.now name space.Asked result }
+    {
+        let named = Step::Module(path.before());
+        for step in [Step::All, Step::Bodies] {
+            // a path leads into no body
+            let step = if path.count > 0 { named } else { step };
+            match self.only(step, name, Space::Asked) {
+                Only::Nothing => {}
+                Only::One(item) => return found_as(&item),
+                Only::Two => return Found::Two,
+            }
+        }
+        Found::Not
+    }
+
+    /// Appends the paths of what a name may stand for, each once.
+    pub fn put_paths(&self, faults: &mut Faults, name: Name) {
+        let mut before = ", as in `";
+        let mut last = "";
+        for item in &self.items {
+            if item.name != name || !is_within(&self.scopes, Step::All, item.scope) {
+                continue;
+            }
+            let it = self.scope(item.scope);
+            let module = match it.kind {
+                Kind::File => module_of_file(self.tokens.name_of_file(it.file)),
+                _ => self.tokens.text(it.name),
+            };
+            if !module.is_empty() && module != last {
+                faults.put_all(&[before, module, "::", self.tokens.text(name), "`"]);
+                before = " or `";
+                last = module;
+            }
+        }
+    }
+
+    /// Whether these files have a module of this name, or a crate by its folder.
+    pub fn has_module(&self, name: Name) -> bool {
+        self.has_namesake(name, true)
+    }
+
+    /// Whether the first name of a path leads to one of these crates, or out of the files, and no `use` says otherwise.
+    pub fn is_foreign(&self, scope: usize, root: Name, crates: &[&str]) -> bool {
+        let file = self.file_of(scope);
+        for it in &self.imports {
+            let is_there = it.is_crate || self.file_of(it.scope) == file;
+            let is_one = it.last == root && is_among(self.tokens.text(it.path.first(root)), crates);
+            if root != NO_NAME && it.name == root && is_there && !is_one {
+                return false;
+            }
+        }
+        let meaning = self.seen(scope, root, Space::Roots);
+        matches!(meaning, Meaning::Known(_) | Meaning::Outside)
+    }
+}

@@ -1,0 +1,435 @@
+//! What a name may mean: everything that Rust could take it for. It is taken only if that is one thing.
+use super::candidates::{Only, Space, Step, is_within};
+use super::{Kind, NO_NAME, Name, Path, Scopes};
+use crate::known::{is_everywhere, is_known, sent_as};
+use declaration_parser::tokens::{Word, word_of};
+
+// What is said after a name that isn't taken.
+pub(super) const BROUGHT_IN: &str =
+    "` is brought in by a `use`: name the file of its declaration too, or write the type that is on the wire";
+
+pub(super) const BY_STAR: &str =
+    "` may be what a `use` with `*` or a macro brings in: write its whole path, or name the file of its declaration too";
+
+const AT_TIMES: &str =
+    "` stands under a condition, without which it is another: call it otherwise, or leave that one out";
+
+const MODULE_AT_TIMES: &str =
+    "` is in a module that stands under a condition: write `self::` or `crate::` before its path";
+
+pub(super) const RENAMED: &str =
+    "` is another name that a `use` gives: write the name of the declaration, with its module before it";
+
+const HANDED: &str =
+    "` may be made by a macro that its module hands it to: write its path, or a `use` of it";
+
+/// All that a name may mean.
+#[derive(Clone, Copy, Default, PartialEq, Eq, Drop)]
+pub(super) enum Meaning {
+    Nothing,
+    /// The module at this place.
+    Module(usize),
+    /// The declaration of the name in this scope.
+    Item(usize),
+    /// What a known crate has by this name, or that crate.
+    Known(Name),
+    #[default]
+    Outside,
+    /// What a `*` may bring in that leads out of the files.
+    Open,
+    /// A module that these files don't have round the one that uses it.
+    Lost,
+    /// Not to be taken, for this reason.
+    Wrong(&'static str),
+    /// More than one thing.
+    Doubtful,
+}
+
+impl Meaning {
+    /// What a name means that may mean either. What isn't known may be two things.
+    pub(super) fn both(self, other: Meaning) -> Meaning {
+        match (self, other) {
+            (Meaning::Nothing, it) | (it, Meaning::Nothing) => it,
+            _ if self.is_one() && other.is_one() && self == other => self,
+            (Meaning::Open, Meaning::Open) => self,
+            (it, Meaning::Open) | (Meaning::Open, it) if it.is_one() => Meaning::Wrong(BY_STAR),
+            _ => Meaning::Doubtful,
+        }
+    }
+
+    /// Whether it is one thing that is known.
+    fn is_one(self) -> bool {
+        matches!(
+            self,
+            Meaning::Module(_) | Meaning::Item(_) | Meaning::Known(_)
+        )
+    }
+
+    /// What a name means that means this if nothing else.
+    pub(super) fn or(self, other: Meaning) -> Meaning {
+        match self {
+            Meaning::Nothing => other,
+            it => it,
+        }
+    }
+}
+
+impl<'a> Scopes<'a> {
+    /// The module round a body; of others the scope itself.
+    pub(super) fn module_of(&self, scope: usize) -> usize {
+        let mut at = scope;
+        for _ in 0..self.scopes.len() {
+            if !self.is_inner(at) {
+                break;
+            }
+            at = self.scope(at).outer;
+        }
+        at
+    }
+
+    /// What a name means that may not be there without a condition, and may then mean another. The first name of a path may be a
+    /// crate's.
+    fn at_times(&self, scope: usize, name: Name, space: Space, found: Meaning) -> Meaning {
+        let is_root = space == Space::Roots;
+        let may_differ = self.has(name)
+            && (is_known(self.tokens.text(name))
+                || self.is_inner(scope)
+                || self.has_star(scope)
+                || self.is_handed(scope, name));
+        match found {
+            Meaning::Module(_) if is_root => Meaning::Wrong(MODULE_AT_TIMES),
+            _ if found.is_one() && (is_root || may_differ) => Meaning::Wrong(AT_TIMES),
+            _ => found,
+        }
+    }
+
+    /// What a scope declares under a name, and whether under a condition.
+    fn declared(&self, scope: usize, name: Name, space: Space) -> (Meaning, bool) {
+        let (item, is_conditional) = match self.only(Step::Scope(scope), name, space) {
+            Only::Nothing => (Meaning::Nothing, false),
+            Only::One(it) => (Meaning::Item(scope), it.is_conditional),
+            Only::Two => (Meaning::Doubtful, false),
+        };
+        if space == Space::Constants {
+            return (item, is_conditional);
+        }
+        let (module, is_at_times) = self.module_in(scope, name);
+        (item.both(module), is_conditional || is_at_times)
+    }
+
+    /// The module of a name that a scope declares, and whether under a condition.
+    fn module_in(&self, scope: usize, name: Name) -> (Meaning, bool) {
+        let (mut found, mut is_conditional) = (Meaning::Nothing, false);
+        for (place, it) in self.scopes.iter().enumerate() {
+            if it.outer != scope || it.name != name {
+                continue;
+            }
+            found = found.both(match it.kind {
+                Kind::Module => Meaning::Module(place),
+                Kind::Outline => self.file_in(scope, name),
+                Kind::Misnamed => Meaning::Wrong(BROUGHT_IN),
+                _ => Meaning::Nothing,
+            });
+            is_conditional = is_conditional || it.kind == Kind::Conditional;
+        }
+        (found, is_conditional)
+    }
+
+    /// What a scope declares or brings in under a name.
+    pub(super) fn own(&self, scope: usize, name: Name, space: Space) -> Meaning {
+        if !self.members.contains_key(&(name, scope)) || name == NO_NAME {
+            return Meaning::Nothing;
+        }
+        let (mut found, mut is_conditional) = self.declared(scope, name, space);
+        for it in &self.imports {
+            if it.scope == scope && it.name == name {
+                found = found.both(it.meaning(space));
+                is_conditional = is_conditional || (it.is_conditional && !it.is_crate);
+            }
+        }
+        if is_conditional {
+            return self.at_times(scope, name, space, found);
+        }
+        found
+    }
+
+    /// The same where the name is used alone: a macro may make it there, and a `use` mayn't rename it.
+    fn own_or_made(&self, scope: usize, name: Name, space: Space) -> Meaning {
+        match self.own(scope, name, space) {
+            found if space.is_way() => found,
+            Meaning::Outside if self.is_renamed(scope, name) => Meaning::Wrong(RENAMED),
+            Meaning::Nothing
+                if !is_everywhere(self.tokens.text(name)) && self.is_handed(scope, name) =>
+                Meaning::Wrong(HANDED),
+            found => found,
+        }
+    }
+
+    /// Whether a `use` of a scope gives this name to what these files declare by another one.
+    fn is_renamed(&self, scope: usize, name: Name) -> bool {
+        for it in &self.imports {
+            if it.scope == scope && it.name == name && it.last != name && !it.leads_out() {
+                return true;
+            }
+        }
+        false
+    }
+
+    /// What those `*` bring into a module that lead to it: what all modules have under a name, if that is one thing.
+    fn by_stars(&self, module: usize, name: Name, space: Space) -> Meaning {
+        let (mut found, mut is_led) = (Meaning::Nothing, false);
+        for ((_, there), ()) in self.members.range((name, 0)..=(name, usize::MAX)) {
+            let is_other = *there != module && is_within(&self.scopes, Step::All, *there);
+            let it = if is_other {
+                self.own(*there, name, space)
+            } else {
+                Meaning::Nothing
+            };
+            is_led = is_led || (it != Meaning::Nothing && self.leads_to(module, *there));
+            found = found.both(it);
+            if found == Meaning::Doubtful {
+                break;
+            }
+        }
+        if matches!(found, Meaning::Item(_) | Meaning::Module(_)) && !is_led {
+            return Meaning::Wrong(BY_STAR);
+        }
+        found
+            .both(self.by_open_stars(module, name, space))
+            .both(self.by_macros(module, name, space))
+    }
+
+    /// What a macro may make under a name in a module, or in those to which `*` lead.
+    fn by_macros(&self, module: usize, name: Name, space: Space) -> Meaning {
+        for call in &self.calls {
+            if self.tokens.has_name(call.inside, name)
+                && self.may_pass_on(module, call.scope, name, space)
+            {
+                return Meaning::Open;
+            }
+        }
+        Meaning::Nothing
+    }
+
+    /// What the first name of a path means by those `*` that lead to it, or out of the files.
+    fn root_by_stars(&self, module: usize, name: Name) -> Meaning {
+        let mut found = self.by_open_stars(module, name, Space::Roots);
+        for ((_, there), ()) in self.members.range((name, 0)..=(name, usize::MAX)) {
+            if *there != module && self.leads_to(module, *there) {
+                found = found.both(self.root_by_star(module, *there, name));
+            }
+        }
+        found
+    }
+
+    /// The first name of a path, which a `*` brings in. What doesn't surround the module it may hide, and a crate have.
+    fn root_by_star(&self, module: usize, there: usize, name: Name) -> Meaning {
+        match self.own(there, name, Space::Roots) {
+            found @ Meaning::Module(_)
+                if self.sees_all_of(module, there)
+                    && self.declared(there, name, Space::Roots).0 == found => found,
+            Meaning::Nothing => Meaning::Nothing,
+            _ => Meaning::Doubtful,
+        }
+    }
+
+    /// Whether a module has a `*` of one that surrounds it, under no condition.
+    fn sees_all_of(&self, module: usize, there: usize) -> bool {
+        for it in &self.imports {
+            let is_star = it.scope == module && it.name == NO_NAME && !it.is_conditional;
+            if is_star && it.lead.before == Meaning::Module(there) {
+                return self.is_round(there, module);
+            }
+        }
+        false
+    }
+
+    fn is_round(&self, outer: usize, module: usize) -> bool {
+        let mut at = module;
+        for _ in 0..self.scopes.len() {
+            match self.around_module(at) {
+                Meaning::Module(next) => at = next,
+                _ => return false,
+            }
+            if at == outer {
+                return true;
+            }
+        }
+        false
+    }
+
+    /// Whether a module has what another one's `*` or macro makes under a name: not if that one has another.
+    fn may_pass_on(&self, module: usize, scope: usize, name: Name, space: Space) -> bool {
+        self.leads_to(module, scope)
+            && (scope == module || self.own(scope, name, space) == Meaning::Nothing)
+    }
+
+    /// What those `*` may bring in that lead out of the files, of a module and of those to which others lead.
+    fn by_open_stars(&self, module: usize, name: Name, space: Space) -> Meaning {
+        let mut found = Meaning::Nothing;
+        for it in &self.imports {
+            if it.name != NO_NAME || !self.may_pass_on(module, it.scope, name, space) {
+                continue;
+            }
+            found = found.both(match it.lead.before {
+                Meaning::Module(_) => Meaning::Nothing,
+                Meaning::Item(_) if space != Space::Constants => Meaning::Nothing,
+                Meaning::Known(_) => self.of_known_crate(name, space),
+                _ => Meaning::Open,
+            });
+        }
+        found
+    }
+
+    /// What a known crate may have under a name.
+    fn of_known_crate(&self, name: Name, space: Space) -> Meaning {
+        let text = self.tokens.text(name);
+        match space {
+            _ if space.is_way() => Meaning::Nothing,
+            Space::Types if is_known(text) && !self.has(name) => Meaning::Known(name),
+            Space::Types if is_known(text) => Meaning::Open,
+            Space::Types if sent_as(text).is_none() => Meaning::Nothing,
+            _ => Meaning::Open,
+        }
+    }
+
+    /// What a name means where a scope uses it: what the scope has, or else what is round it.
+    pub(super) fn seen(&self, scope: usize, name: Name, space: Space) -> Meaning {
+        let is_everywhere = is_everywhere(self.tokens.text(name));
+        let mut at = scope;
+        for _ in 0..=self.scopes.len() {
+            let found = self.own_or_made(at, name, space);
+            let is_inner = self.is_inner(at);
+            match found {
+                Meaning::Nothing if !is_inner => return self.beyond(at, name, space),
+                Meaning::Nothing => {}
+                _ if is_inner && space == Space::Roots => return Meaning::Doubtful,
+                found => return found,
+            }
+            if self.has_star(at) && (self.has(name) || !is_everywhere) {
+                return Meaning::Wrong(BY_STAR);
+            }
+            at = self.scope(at).outer;
+        }
+        Meaning::Doubtful
+    }
+
+    /// What a name means that its module doesn't have: what a `*` brings in, beside a crate, or what every file has.
+    fn beyond(&self, module: usize, name: Name, space: Space) -> Meaning {
+        let is_everywhere = space == Space::Types && is_everywhere(self.tokens.text(name));
+        if is_everywhere && self.has_star(module) && self.has(name) {
+            return Meaning::Wrong(BY_STAR);
+        }
+        if is_everywhere {
+            return Meaning::Known(name);
+        }
+        if space != Space::Roots {
+            return self.by_stars(module, name, space);
+        }
+        match (self.crate_of(name), self.root_by_stars(module, name)) {
+            (Meaning::Nothing, Meaning::Open | Meaning::Doubtful | Meaning::Nothing) =>
+                Meaning::Outside,
+            (it, Meaning::Open) if !self.has_namesake(name, false) => it,
+            (it, found) => it.both(found),
+        }
+    }
+
+    /// What a name means after its module.
+    fn inside(&self, module: usize, name: Name, space: Space) -> Meaning {
+        match self.own(module, name, space) {
+            Meaning::Nothing if space.is_way() => self.root_by_stars(module, name),
+            Meaning::Nothing => self.by_stars(module, name, space),
+            found => found,
+        }
+    }
+
+    /// What the first name of a path means.
+    fn root(&self, scope: usize, name: Name, is_absolute: bool) -> Meaning {
+        let module = self.module_of(scope);
+        match word_of(name) {
+            _ if is_absolute => self.crate_of(name).or(Meaning::Outside),
+            Word::Own => Meaning::Module(module),
+            Word::Super => self.around_module(module),
+            Word::Crate => self.root_of(module),
+            _ => self.seen(scope, name, Space::Roots),
+        }
+    }
+
+    /// What a name means after what precedes it.
+    pub(super) fn next(&self, before: Meaning, name: Name, space: Space) -> Meaning {
+        match (before, word_of(name)) {
+            (Meaning::Module(_), Word::Own) => before,
+            (Meaning::Module(module), Word::Super) => self.around_module(module),
+            (Meaning::Module(_), _) if name == NO_NAME => Meaning::Doubtful,
+            (Meaning::Module(module), _) => self.inside(module, name, space),
+            (Meaning::Known(_), _) if space != Space::Constants => Meaning::Known(name),
+            (Meaning::Known(_) | Meaning::Item(_) | Meaning::Nothing, _) => Meaning::Outside,
+            _ => before,
+        }
+    }
+
+    /// What the names before the last of a path mean; without them, what the last one does.
+    pub(super) fn way(&self, scope: usize, path: &Path, last: Name) -> Meaning {
+        let mut before = path.first(last);
+        let mut found = self.root(scope, before, path.is_absolute);
+        for place in 1..path.count {
+            let name = path.at(place);
+            found = match found {
+                Meaning::Lost => self.only_module(before, name),
+                found => self.next(found, name, Space::Modules),
+            };
+            before = name;
+        }
+        found
+    }
+
+    /// What a name means after a module that these files don't have: the only module of that name.
+    fn only_module(&self, before: Name, name: Name) -> Meaning {
+        let mut found = Meaning::Nothing;
+        for (place, it) in self.scopes.iter().enumerate() {
+            if it.kind == Kind::Misnamed && it.name == name {
+                return Meaning::Wrong(BROUGHT_IN);
+            }
+            if is_within(&self.scopes, Step::Module(name), place) {
+                found = found.both(Meaning::Module(place));
+            }
+        }
+        match (found, self.only(Step::All, name, Space::Types)) {
+            (Meaning::Nothing, Only::Nothing) => Meaning::Lost,
+            (Meaning::Nothing, _) => Meaning::Item(self.scopes.len()),
+            (Meaning::Module(_), _) if self.is_passed_on(name) => Meaning::Doubtful,
+            (Meaning::Module(_), _) if is_start(before) => found,
+            (Meaning::Module(it), _) if self.around_module(it) == Meaning::Lost => found,
+            _ => Meaning::Doubtful,
+        }
+    }
+
+    /// Whether a `use` may make a module of this name one of its own that isn't in these files, or is called otherwise.
+    fn is_passed_on(&self, name: Name) -> bool {
+        for it in &self.imports {
+            let is_renamed = it.name == name && it.last != name;
+            let may_be = it.name == name || (it.name == NO_NAME && it.is_public);
+            if is_renamed || (may_be && it.leads_out()) {
+                return true;
+            }
+        }
+        false
+    }
+
+    /// Whether a module of this name is there, which may be a crate.
+    pub(super) fn has_namesake(&self, name: Name, may_be_crate: bool) -> bool {
+        for place in 0..self.scopes.len() {
+            if is_within(&self.scopes, Step::Module(name), place)
+                && (may_be_crate || self.root_of(place) != Meaning::Module(place))
+            {
+                return true;
+            }
+        }
+        false
+    }
+}
+
+/// Whether a name of a path stands for a module by where it is used.
+pub(super) fn is_start(name: Name) -> bool {
+    matches!(word_of(name), Word::Crate | Word::Own | Word::Super)
+}
