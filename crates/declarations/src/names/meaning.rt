@@ -1,6 +1,6 @@
 //! What a name may mean: everything that Rust could take it for. It is taken only if that is one thing.
 use super::candidates::{Only, Space, Step, is_within};
-use super::{Kind, NO_NAME, Name, Path, Scopes};
+use super::{Import, Kind, NO_NAME, Name, Path, Scopes};
 use crate::known::{is_everywhere, is_known, sent_as};
 use declaration_parser::tokens::{Word, word_of};
 
@@ -175,28 +175,31 @@ impl<'a> Scopes<'a> {
         false
     }
 
-    /// What those `*` bring into a module that lead to it: what all modules have under a name, if that is one thing.
-    fn by_stars(&self, module: usize, name: Name, space: Space) -> Meaning {
+    /// What all modules but this one have under a name, and whether a `*` of this one leads to one that has it.
+    fn of_others(&self, module: usize, name: Name, space: Space) -> (Meaning, bool) {
         let (mut found, mut is_led) = (Meaning::Nothing, false);
         for ((_, there), ()) in self.members.range((name, 0)..=(name, usize::MAX)) {
-            let is_other = *there != module && is_within(&self.scopes, Step::All, *there);
-            let it = if is_other {
-                self.own(*there, name, space)
-            } else {
-                Meaning::Nothing
-            };
+            if *there == module || !is_within(&self.scopes, Step::All, *there) {
+                continue;
+            }
+            let it = self.own(*there, name, space);
             is_led = is_led || (it != Meaning::Nothing && self.leads_to(module, *there));
             found = found.both(it);
             if found == Meaning::Doubtful {
                 break;
             }
         }
-        if matches!(found, Meaning::Item(_) | Meaning::Module(_)) && !is_led {
-            return Meaning::Wrong(BY_STAR);
+        (found, is_led)
+    }
+
+    /// What `*` bring into a module under a name: what all modules have, if that is one thing, and one leads there.
+    fn by_stars(&self, module: usize, name: Name, space: Space) -> Meaning {
+        match self.of_others(module, name, space) {
+            (Meaning::Item(_) | Meaning::Module(_), false) => Meaning::Wrong(BY_STAR),
+            (found, _) => found
+                .both(self.by_open_stars(module, name, space))
+                .both(self.by_macros(module, name, space)),
         }
-        found
-            .both(self.by_open_stars(module, name, space))
-            .both(self.by_macros(module, name, space))
     }
 
     /// What a macro may make under a name in a module, or in those to which `*` lead.
@@ -211,51 +214,35 @@ impl<'a> Scopes<'a> {
         Meaning::Nothing
     }
 
-    /// What the first name of a path means by those `*` that lead to it, or out of the files.
-    fn root_by_stars(&self, module: usize, name: Name) -> Meaning {
-        let mut found = self.by_open_stars(module, name, Space::Roots);
-        for ((_, there), ()) in self.members.range((name, 0)..=(name, usize::MAX)) {
-            if *there != module && self.leads_to(module, *there) {
-                found = found.both(self.root_by_star(module, *there, name));
+    /// What a name of a path means by the `*` of its module.
+    fn way_by_stars(&self, module: usize, name: Name, space: Space) -> Meaning {
+        let mut found = Meaning::Nothing;
+        for it in &self.imports {
+            if it.scope == module && it.name == NO_NAME {
+                found = found.both(match it.lead.before {
+                    Meaning::Module(place) => self.way_by_star(it, place, name, space),
+                    Meaning::Item(_) | Meaning::Known(_) => Meaning::Nothing,
+                    _ => Meaning::Open,
+                });
             }
         }
         found
     }
 
-    /// The first name of a path, which a `*` brings in. What doesn't surround the module it may hide, and a crate have.
-    fn root_by_star(&self, module: usize, there: usize, name: Name) -> Meaning {
-        match self.own(there, name, Space::Roots) {
-            found @ Meaning::Module(_)
-                if self.sees_all_of(module, there)
-                    && self.declared(there, name, Space::Roots).0 == found => found,
+    /// The same of one that leads to this module. What it may not see there, a crate may be.
+    fn way_by_star(&self, it: &Import, module: usize, name: Name, space: Space) -> Meaning {
+        let there = Meaning::Module(module);
+        let is_seen = space == Space::Modules
+            || self.around_module(it.scope) == there
+            || self.root_of(it.scope) == there;
+        match self.own(module, name, space) {
+            Meaning::Nothing if self.has_star(module) => Meaning::Open,
             Meaning::Nothing => Meaning::Nothing,
+            found
+                if is_seen && !it.is_conditional && self.declared(module, name, space).0 == found =>
+                found,
             _ => Meaning::Doubtful,
         }
-    }
-
-    /// Whether a module has a `*` of one that surrounds it, under no condition.
-    fn sees_all_of(&self, module: usize, there: usize) -> bool {
-        for it in &self.imports {
-            let is_star = it.scope == module && it.name == NO_NAME && !it.is_conditional;
-            if is_star && it.lead.before == Meaning::Module(there) {
-                return self.is_round(there, module);
-            }
-        }
-        false
-    }
-
-    fn is_round(&self, outer: usize, module: usize) -> bool {
-        let mut at = module;
-        for _ in 0..self.scopes.len() {
-            match self.around_module(at) {
-                Meaning::Module(next) => at = next,
-                _ => return false,
-            }
-            if at == outer {
-                return true;
-            }
-        }
-        false
     }
 
     /// Whether a module has what another one's `*` or macro makes under a name: not if that one has another.
@@ -285,7 +272,6 @@ impl<'a> Scopes<'a> {
     fn of_known_crate(&self, name: Name, space: Space) -> Meaning {
         let text = self.tokens.text(name);
         match space {
-            _ if space.is_way() => Meaning::Nothing,
             Space::Types if is_known(text) && !self.has(name) => Meaning::Known(name),
             Space::Types if is_known(text) => Meaning::Open,
             Space::Types if sent_as(text).is_none() => Meaning::Nothing,
@@ -326,7 +312,7 @@ impl<'a> Scopes<'a> {
         if space != Space::Roots {
             return self.by_stars(module, name, space);
         }
-        match (self.crate_of(name), self.root_by_stars(module, name)) {
+        match (self.crate_of(name), self.way_by_stars(module, name, space)) {
             (Meaning::Nothing, Meaning::Open | Meaning::Doubtful | Meaning::Nothing) =>
                 Meaning::Outside,
             (it, Meaning::Open) if !self.has_namesake(name, false) => it,
@@ -337,7 +323,7 @@ impl<'a> Scopes<'a> {
     /// What a name means after its module.
     fn inside(&self, module: usize, name: Name, space: Space) -> Meaning {
         match self.own(module, name, space) {
-            Meaning::Nothing if space.is_way() => self.root_by_stars(module, name),
+            Meaning::Nothing if space.is_way() => self.way_by_stars(module, name, space),
             Meaning::Nothing => self.by_stars(module, name, space),
             found => found,
         }
