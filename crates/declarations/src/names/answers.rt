@@ -59,7 +59,8 @@ impl<'a> Scopes<'a> {
         let meaning = self.seen(scope, name, space);
         match (self.only(Step::Scope(scope), name, space), meaning) {
             (Only::Nothing, meaning) => self.answered(meaning, name, space),
-            (Only::One(item), Meaning::Item(place)) if place == scope => found_as(&item),
+            (Only::One(item), Meaning::Item(place)) if place == scope && item.scope == scope =>
+                found_as(&item),
             (_, Meaning::Wrong(why)) => Found::Wrong(why),
             _ => Found::Two,
         }
@@ -72,7 +73,7 @@ impl<'a> Scopes<'a> {
     {
         match meaning {
             Meaning::Item(place) => match self.only(Step::Scope(place), name, space) {
-                Only::One(item) => found_as(&item),
+                Only::One(item) if item.scope == place => found_as(&item),
                 _ => Found::Two,
             },
             Meaning::Known(known) => Found::Known(known),

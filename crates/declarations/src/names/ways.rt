@@ -2,6 +2,7 @@
 use super::candidates::Space;
 use super::meaning::Meaning;
 use super::{Import, NO_NAME, Scopes};
+use declaration_parser::tokens::{Word, word_of};
 
 /// In how many passes what a `use` means may change: from then on it is doubtful.
 const PASSES: usize = 32;
@@ -69,7 +70,10 @@ impl<'a> Scopes<'a> {
             return false;
         };
         self.put_lead(place, Lead::same(Meaning::Nothing));
-        let before = self.way(old.scope, &old.path, old.last);
+        let before = match word_of(old.last) {
+            Word::Own if old.is_crate => self.root_of(self.module_of(old.scope)),
+            _ => self.way(old.scope, &old.path, old.last),
+        };
         let mut lead = Lead {
             before,
             of_type: self.brought_in(&old, before, Space::Types),
