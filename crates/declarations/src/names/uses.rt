@@ -107,23 +107,40 @@ impl<'a> Scopes<'a> {
         self.leads_to(from, place)
     }
 
-    /// Whether the derive of this name that a scope has may be another crate's; nothing if no `use` says it. What the scope itself
-    /// brings in by the name hides what a `*` brings in.
-    fn derive_in(&self, scope: usize, derive: Name) -> Option<bool> {
+    /// Whether the derive of this name that a scope brings in may be another crate's; nothing if it brings in none from elsewhere.
+    fn own_derive(&self, scope: usize, derive: Name) -> Option<bool> {
         let mut found = None;
         for it in &self.imports {
-            let is_own = it.scope == scope && it.name == derive;
-            let is_other = (it.name == NO_NAME || it.name == derive)
-                && self.brings_other(it)
-                && self.may_lead_to(scope, it.scope, derive);
-            match found {
-                _ if is_own && is_other => return Some(true),
-                _ if is_own && it.leads_out() => found = Some(false),
-                None if is_other => found = Some(true),
-                _ => {}
+            if it.scope == scope && it.name == derive {
+                if self.brings_other(it) {
+                    return Some(true);
+                }
+                found = if it.leads_out() { Some(false) } else { found };
             }
         }
         found
+    }
+
+    /// Whether a `use` that leads to a scope may bring in another crate's derive of this name.
+    fn is_led_other(&self, scope: usize, derive: Name) -> bool {
+        for it in &self.imports {
+            if (it.name == NO_NAME || it.name == derive)
+                && self.brings_other(it)
+                && self.may_lead_to(scope, it.scope, derive)
+            {
+                return true;
+            }
+        }
+        false
+    }
+
+    /// Whether the derive of this name that a scope has may be another crate's; nothing if no `use` says it. What the scope itself
+    /// brings in by the name hides what a `*` brings in.
+    fn derive_in(&self, scope: usize, derive: Name) -> Option<bool> {
+        match self.own_derive(scope, derive) {
+            None if self.is_led_other(scope, derive) => Some(true),
+            found => found,
+        }
     }
 
     /// Whether the derive of this name that a scope uses may be another crate's. What a body brings in hides what is round it.
