@@ -1,5 +1,5 @@
 // Messages as frames over a line that may break, by a WebAssembly module whose code is proved (crates/frames_c). This file is tested, not
-// proved. It runs in Node 20, Deno and browsers, and needs no other package. What a receiver or a sender keeps is bytes here, which are put into
+// proved. It is for Node 20, Deno and browsers, and needs no other package. What a receiver or a sender keeps is bytes here, which are put into
 // one of two instances of the module for a call: there may be any number of them, and nothing has to be freed.
 //
 // Messages are counted unless `plain` is said: each that is received was sent, whatever broke off. README.md says what that means.
