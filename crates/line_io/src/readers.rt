@@ -36,8 +36,8 @@ fn read_by<R: Read>(reader: &mut R, room: &mut [u8], scratch: &mut [u8]) -> Opti
 /// Reads once into `room`, and returns how many bytes came; `None` if the read failed or was interrupted.
 ///
 /// It leaves the buffer past these bytes unchanged, and all of it at `None`: a reader of std may write past its
-/// result, so the bytes come by way of a buffer on the stack. At most 16384 bytes are read. Into a nonempty buffer, 0
-/// is the end.
+/// result, so the bytes come by way of a buffer on the stack, of 1024 bytes if `room` has at most so many, else of
+/// 16384. At most 16384 bytes are read. Into a nonempty buffer, 0 is the end.
 pub fn read_front<R: Read>(reader: &mut R, room: &mut [u8]) -> Option<usize>
     ensures bound { IfSome result (λ n. n ≤ length room.new) }
     ensures past { drop (unwrap_or result 0) room.new ≡ drop (unwrap_or result 0) room.old }
@@ -56,9 +56,9 @@ pub fn read_front<R: Read>(reader: &mut R, room: &mut [u8]) -> Option<usize>
 
 /// An [`Inlet`](crate::Inlet) over a reader of std.
 ///
-/// If the reader fails or is interrupted, `read` returns `None`; nothing is retried. The bytes to come are reported
-/// up to the first fault, if the reader reports them. A read asks for at most 16384 bytes. A reader that writes past
-/// its result changes nothing of the buffer.
+/// If the reader fails or is interrupted, `read` and `read_over` return `None`; nothing is retried. The bytes to come
+/// are reported up to the first fault, if the reader reports them. `read` asks for at most 16384 bytes, and leaves the
+/// buffer past its result unchanged, even if the reader writes there. `read_over` hands the whole buffer to the reader.
 ///
 /// # Example
 /// ```rust

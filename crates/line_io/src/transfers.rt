@@ -18,7 +18,7 @@ const ROOM: usize = 16384;
 #[derive(Clone, Copy, Debug, PartialEq, Eq, Drop)]
 pub struct WriteFault;
 
-/// Writes all of the bytes, in as many writes as the device needs.
+/// Writes all of the bytes, in as many writes as the device needs, at most one for each byte.
 ///
 /// # Errors
 /// `WriteFault` at the first fault, or with no call left. A proper prefix of the bytes was written; nothing is
@@ -61,7 +61,8 @@ pub enum End {
 
 /// Appends everything that a reader gives to the vector, and returns why it stopped.
 ///
-/// At `ReadFault` the vector has everything before the fault. At `NoMemory` it has a prefix of what was read.
+/// At `ReadFault` the vector has everything before the fault. At `NoMemory` it has a prefix of what was read; the rest
+/// is lost. It uses at most one call of the reader for each byte that it appends, and one more.
 ///
 /// # Allocates
 /// What the vector grows by; 16384 bytes are on the stack.

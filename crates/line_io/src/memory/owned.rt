@@ -10,6 +10,9 @@ use crate::traits::Outlet;
 /// Each write takes its chunk, and at most `each` bytes of it. A failed allocation is a fault. The bytes are reported
 /// after a fault too, so a contract can say what was written.
 ///
+/// # Allocates
+/// What the vector grows by, at each write.
+///
 /// # Example
 /// ```rust
 /// let mut out = OwnedOut::new(Vec::new(rt.alloc()), 2, None);
