@@ -67,7 +67,7 @@ impl<'a> Span<'a, Writable> {
     /// Writes the next byte, and advances the cursor.
     ///
     /// # Requires
-    /// A byte is ahead.
+    /// `remaining` is 1 or more.
     pub fn push(&mut self, byte: u8)
         requires { 0 < length (ahead_of self.old) }
         ensures behind { behind_of self.new ≡ behind_of self.old ++ byte ∷ [] }
@@ -83,7 +83,7 @@ impl<'a> Span<'a, Writable> {
     /// Writes the next bytes, and advances the cursor.
     ///
     /// # Requires
-    /// So many bytes are ahead.
+    /// `bytes.len()` is at most `remaining`.
     pub fn push_slice(&mut self, bytes: &[u8])
         requires { length bytes.now ≤ length (ahead_of self.old) }
         ensures behind { behind_of self.new ≡ behind_of self.old ++ bytes.now }
@@ -127,7 +127,7 @@ impl<'a> Span<'a, Writable> {
     /// Borrows the next `count` bytes for reading.
     ///
     /// # Requires
-    /// So many bytes are ahead.
+    /// `count` is at most `remaining`.
     pub fn front(&self, count: usize) -> &[u8]
         requires { count ≤ length (ahead_of self.now) }
         ensures { result.now ≡ take count (ahead_of self.now) }
@@ -137,10 +137,12 @@ impl<'a> Span<'a, Writable> {
         &all[at..at + count]
     }
 
-    /// Gives the next `count` bytes away as a slice, with a span over the rest.
+    /// Gives the next `count` bytes away as a slice, with a span over the rest, whose cursor is at its start.
+    ///
+    /// The bytes before the cursor are in neither; they stay borrowed.
     ///
     /// # Requires
-    /// So many bytes are ahead.
+    /// `count` is at most `remaining`.
     pub fn split_front(self, count: usize) -> (&'a mut [u8], Span<'a, Writable>)
         requires { count ≤ length (ahead_of self) }
         ensures parts { ahead_of self.entry ≡ result.0.now ++ ahead_of result.1 }
@@ -167,7 +169,7 @@ impl<'a> Span<'a, Writable> {
         (front, rest)
     }
 
-    /// Returns the whole buffer. When this borrow ends, the caller's buffer is what it was then.
+    /// Returns the whole buffer. When this borrow ends, the caller's buffer is what the returned slice was last.
     pub fn into_whole(self) -> &'a mut [u8]
         ensures bytes { result.now ≡ behind_of self.entry ++ ahead_of self.entry }
         ensures same_reference { result.ghost_name ≡ lent_as self.entry }
@@ -232,7 +234,7 @@ impl<'a> Span<'a, ReadOnly> {
     /// Returns the next byte, and advances the cursor.
     ///
     /// # Requires
-    /// A byte is ahead.
+    /// `remaining` is 1 or more.
     pub fn next(&mut self) -> u8
         requires { 0 < length (ahead_of self.old) }
         ensures ahead { ahead_of self.old ≡ result ∷ ahead_of self.new }
@@ -244,10 +246,12 @@ impl<'a> Span<'a, ReadOnly> {
         byte
     }
 
-    /// Gives the next `count` bytes away as a slice, with a span over the rest.
+    /// Gives the next `count` bytes away as a slice, with a span over the rest, whose cursor is at its start.
+    ///
+    /// The bytes before the cursor are in neither; they stay borrowed.
     ///
     /// # Requires
-    /// So many bytes are ahead.
+    /// `count` is at most `remaining`.
     pub fn split_front(self, count: usize) -> (&'a [u8], Span<'a, ReadOnly>)
         requires { count ≤ length (ahead_of self) }
         ensures parts { ahead_of self.entry ≡ result.0.now ++ ahead_of result.1 }
