@@ -73,7 +73,7 @@ fn copy_ends<const W: usize>(bytes: &[u8], buffer: &mut [u8], place: usize, sent
 /// how many; all if there is none. It goes byte by byte, for a few.
 ///
 /// # Requires
-/// All of them fit.
+/// `place + bytes.len()` is at most the buffer's length, wherever the sentinel is.
 #[inline(always)]
 pub fn copy_until_sentinel(bytes: &[u8], buffer: &mut [u8], place: usize, sentinel: u8) -> usize
     requires room { place + length bytes.now ≤ length buffer.old }
@@ -139,7 +139,7 @@ pub(crate) fn zero_over(buffer: &mut [u8], place: usize, n: usize)
 /// Copies bytes over those of a buffer, from a position on, each XORed with a sentinel: for zero as they are.
 ///
 /// # Requires
-/// They fit.
+/// `place + bytes.len()` is at most the buffer's length.
 ///
 /// # Example
 /// ```rust

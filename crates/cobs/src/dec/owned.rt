@@ -121,6 +121,9 @@ impl CobsDecoderOwned {
     ///
     /// # Requires
     /// No frame has begun, which `is_idle` says.
+    ///
+    /// # Allocates
+    /// The buffer, if it grows.
     pub fn resize(&mut self, size: usize) -> Result<(), AllocError>
         requires { OwnedHas self.old [] }
         ensures idle { OwnedHas self.new [] }

@@ -171,8 +171,8 @@ impl FrameFront {
     /// Appends a chunk to the message.
     ///
     /// # Errors
-    /// `DestBufTooSmallError` exactly if the frame of everything pushed doesn't fit `dest`, or an earlier push
-    /// failed. Every later push then fails too.
+    /// `DestBufTooSmallError` exactly if the shortest frame of everything pushed so far and this chunk doesn't fit
+    /// `dest`, or an earlier push failed. Every later push then fails too, even an empty one.
     ///
     /// # Requires
     /// `dest` is the buffer of the earlier calls, unchanged since.
