@@ -34,7 +34,7 @@ pub trait FixInt: Copy {
         ensures is { result ≡ size }
         ensures small { result ≤ 16 };
 
-    /// Returns the bits as a number.
+    /// Returns the bits as a number: of a negative value its two's complement.
     fn to_bits(self) -> u128
         ensures is { result ≡ bits self }
         ensures in_range { in_range self };
@@ -122,7 +122,7 @@ impl<T: FixInt> LE<T> {
     /// Returns the number that has these bytes, lowest first.
     ///
     /// # Requires
-    /// As many bytes as the type has.
+    /// `bytes` has exactly as many bytes as the type (`FixInt::size`).
     pub fn from_bytes(bytes: &[u8]) -> LE<T>
         requires { length bytes.now ≡ T.size }
         ensures bytes { little_endian T.size (T.bits result.0) ≡ bytes.now }
@@ -155,7 +155,7 @@ impl<T: FixInt> BE<T> {
     /// Returns the number that has these bytes, highest first.
     ///
     /// # Requires
-    /// As many bytes as the type has.
+    /// `bytes` has exactly as many bytes as the type (`FixInt::size`).
     pub fn from_bytes(bytes: &[u8]) -> BE<T>
         requires { length bytes.now ≡ T.size }
         ensures bytes { big_endian T.size (T.bits result.0) ≡ bytes.now }
