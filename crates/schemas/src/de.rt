@@ -42,6 +42,9 @@ pub fn from_bytes(
 /// # Errors
 /// As [`from_bytes`].
 ///
+/// # Allocates
+/// As [`from_bytes`].
+///
 /// # Example
 /// ```rust
 /// match take_from_bytes(alloc, nodes, place, DEPTH, bytes) {

@@ -40,6 +40,9 @@ pub trait HasSchema: Readable {
     ///
     /// # Errors
     /// `AllocError` when out of memory; some of the nodes may have been appended.
+    ///
+    /// # Allocates
+    /// What the table grows by.
     fn add_schema(alloc: Global, nodes: &mut Vec<Node>) -> Result<usize, AllocError>
         ensures kept { BeginsWith nodes.old.items nodes.new.items }
         ensures is_schema { IfOk result (λ place.
@@ -58,6 +61,12 @@ pub trait SchemaForm<M: Readable> {
     ghost form_kinds: { Value → Type 0 };
 
     /// Appends the type's nodes to a table, as [`HasSchema::add_schema`] does.
+    ///
+    /// # Errors
+    /// As [`HasSchema::add_schema`].
+    ///
+    /// # Allocates
+    /// What the table grows by.
     fn add_form_schema(alloc: Global, nodes: &mut Vec<Node>) -> Result<usize, AllocError>
         ensures kept { BeginsWith nodes.old.items nodes.new.items }
         ensures is_schema { IfOk result (λ place.
@@ -121,6 +130,9 @@ pub trait HasPayloadSchemas: ReadableVariants {
     ///
     /// # Errors
     /// `AllocError` when out of memory; some of them may have been appended.
+    ///
+    /// # Allocates
+    /// What the table and `payloads` grow by.
     fn add_payloads(
         alloc: Global,
         nodes: &mut Vec<Node>,
@@ -133,6 +145,8 @@ pub trait HasPayloadSchemas: ReadableVariants {
 }
 
 /// Returns a table of the type alone, and the type's place in it.
+///
+/// A `depth` of the table's length or more accepts every value of the type.
 ///
 /// # Errors
 /// `AllocError` when out of memory.
