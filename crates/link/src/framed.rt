@@ -11,7 +11,7 @@ use cobs::{FrameFront, encode_in_place};
 use postcard::ser_flavors::Flavor;
 use postcard::{Error, Result, Serialize, Serializer, spell_into};
 
-/// A flavor of postcard's that writes the shortest frame of what is pushed to the front of a buffer; `finalize` returns its length.
+/// A flavor of postcard's that writes the shortest frame of what is pushed to the start of a buffer; `finalize` returns its length.
 ///
 /// Each byte is XORed with the sentinel; no sentinel is written after the frame.
 ///
@@ -118,7 +118,7 @@ impl<'a> Flavor for Framed<'a> {
     }
 }
 
-/// Writes the frame of a value to the front of a buffer, and returns its length.
+/// Writes the shortest frame of a value to the start of a buffer, and returns its length.
 ///
 /// No sentinel is written after it, and the rest of the buffer isn't specified. Allocates nothing.
 ///

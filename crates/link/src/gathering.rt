@@ -119,7 +119,7 @@ fn gathered_alike<T: Readable>()
 /// of the bytes before the last read of up to 1024. A value that can't be allocated is left out.
 ///
 /// # Requires
-/// N is at least 1.
+/// N is at least 1, and an accumulator of N bytes fits in memory (`AccumulatorFitsInMemory`); a concrete N costs nothing.
 ///
 /// # Allocates
 /// The list, and what the values need.
@@ -143,6 +143,15 @@ pub fn receive_by_accumulator<T: DeserializeOwned, R: Inlet, const N: usize>(
 }
 
 /// As `receive_by_accumulator`, with this sentinel.
+///
+/// # Errors
+/// As [`receive_by_accumulator`].
+///
+/// # Requires
+/// N is at least 1, and an accumulator of N bytes fits in memory (`AccumulatorFitsInMemory`); a concrete N costs nothing.
+///
+/// # Allocates
+/// The list, and what the values need.
 pub fn receive_by_accumulator_with_sentinel<T: DeserializeOwned, R: Inlet, const N: usize>(
     alloc: Global,
     reader: R,

@@ -149,6 +149,12 @@ pub fn read_in_place<'a, T: Deserialize<&'a [u8]>>(
 }
 
 /// As `read_in_place`, with this sentinel, with which the bytes of a stretch are XORed.
+///
+/// # Errors
+/// As [`read_in_place`].
+///
+/// # Allocates
+/// What the value needs.
 pub fn read_in_place_with_sentinel<'a, T: Deserialize<&'a [u8]>>(
     alloc: Global,
     bytes: &'a mut [u8],

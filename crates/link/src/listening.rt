@@ -89,6 +89,9 @@ fn receive_by<V: Drop, M: MessageReader<V>, R: Inlet, D: Decoding>(
 /// # Errors
 /// `end` is `ReadFault` or `NoMemory`; `answers` then are the first ones, as `Received` says.
 ///
+/// # Requires
+/// A receiver of N bytes fits in memory (`ReceiverFitsInMemory`); a concrete N costs nothing.
+///
 /// # Allocates
 /// The list, and what the values need.
 ///
@@ -110,6 +113,15 @@ pub fn receive<T: DeserializeOwned, R: Inlet, const N: usize>(
 }
 
 /// As `receive`, with this sentinel.
+///
+/// # Errors
+/// As [`receive`].
+///
+/// # Requires
+/// A receiver of N bytes fits in memory (`ReceiverFitsInMemory`); a concrete N costs nothing.
+///
+/// # Allocates
+/// The list, and what the values need.
 pub fn receive_with_sentinel<T: DeserializeOwned, R: Inlet, const N: usize>(
     alloc: Global,
     reader: R,
@@ -123,6 +135,15 @@ pub fn receive_with_sentinel<T: DeserializeOwned, R: Inlet, const N: usize>(
 }
 
 /// As `receive`, but only the exact frame that sending a value writes is a `Value`; any other is `Damaged`.
+///
+/// # Errors
+/// As [`receive`].
+///
+/// # Requires
+/// A receiver of N bytes fits in memory (`ReceiverFitsInMemory`); a concrete N costs nothing.
+///
+/// # Allocates
+/// The list, and what the values need.
 pub fn receive_strict<T: DeserializeOwned + Exact, R: Inlet, const N: usize>(
     alloc: Global,
     reader: R,
@@ -134,6 +155,15 @@ pub fn receive_strict<T: DeserializeOwned + Exact, R: Inlet, const N: usize>(
 }
 
 /// As `receive_strict`, with this sentinel.
+///
+/// # Errors
+/// As [`receive`].
+///
+/// # Requires
+/// A receiver of N bytes fits in memory (`ReceiverFitsInMemory`); a concrete N costs nothing.
+///
+/// # Allocates
+/// The list, and what the values need.
 pub fn receive_strict_with_sentinel<T: DeserializeOwned + Exact, R: Inlet, const N: usize>(
     alloc: Global,
     reader: R,
@@ -160,7 +190,7 @@ fn unmade<T, R>(alloc: Global, reader: R) -> Received<T, R>
 /// As `receive_with_sentinel`, with a limit that is set at run time.
 ///
 /// # Errors
-/// As `receive`. If a receiver of that limit could not be allocated, nothing is read, and the end is `NoMemory`.
+/// As [`receive`]. If a receiver of that limit could not be allocated, nothing is read, and `end` is `NoMemory`.
 ///
 /// # Allocates
 /// The receiver's buffer, the list, and what the values need.
@@ -188,6 +218,9 @@ pub fn receive_owned<T: DeserializeOwned, R: Inlet>(
 ///
 /// # Errors
 /// As `receive_owned`.
+///
+/// # Allocates
+/// The receiver's buffer, the list, and what the values need.
 pub fn receive_owned_strict<T: DeserializeOwned + Exact, R: Inlet>(
     alloc: Global,
     reader: R,

@@ -54,6 +54,9 @@ impl Reception<OwnedBuffer> {
     /// # Requires
     /// No stretch is begun: `is_between`.
     ///
+    /// # Allocates
+    /// A buffer of `limit` bytes, if the limit rises.
+    ///
     /// # Example
     /// ```rust
     /// takes_true(alloc, receiver)

@@ -24,7 +24,7 @@ pub enum Answer<T> {
 
 /// A value, or the buffer of an `OwnedReceiver`, could not be allocated.
 ///
-/// Only types that allocate (`Grows::grows`) cause it, and only for bytes that are a frame within the limit.
+/// Of values, only those of types that allocate (`Grows::grows`) cause it, and only for bytes that are a frame within the limit.
 ///
 /// Example: see [`Reception::push`].
 #[derive(Clone, Copy, PartialEq, Eq, Debug, Drop, Error)]
@@ -38,8 +38,9 @@ pub struct NoMemory;
 pub struct Pushed<T> {
     /// How many bytes of the chunk were used: all of them if there was no result. Push the rest next.
     pub used: usize,
-    /// How many bytes of the reported stretch come before the last byte used: its length if a sentinel ended it, the limit if that
-    /// byte is the one past it, 0 without a result. If the last byte used has the offset `at`, the stretch begins at `at - stretch`.
+    /// How many bytes of the reported stretch come before the last byte used: its length if a sentinel ended it, also at `NoMemory`;
+    /// the limit if that byte is the one past it; 0 for `Ok(None)`. If the last byte used has the offset `at`, the stretch begins at
+    /// `at - stretch`.
     pub stretch: usize,
     /// Their result, if there is one. After `NoMemory` that frame is gone, its sentinel is used, and no stretch is begun.
     pub answer: Result<Option<Answer<T>>, NoMemory>,

@@ -418,6 +418,12 @@ impl<D: Decoding> Reception<D> {
     ///
     /// So equal values come from equal bytes. A map isn't `Exact`: its entries may come in any order.
     ///
+    /// # Errors
+    /// As [`Reception::push`].
+    ///
+    /// # Allocates
+    /// What the value needs.
+    ///
     /// # Example
     /// ```rust
     /// let Pushed { used, answer, .. } = if strict {
@@ -447,6 +453,12 @@ impl<D: Decoding> Reception<D> {
     /// As `push`, by a reader of messages; each push may name another.
     ///
     /// `push` is this with `Ordinary(OfType)`, and `push_strict` with `Strict(OfType)`.
+    ///
+    /// # Errors
+    /// As [`Reception::push`].
+    ///
+    /// # Allocates
+    /// What the value needs.
     ///
     /// # Example
     /// ```rust

@@ -117,7 +117,7 @@ impl<W: Outlet, const N: usize> Sender<W, N> {
     /// Sends a value as one frame, followed by a sentinel.
     ///
     /// If the sender isn't clean, a sentinel goes first. The frame is complete in the sender's buffer before its first byte is
-    /// written. Allocates nothing and retries nothing.
+    /// written. Allocates nothing and retries nothing: it makes at most N + 2 writes, and none after one that fails.
     ///
     /// # Errors
     /// - `Refused`: the value can't be encoded, or its frame has more than N bytes (`SerializeBufferFull`). Nothing was written, and

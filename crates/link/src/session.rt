@@ -60,7 +60,8 @@ fn send_all<T: Serialize, W: Outlet, const N: usize>(
 /// long as the writer had a call left. Allocates nothing.
 ///
 /// # Requires
-/// As many fates as values (there may be none of either), and N is at least 1.
+/// As many fates as values (there may be none of either), and N is at least 1. The sender fits in memory
+/// (`SenderFitsInMemory`); a concrete N costs nothing.
 ///
 /// # Example
 /// ```rust
@@ -87,7 +88,7 @@ pub fn send_each<T: Serialize, W: Outlet, const N: usize>(
 /// As `send_each`, with this sentinel.
 ///
 /// # Requires
-/// As many fates as values, and N is at least 1.
+/// As [`send_each`].
 pub fn send_each_with_sentinel<T: Serialize, W: Outlet, const N: usize>(
     writer: W,
     values: &[T],
