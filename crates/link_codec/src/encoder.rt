@@ -18,6 +18,9 @@ use tokio_util::codec::Encoder;
 /// `Refused` if the value can't be encoded or its frame is longer than N bytes, `Io` if the buffer can't grow. Nothing is written then,
 /// and the encoder is unchanged.
 ///
+/// # Allocates
+/// What the sink's buffer grows by, at each `encode`.
+///
 /// # Example
 /// ```rust
 /// pub type Letters = LinkEncoder<3>;
@@ -44,7 +47,7 @@ impl<const N: usize> LinkEncoder<N> {
     /// An encoder that has written nothing, with the sentinel zero.
     ///
     /// # Requires
-    /// N is at least 1, and less than half of all addresses.
+    /// N is at least 1 and below 2^63.
     pub fn new() -> LinkEncoder<N>
         requires some { 0 < N }
         requires fits { N < 2 ^ 63 }
@@ -57,7 +60,7 @@ impl<const N: usize> LinkEncoder<N> {
     /// As `new`, with this sentinel.
     ///
     /// # Requires
-    /// N is at least 1, and less than half of all addresses.
+    /// N is at least 1 and below 2^63.
     pub fn new_with_sentinel(sentinel: u8) -> LinkEncoder<N>
         requires some { 0 < N }
         requires fits { N < 2 ^ 63 }
