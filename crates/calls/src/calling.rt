@@ -129,7 +129,7 @@ impl<W: Outlet, Q: Serialize + Drop, const N: usize> Client<W, Q, N> {
 
     /// Processes a result of the line, and returns the reply if this is the one to the pending call, which is over then.
     ///
-    /// Anything else changes nothing: damage, and replies under other numbers.
+    /// Anything else changes nothing, and the result is `None`: damage, and replies under other numbers.
     ///
     /// # Example
     /// ```rust

@@ -137,7 +137,7 @@ impl<W: Outlet, Q: PartialEq + Drop, R: Serialize + Drop, const N: usize> Server
         Server { sender, last }
     }
 
-    /// The call that was executed last; `resume` continues after it.
+    /// The call that was executed last, if there is one; `resume` continues after it.
     pub fn last(&self) -> &Option<LastCall<Q, R>>
         ensures { kept_as result.now ≡ kept_of self.now }
     {

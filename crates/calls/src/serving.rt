@@ -15,12 +15,14 @@ use std::alloc::Global;
 ///
 /// Returns why it stopped. The receiver continues in a stream of which it was given a part, so this can be called again after a
 /// fault. Whatever bytes come: what is executed are requests whose whole frames came, in their order, each number at most once, and
-/// the replies are one session. It uses at most one call of the reader for each byte, and one more. Allocates only if a request
-/// does.
+/// the replies are one session. It uses at most one call of the reader for each byte, and one more.
 ///
 /// # Errors
 /// - `ReadFault`: a read failed; everything read before was served.
 /// - `NoMemory`: a request couldn't be allocated. The requests before it were served, and at least one result is missing.
+///
+/// # Allocates
+/// What the requests need.
 ///
 /// # Example
 /// ```rust

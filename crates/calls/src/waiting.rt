@@ -69,8 +69,7 @@ impl<W: Outlet, Q: Serialize + Drop, R: Drop, const N: usize> Hearer<(u64, R)>
 ///
 /// If the call isn't pending any more its reply is in `said`; if it is, nothing was accepted, and `said` is empty. A reply to an
 /// earlier call is dropped first; replies under other numbers are passed over. What one read brought is processed to its end. It
-/// uses at most one call of the reader for each byte, and one more; none if no call is pending. Sends nothing. Allocates only if a
-/// reply does.
+/// uses at most one call of the reader for each byte, and one more; none if no call is pending. Sends nothing.
 ///
 /// # Errors
 /// - `ReadFault`: a read failed, and the call is pending. The receiver keeps its state: if the reader had nothing yet, for example
@@ -80,6 +79,9 @@ impl<W: Outlet, Q: Serialize + Drop, R: Drop, const N: usize> Hearer<(u64, R)>
 ///
 /// # Requires
 /// `room`, the buffer for reads, isn't empty.
+///
+/// # Allocates
+/// What the replies need.
 ///
 /// # Example
 /// ```rust
