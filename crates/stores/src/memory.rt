@@ -4,7 +4,11 @@ ghost use Rattle.std.specs.Prelude.{◌≡◌, ℕ, ◌+◌, ◌-◌, ◌<◌, �
 use crate::traits::{Store, SyncFault};
 use std::alloc::Global;
 
-/// A store in memory, which can fail once after a given number of bytes, and crash.
+/// A store in memory, which can fail once after a given number of bytes, and crash. An append that is out of memory is a
+/// fault too.
+///
+/// # Allocates
+/// What the bytes grow by, at each append.
 ///
 /// # Example
 /// ```rust
@@ -78,6 +82,9 @@ impl MemoryStore {
     ///
     /// Of the bytes that aren't settled at most `left` remain; `zeros` zeros follow them, as a file system shows
     /// bytes that were never written.
+    ///
+    /// # Allocates
+    /// What the zeros need.
     ///
     /// # Example
     /// ```rust

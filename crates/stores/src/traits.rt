@@ -25,7 +25,7 @@ pub struct SyncFault;
 ///
 /// A fault is an `append` that returns `None` or takes nothing of a nonempty chunk, a `read_at` that returns `None`,
 /// or a `sync` that returns an error. A fault of an append moves no byte. Each call uses one of those left; with none
-/// left it is a fault that isn't counted.
+/// left it is a fault that isn't counted. The stores of this crate begin with 2^64 - 1 calls.
 ///
 /// # Example
 /// ```rust
