@@ -80,15 +80,24 @@ impl<S: Store, const N: usize> Journal<S, N> {
     /// Opens a log: appends a zero, syncs, and then hands what is read to the visitor.
     ///
     /// The first record of an empty log gets the number `first`; otherwise the next record gets the number after the greatest that
-    /// was read, and at least `first`. By `Strict(OfType)` a record is read only in the exact frame that appending it writes. By
-    /// `Ordinary(OfType)` a record is read at the front of a message, in any encoding: also of a newer writer that added fields at
-    /// the end. Appending is the same in both cases. Allocates only if a value or the visitor does.
+    /// was handed on, and at least `first`. A record is handed on as `Damaged` if more numbers are missing before it than records,
+    /// of three bytes each, fit between it and the last record that moved the next number.
+    ///
+    /// By `Strict(OfType)` a record is read only in the exact frame that appending it writes. By `Ordinary(OfType)` a record is
+    /// read at the front of a message, in any encoding: also of a newer writer that added fields at the end. Appending is the same
+    /// in both cases.
     ///
     /// # Errors
     /// The store is returned with the reason; it may have got the zero.
     /// - `Line`: the zero couldn't be appended.
     /// - `Sync`: the store couldn't be synced.
     /// - `Read`: a read failed, a value couldn't be allocated, or the visitor halted.
+    ///
+    /// # Requires
+    /// N is at least 2, and a receiver of N bytes fits in memory (`ReceiverFitsInMemory`); a concrete N costs nothing.
+    ///
+    /// # Allocates
+    /// What the values and the visitor need.
     ///
     /// # Example
     /// ```rust
@@ -148,6 +157,9 @@ impl<S: Store, const N: usize> Journal<S, N> {
     ///
     /// The caller must know that the store ends after a zero, and which numbers were given: as `open`, which appends a zero, syncs
     /// and reads.
+    ///
+    /// # Requires
+    /// N is at least 2, and a receiver of N bytes fits in memory (`ReceiverFitsInMemory`); a concrete N costs nothing.
     pub fn resume(store: S, next: u64) -> Journal<S, N>
         requires some { 1 < N }
         requires fits { ReceiverFitsInMemory N.row }
@@ -172,7 +184,7 @@ impl<S: Store, const N: usize> Journal<S, N> {
         self.next = self.next.max(number);
     }
 
-    /// The number of the next record.
+    /// The number of the next record. If it is the greatest `u64`, no number is left (`AppendError::Full`).
     pub fn next(&self) -> u64
         ensures { result ≡ next_of self.now }
     {

@@ -111,14 +111,20 @@ fn hear<T: Drop, M: MessageReader<(u64, T)>, V: Visitor<T>, const N: usize>(
 
 /// Reads a log to its end, hands the results to the visitor, and returns the number after the greatest, which is at least `first`.
 ///
-/// What follows the last zero has no result. The way of reading is as for [`Journal::open`](crate::Journal::open); the store isn't
-/// changed. It is read once from front to back, in at most one read for each byte, and one more. Allocates only if a value or the
-/// visitor does.
+/// What follows the last zero has no result. The way of reading is as for [`Journal::open`](crate::Journal::open): a record too
+/// far ahead is `Damaged`. The store isn't changed. It is read once from front to back, in at most one read for each byte, and
+/// one more.
 ///
 /// # Errors
 /// - `Fault`: a read failed. The visitor was handed the results of what was read before.
 /// - `NoMemory`: a value couldn't be allocated.
 /// - `Halted`: the visitor halted.
+///
+/// # Requires
+/// A receiver of N bytes fits in memory (`ReceiverFitsInMemory`); a concrete N costs nothing.
+///
+/// # Allocates
+/// What the values and the visitor need.
 ///
 /// # Example
 /// ```rust

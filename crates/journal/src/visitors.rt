@@ -60,6 +60,9 @@ pub trait Visitor<T> {
 
 /// A visitor that keeps all results, and halts if it is out of memory.
 ///
+/// # Allocates
+/// What the list grows by, at each result.
+///
 /// # Example
 /// ```rust
 /// let mut list = Listed::<Entry>::new(alloc);
@@ -81,7 +84,7 @@ pub struct Listed<T> {
 }
 
 impl<T> Listed<T> {
-    /// A list of no results.
+    /// A list of no results. Doesn't allocate yet.
     pub fn new(alloc: Global) -> Listed<T>
         ensures { result.answers.items ≡ [] }
     {
