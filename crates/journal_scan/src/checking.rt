@@ -82,12 +82,14 @@ fn count_record<T, W: Watcher<T>>(
 /// Reads a log to its end, reports each stretch to the watcher, and returns what was counted and what follows the last zero.
 ///
 /// The log is judged as opening it will leave it, with one more zero: a record that lacks only its zero is reported and counted as
-/// any other. `limit` is the greatest length of a stretch. Allocates memory for one stretch, one read and the ranges of missing
-/// numbers, whatever the log's size.
+/// any other. `limit` is the greatest length of a stretch, in bytes.
 ///
 /// # Errors
 /// - `Read`: a read failed, or an allocation did.
 /// - `Halted`: the watcher halted.
+///
+/// # Allocates
+/// `limit` bytes for a stretch, 16384 for a read, the ranges of missing numbers, and what a value needs, whatever the log's size.
 ///
 /// # Example
 /// ```rust

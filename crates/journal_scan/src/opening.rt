@@ -29,13 +29,16 @@ fn read_error(e: CheckError) -> ReadError
 /// that counts.
 ///
 /// That holds also if numbers are missing, and the bytes that accounted for them are gone. A record that doesn't count moves
-/// nothing, whatever its number. Returns the log, and the report of the check. Allocates as `check`.
+/// nothing, whatever its number. Returns the log, and the report of the check.
 ///
 /// # Errors
 /// The store is returned with the reason; it may have got the zero. See `Journal::open`.
 ///
 /// # Requires
-/// N is at least 2.
+/// N is at least 2, and a receiver of N bytes fits in memory (`ReceiverFitsInMemory`); a concrete N costs nothing.
+///
+/// # Allocates
+/// As [`check`](crate::check), with N as the limit.
 pub fn open_by<T: DeserializeOwned + Exact, S: Store, W: Watcher<T>, const N: usize>(
     alloc: Global,
     store: S,

@@ -108,6 +108,9 @@ impl Scan {
     /// # Errors
     /// `NoMemory`: the buffers for one stretch and one read couldn't be allocated.
     ///
+    /// # Allocates
+    /// `limit` bytes for a stretch, and 16384 for a read.
+    ///
     /// # Example
     /// ```rust
     /// match Scan::new(alloc, LIMIT, 0) {
@@ -312,11 +315,12 @@ impl Scan {
     /// The next stretch that a zero ends; `None` at the end of what the store holds now. Called again later, it continues with what
     /// was appended since.
     ///
-    /// Allocates only if a value does.
-    ///
     /// # Errors
     /// - `Fault`: a read failed. No stretch was passed: called again, it finds the next one.
     /// - `NoMemory`: a value couldn't be allocated. The scan is after its stretch.
+    ///
+    /// # Allocates
+    /// What the value needs.
     ///
     /// # Example
     /// ```rust
@@ -393,6 +397,9 @@ impl Scan {
     ///
     /// # Errors
     /// `NoMemory`: its value couldn't be allocated.
+    ///
+    /// # Allocates
+    /// What the value needs.
     pub fn finish<T: DeserializeOwned + Exact>(
         self,
         alloc: Global,

@@ -28,7 +28,7 @@ pub struct Tally {
 impl Tally {
     ghost use Rattle.journal_scan.specs.Tallies.{IsTally, Tallies, AreApart, AreMissing, LiesIn, IsGapAt, KeysBelow, behind_greatest, behind_ranges, gaps_of, gaps_without, gap_before, gap};
 
-    /// A tally that has counted nothing.
+    /// A tally that has counted nothing. Doesn't allocate yet.
     pub fn new(alloc: Global) -> Tally
         ensures { IsTally [] result }
     {
@@ -151,10 +151,13 @@ impl Tally {
         Ok(false)
     }
 
-    /// Counts a number, and returns whether it was counted before. Of 2^64 - 1 that isn't kept.
+    /// Counts a number, and returns whether it was counted before; what it returns for 2^64 - 1 isn't specified.
     ///
     /// # Errors
     /// `NoMemory`: a range of missing numbers couldn't be allocated, and the number isn't counted.
+    ///
+    /// # Allocates
+    /// A range of missing numbers, if there is one more.
     ///
     /// # Example
     /// ```rust

@@ -58,7 +58,8 @@ pub trait Watcher<T>: Judge<T> {
     /// Holds if it may halt; the empty type for one that never does.
     ghost halts: { Self → Type 0 };
 
-    /// Receives the next stretch, and whether it is a record whose number an earlier record had.
+    /// Receives the next stretch, and whether it is a record that counts with the number of an earlier one that counts (for the
+    /// number 2^64 - 1 that isn't specified).
     ///
     /// # Errors
     /// `Halt`: it wants no more, and the check stops.
