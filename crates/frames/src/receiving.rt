@@ -397,10 +397,13 @@ impl FrameReceiver {
     ///
     /// As `push_plain`, but a message is the bytes after its length, as `send` writes it and postcard encodes a byte string. It is in
     /// the buffer, after its length, until the next push. Bytes after the counted ones are ignored, and what isn't a counted message is
-    /// damaged. The allocator is what decoding a postcard value takes; for bytes nothing is allocated.
+    /// damaged.
     ///
     /// # Errors
     /// `WrongBuffer` exactly if more bytes are begun than the buffer has. Nothing changes.
+    ///
+    /// # Allocates
+    /// Nothing: decoding a postcard value takes an allocator, but bytes need none of its memory.
     ///
     /// # Example
     /// ```rust
@@ -457,6 +460,9 @@ impl FrameReceiver {
     ///
     /// # Errors
     /// `WrongBuffer` exactly if more bytes are begun than the buffer has. Nothing changes.
+    ///
+    /// # Allocates
+    /// Nothing, as `push`.
     #[inline(always)]
     pub fn push_byte(
         &mut self,

@@ -8,7 +8,8 @@ ghost use Rattle.cobs.specs.Whole.{frame_in, decoded_from, decoded_into};
 
 use cobs::{DecodeError, DecodeReport, DestBufTooSmallError};
 
-/// The greatest length of a frame of a message of `length` bytes; `None` from 2^63 on, which no message has.
+/// The greatest length of the shortest frame of a message of `length` bytes, which `encode` writes; `None` from 2^63 on, which no
+/// message has.
 pub fn most_encoded_length(length: usize) -> Option<usize>
     ensures most { length < 2 ^ 63 → result ≡ Some (most_length length) }
     ensures none { 2 ^ 63 ≤ length → result ≡ None }
@@ -20,7 +21,7 @@ pub fn most_encoded_length(length: usize) -> Option<usize>
     }
 }
 
-/// The length of the frame of a message: exactly what encoding needs.
+/// The length of the shortest frame of a message: exactly what `encode` needs.
 pub fn encoded_length(source: &[u8]) -> usize
     ensures { result ≡ length (shortest_frame source.now) }
 {
@@ -41,7 +42,7 @@ pub(crate) fn fits(source: &[u8], room: usize) -> bool
     cobs::max_encoding_length(source.len()) <= room || cobs::encoded_length(source) <= room
 }
 
-/// Writes the frame of a message to the front of `dest`, and returns its length.
+/// Writes the shortest frame of a message to the front of `dest`, and returns its length.
 ///
 /// # Errors
 /// `DestBufTooSmallError` exactly if it doesn't fit; `dest` is unchanged.
@@ -55,7 +56,8 @@ pub fn encode(source: &[u8], dest: &mut [u8]) -> Result<usize, DestBufTooSmallEr
     cobs::try_encode(source, dest)
 }
 
-/// Does the same with each byte of the frame XORed with the sentinel: no byte of it is the sentinel.
+/// Writes the shortest frame of a message, each byte XORed with the sentinel, to the front of `dest`, and returns its length. No byte
+/// of it is the sentinel.
 ///
 /// # Errors
 /// `DestBufTooSmallError` exactly if it doesn't fit; `dest` is unchanged.
