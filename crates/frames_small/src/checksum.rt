@@ -64,7 +64,7 @@ fn seal_of(message: &[u8]) -> [u8; 4]
 /// be sent: `size + 4`.
 ///
 /// # Errors
-/// `DestBufTooSmallError` if they don't fit; the buffer is unchanged.
+/// `DestBufTooSmallError` exactly if they don't fit; the buffer is unchanged.
 pub fn seal(buffer: &mut [u8], size: usize) -> Result<usize, DestBufTooSmallError>
     ensures length { IfOk result (λ n. n ≡ size + 4) }
     ensures sealed { OnOk result (take (size + 4) buffer.new

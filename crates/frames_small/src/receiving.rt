@@ -217,7 +217,8 @@ impl SmallReceiver {
     /// The buffer's length is the limit. Pass the same buffer to each call, and leave its front as it is between two calls.
     ///
     /// # Errors
-    /// `WrongBuffer` if more bytes are begun than the buffer has, or the receiver's numbers are no receiver's. Nothing changes.
+    /// `WrongBuffer` exactly if `stretch` exceeds the buffer's length, or `decided` exceeds `stretch`, as of no receiver. Nothing
+    /// changes.
     ///
     /// # Example
     /// ```rust
@@ -254,10 +255,13 @@ impl SmallReceiver {
         Ok(brought(stretch, event))
     }
 
-    /// Does the same for plain messages.
+    /// Takes a byte, and returns its event, if there is one, of plain messages, as `push_byte_plain` of `frames` does.
+    ///
+    /// The buffer is as for `push_byte`.
     ///
     /// # Errors
-    /// `WrongBuffer` if more bytes are begun than the buffer has, or the receiver's numbers are no receiver's. Nothing changes.
+    /// `WrongBuffer` exactly if `stretch` exceeds the buffer's length, or `decided` exceeds `stretch`, as of no receiver. Nothing
+    /// changes.
     pub fn push_byte_plain(&mut self, buffer: &mut [u8], byte: u8) -> Result<FramePush, WrongBuffer>
         ensures used { IfOk result (λ p. p.used ≡ 1) }
         ensures stands { IfOk result (λ p. (limit s : ℕ) (stream : List ℕ)

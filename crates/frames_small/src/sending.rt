@@ -236,7 +236,8 @@ impl SmallSender {
     /// `link` defines it, and of `send` of `frames`.
     ///
     /// # Errors
-    /// `WriteFault` if a write failed: a prefix of the bytes was sent, and the next send begins with a sentinel.
+    /// `WriteFault` if a write failed or took nothing: a proper prefix of the bytes, perhaps none, was sent, and the next send begins
+    /// with a sentinel.
     ///
     /// # Example
     /// ```rust
@@ -267,7 +268,8 @@ impl SmallSender {
     /// Sends a plain message, its bytes without their length, in the same way.
     ///
     /// # Errors
-    /// `WriteFault` if a write failed: a prefix of the bytes was sent, and the next send begins with a sentinel.
+    /// `WriteFault` if a write failed or took nothing: a proper prefix of the bytes, perhaps none, was sent, and the next send begins
+    /// with a sentinel.
     pub fn send_plain<W: Outlet>(
         &mut self,
         outlet: &mut W,
