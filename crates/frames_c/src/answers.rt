@@ -8,26 +8,26 @@ use crate::status::{DAMAGED, DONE, EMPTY, INVALID, MESSAGE, MISUSED, MORE, NO_RO
 use cobs::{DecodeError, DecodeReport, DestBufTooSmallError};
 use frames::{FrameEvent, FramePush, WrongBuffer};
 
-/// The result of a call that writes: how many bytes it wrote, 0 after an error, and its status.
+/// The result of a call that writes: how many bytes it wrote, and its status.
 #[repr(C)]
 #[derive(Clone, Copy)]
 pub struct FramesWritten {
-    /// How many bytes were written, or precede a sum.
+    /// How many bytes were written, or precede a sum. After an error 0; but if a decoding is invalid, how many bytes of a message the
+    /// bytes determine.
     pub length: usize,
-    /// 0 if it was done, else the error.
+    /// 0: done. 1: no room. 2: invalid, not a frame or not the sum.
     pub status: u8,
 }
 
-/// The result of a decoding: how many bytes of its source were used, and the message's length. If the bytes aren't a frame, `length` is
-/// how many bytes of a message they determine.
+/// The result of a decoding: how many bytes of its source were used, the message's length, and its status.
 #[repr(C)]
 #[derive(Clone, Copy)]
 pub struct FramesRead {
     /// How many bytes of the source were used; 0 after an error.
     pub used: usize,
-    /// The message's length.
+    /// The message's length. After an error 0; but if it is invalid, how many bytes of a message the bytes determine.
     pub length: usize,
-    /// 0 if it was done, else the error.
+    /// 0: done. 1: no room. 2: invalid, not a frame. 3: empty, no byte could be of a frame.
     pub status: u8,
 }
 
@@ -35,15 +35,15 @@ pub struct FramesRead {
 #[repr(C)]
 #[derive(Clone, Copy)]
 pub struct FramesEvent {
-    /// How many bytes of the chunk were used.
+    /// How many bytes of the chunk were used: all of them if there is no event, none after a misuse. Push the rest next.
     pub used: usize,
-    /// How many bytes of the event's stretch come before the last byte that was used.
+    /// How many bytes of the event's stretch come before the last byte that was used; 0 if there is no event.
     pub stretch: usize,
-    /// Where in the buffer the message begins.
+    /// Where in the buffer the message begins; 0 without a message.
     pub start: usize,
-    /// How many bytes it has.
+    /// How many bytes it has; 0 without a message.
     pub length: usize,
-    /// The kind of event.
+    /// 0: no event yet. 1: a message. 2: damaged. 3: too long. 4: misused, more bytes are begun than the buffer has.
     pub kind: u8,
 }
 

@@ -24,11 +24,13 @@ pub extern "C" fn frames_c_receiver(sentinel: u8) -> FrameReceiver
 ///
 /// An event is at the sentinel that ends a stretch, or at the byte past the buffer's length; if there is none, all bytes are used. It
 /// is of the whole stretch, also if earlier pushes took its beginning. A message is in the buffer until the next push. Pass the same
-/// buffer to each call, and leave its front as it is between two calls. C passes nothing for `alloc`, which has no bytes, and no
-/// allocator is linked.
+/// buffer to each call, and leave its front as it is between two calls.
 ///
 /// # Errors
 /// Misused exactly if more bytes are begun than the buffer has. Nothing changes.
+///
+/// # Allocates
+/// Nothing: C passes nothing for `alloc`, which has no bytes, and no allocator is linked.
 #[unsafe(no_mangle)]
 pub extern "C" fn frames_c_push(
     alloc: Global,
@@ -56,7 +58,9 @@ pub extern "C" fn frames_c_push(
     pushed(receiver.push(alloc, buffer, bytes))
 }
 
-/// Does the same for plain messages, which are in front of the buffer.
+/// Takes bytes of the chunk up to the first event, of plain messages, and returns it with how many bytes were used.
+///
+/// It is as for `frames_c_push`, but a message is in front of the buffer.
 ///
 /// # Errors
 /// Misused exactly if more bytes are begun than the buffer has. Nothing changes.
@@ -121,6 +125,9 @@ fn take_byte(
 ///
 /// # Errors
 /// Misused exactly if more bytes are begun than the buffer has. Nothing changes.
+///
+/// # Allocates
+/// Nothing, as `frames_c_push`.
 #[unsafe(no_mangle)]
 pub extern "C" fn frames_c_push_byte(
     alloc: Global,
@@ -181,7 +188,7 @@ fn take_byte_plain(
     told(receiver.push_byte_plain(buffer, byte), event)
 }
 
-/// Does the same for plain messages.
+/// Takes one byte, as `frames_c_push_plain` of it alone does, and returns and writes what `frames_c_push_byte` does.
 ///
 /// # Errors
 /// Misused exactly if more bytes are begun than the buffer has. Nothing changes.

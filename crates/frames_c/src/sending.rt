@@ -99,7 +99,7 @@ pub extern "C" fn frames_c_crc32(bytes: &[u8]) -> u32
 /// be sent: `size + 4`.
 ///
 /// # Errors
-/// No room if they don't fit; the buffer is unchanged.
+/// No room exactly if they don't fit; the buffer is unchanged.
 #[unsafe(no_mangle)]
 pub extern "C" fn frames_c_seal(buffer: &mut [u8], size: usize) -> FramesWritten
     ensures fits { size + 4 ≤ length buffer.old → result.status ≡ done }
@@ -117,7 +117,7 @@ pub extern "C" fn frames_c_seal(buffer: &mut [u8], size: usize) -> FramesWritten
 /// How many bytes of a message precede its sum.
 ///
 /// # Errors
-/// Invalid if its last four bytes aren't that sum.
+/// Invalid exactly if its last four bytes aren't that sum.
 #[unsafe(no_mangle)]
 pub extern "C" fn frames_c_unseal(message: &[u8]) -> FramesWritten
     ensures length { result.status ≡ done → result.length + 4 ≡ length message.now }

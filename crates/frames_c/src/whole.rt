@@ -9,7 +9,8 @@ ghost use Rattle.frames_c.specs.Answers.{IsReport, IsLength};
 
 use crate::answers::{FramesRead, FramesWritten, measured, read, written};
 
-/// The greatest length of a frame of a message of `length` bytes; 0 from 2^63 on, which no message has.
+/// The greatest length of the shortest frame of a message of `length` bytes, which `frames_c_encode` writes; 0 from 2^63 on, which no
+/// message has.
 #[unsafe(no_mangle)]
 pub extern "C" fn frames_c_most_encoded_length(length: usize) -> usize
     ensures most { length < 2 ^ 63 → result ≡ most_length length }
@@ -18,7 +19,7 @@ pub extern "C" fn frames_c_most_encoded_length(length: usize) -> usize
     frames::most_encoded_length(length).unwrap_or(0)
 }
 
-/// The length of the frame of a message: exactly what encoding needs.
+/// The length of the shortest frame of a message: exactly what `frames_c_encode` needs.
 #[unsafe(no_mangle)]
 pub extern "C" fn frames_c_encoded_length(source: &[u8]) -> usize
     ensures { result ≡ length (shortest_frame source.now) }
@@ -26,7 +27,7 @@ pub extern "C" fn frames_c_encoded_length(source: &[u8]) -> usize
     frames::encoded_length(source)
 }
 
-/// Writes the frame of a message to the front of `dest`, and returns its length.
+/// Writes the shortest frame of a message to the front of `dest`, and returns its length.
 ///
 /// # Errors
 /// No room exactly if it doesn't fit; `dest` is unchanged.
@@ -41,7 +42,8 @@ pub extern "C" fn frames_c_encode(source: &[u8], dest: &mut [u8]) -> FramesWritt
     written(frames::encode(source, dest))
 }
 
-/// Does the same with each byte of the frame XORed with the sentinel: no byte of it is the sentinel.
+/// Writes the shortest frame of a message, each byte XORed with the sentinel, to the front of `dest`, and returns its length. No byte
+/// of it is the sentinel.
 ///
 /// # Errors
 /// No room exactly if it doesn't fit; `dest` is unchanged.
