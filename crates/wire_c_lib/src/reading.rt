@@ -88,7 +88,8 @@ fn lines_of(
 /// Returns a line of JSON for each answer to a stream, as `wire read` prints them, and how many of its bytes are done with.
 ///
 /// Call it with each chunk behind the bytes that the call before left over. Places in a line are counted from the first byte of this
-/// stream. With `ends` all bytes are used, and an unfinished stretch is reported as cut.
+/// stream. With `ends` all bytes are used, and an unfinished stretch is reported as cut. A stretch of more than 65536 bytes is too
+/// long, a value that nests in more than 60 nodes too deep, and a list of more than 65536 elements that have no bytes is damaged.
 ///
 /// # Errors
 /// - `Wrong`: the declarations or the type can't be taken.

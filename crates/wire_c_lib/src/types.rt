@@ -18,7 +18,7 @@ use wire_lib::words::EMPTY;
 pub enum WireFailure {
     /// The declarations or the words of the type can't be taken: lines that say why.
     Wrong(String),
-    /// Lines aren't of the type: a line `line K: ..` for each, with the way to what is wrong.
+    /// Lines aren't of the type, or exceed a limit: a line `line K: ..` for each, with the way to what is wrong.
     Refused(String),
     /// Out of memory.
     OutOfMemory,

@@ -34,9 +34,12 @@ fn made_of(sending: Sending<'_>, lines: &[u8]) -> Result<Made, AllocError>
 
 /// Returns the frame of each line of JSON, with the sentinel that ends it, as `wire write` writes them after its first sentinel.
 ///
+/// Of the terms `sentinel` and `crc32` count. A frame has at most 65536 bytes, a value nests in at most 60 nodes, and a list whose
+/// elements have no bytes has at most 65536 of them.
+///
 /// # Errors
 /// - `Wrong`: the declarations or the type can't be taken.
-/// - `Refused`: some lines aren't of the type; no line is written then.
+/// - `Refused`: some lines aren't of the type, or exceed these limits; no line is written then.
 /// - `OutOfMemory`.
 ///
 /// # Allocates
