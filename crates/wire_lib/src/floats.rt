@@ -58,6 +58,12 @@ fn word_of_nan(alloc: Global, bytes: &[u8]) -> Result<String, AllocError>
 }
 
 /// Returns the string for an `f32` that isn't finite: `Infinity`, `-Infinity`, `NaN`, or with its bits `NaN:7fc00001`.
+///
+/// # Errors
+/// Out of memory.
+///
+/// # Allocates
+/// The string.
 pub fn word_of(alloc: Global, bits: u32) -> Result<String, AllocError>
     ensures { IfOk result (λ word. string_bytes word ≡ single_word bits) }
 {
@@ -70,6 +76,12 @@ pub fn word_of(alloc: Global, bits: u32) -> Result<String, AllocError>
 }
 
 /// Returns the string for an `f64` that isn't finite, as [`word_of`] does.
+///
+/// # Errors
+/// Out of memory.
+///
+/// # Allocates
+/// The string.
 pub fn word_of_double(alloc: Global, bits: u64) -> Result<String, AllocError>
     ensures { IfOk result (λ word. string_bytes word ≡ double_word bits) }
 {

@@ -9,7 +9,7 @@ use schemas::Node;
 /// The key of a present optional value whose own JSON could be `null`.
 pub const PRESENT: &str = "Some";
 
-/// The type at index `place`.
+/// The type at index `place`; `None` if there is none.
 pub fn node_of(schema: &Schema, place: usize) -> Option<&Node>
     ensures some { IfSome result (λ node. node_at schema.now place ≡ Some node.now) }
     ensures none { result ≡ None → node_at schema.now place ≡ None }
@@ -17,7 +17,7 @@ pub fn node_of(schema: &Schema, place: usize) -> Option<&Node>
     schema.nodes.get(place)
 }
 
-/// The names of the type at index `place`.
+/// The names of the type at index `place`; `None` if there is none.
 pub fn names_of(schema: &Schema, place: usize) -> Option<&Names>
     ensures some { IfSome result (λ names. names_at schema.now place ≡ Some names.now) }
     ensures none { result ≡ None → names_at schema.now place ≡ None }
@@ -32,7 +32,7 @@ fn is_newtype(schema: &Schema, place: usize) -> bool
     matches!(schema.names.get(place), Some(Names::Newtype))
 }
 
-/// The index of the only field of a struct.
+/// The index of the only field of a struct; `None` for another type, or another number of fields.
 pub fn only_field(schema: &Schema, place: usize) -> Option<usize>
     ensures { result ≡ field_at (node_at schema.now place) }
 {
@@ -45,7 +45,7 @@ pub fn only_field(schema: &Schema, place: usize) -> Option<usize>
     }
 }
 
-/// Returns the index of the type inside a newtype.
+/// Returns the index of the type inside a newtype; `None` for another type.
 pub fn inside_newtype(schema: &Schema, place: usize) -> Option<usize>
     ensures { result ≡ inside_of schema.now place }
 {
@@ -135,7 +135,7 @@ fn is_key(schema: &Schema, place: usize) -> bool
     false
 }
 
-/// The indices of the types of a pair.
+/// The indices of the types of a pair; `None` for a type that isn't a struct of two fields.
 pub fn pair_of(schema: &Schema, pair: usize) -> Option<(usize, usize)>
     ensures { result ≡ pair_node (node_at schema.now pair) }
 {

@@ -1151,6 +1151,9 @@ fn value_of_text(alloc: Global, schema: &Schema, place: usize, depth: u32, text:
 /// - `Wrong`: the line isn't UTF-8 or JSON, or isn't of the type, such as a number out of range, an unknown, repeated or missing
 ///   field, or another number of elements; no value of the type is meant then (`refused`). It has the path to the fault.
 /// - `OutOfMemory`.
+///
+/// # Allocates
+/// The line's JSON, which is freed, and the value; of a fault its path.
 pub fn parse(alloc: Global, schema: &Schema, place: usize, depth: u32, line: &[u8]) -> Parsed
     ensures of_type { IfOk result (IsOfType depth schema.now.nodes.items place) }
     ensures means { IfOk result (MeansText schema.now depth place line.now) }

@@ -811,6 +811,9 @@ pub struct Look {
 /// # Errors
 /// Out of memory, and nothing else: what doesn't fit the type, or is nested too deeply, is written as `null`, by its index, or under
 /// an empty name.
+///
+/// # Allocates
+/// What `out` grows by. A text at a time is allocated meanwhile, and freed.
 pub fn print_into(
     out: &mut Writer,
     alloc: Global,
@@ -842,6 +845,9 @@ pub fn print_into(
 ///
 /// # Errors
 /// Out of memory, and nothing else: see [`print_into`].
+///
+/// # Allocates
+/// The JSON. A text at a time is allocated meanwhile, and freed.
 pub fn print(
     alloc: Global,
     schema: &Schema,

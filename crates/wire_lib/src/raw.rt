@@ -97,6 +97,9 @@ fn put_taken(
 ///
 /// # Errors
 /// Out of memory; a part of the line may have been appended.
+///
+/// # Allocates
+/// What `text` and `lines` grow by. The value, and with `strict` its encoding, are freed.
 pub fn put_message(
     reading: Reading<'_>,
     message: &[u8],
@@ -121,6 +124,9 @@ pub fn put_message(
 ///
 /// # Errors
 /// Those of [`parse`](crate::parse::parse).
+///
+/// # Allocates
+/// The encoding. The value is freed; of a fault its path is allocated.
 pub fn message_of(sending: Sending<'_>, line: &[u8]) -> Result<Vec<u8>, ParseError>
     ensures sent { IfOk result (λ message. IsMessageToSend sending.entry line.now message.items) }
     ensures refused { IfWrong result (MeansNothing sending.entry line.now) }

@@ -214,6 +214,9 @@ impl<'a> LinesOfFrames<'a> {
     ///
     /// # Errors
     /// Out of memory; the lines before that have been appended.
+    ///
+    /// # Allocates
+    /// What `lines` grows by. A value at a time is freed.
     pub fn push(&mut self, piece: &[u8], lines: &mut Vec<u8>) -> Result<(), AllocError>
         ensures told { OnOk result ((passed : ℕ) (stream : List ℕ) (answers : List (Answers Values))
             → HasTold self.old passed stream answers → (more : List (Answers Values))
@@ -232,6 +235,9 @@ impl<'a> LinesOfFrames<'a> {
     ///
     /// # Errors
     /// Out of memory.
+    ///
+    /// # Allocates
+    /// What `lines` grows by.
     pub fn finish(self, lines: &mut Vec<u8>) -> Result<bool, AllocError>
         ensures good { IfOk result (λ good. (passed : ℕ) (stream : List ℕ)
             (answers : List (Answers Values)) → HasTold self.entry passed stream answers

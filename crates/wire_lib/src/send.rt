@@ -41,6 +41,9 @@ fn append(to: &mut Vec<u8>, bytes: &[u8]) -> Sent
 ///
 /// # Errors
 /// Those of [`parse`](crate::parse::parse); `Wrong` too if the frame has more than [`LIMIT`] bytes.
+///
+/// # Allocates
+/// The frame. The value and its encoding are freed; of a fault its path is allocated.
 pub fn frame_of(sending: Sending<'_>, line: &[u8]) -> Result<Vec<u8>, ParseError>
     ensures sent { IfOk result (λ frame. IsFrameToSend sending.entry line.now frame.items) }
     ensures refused { IfWrong result (IsUnsendable sending.entry line.now) }
@@ -172,11 +175,14 @@ impl<'a> FramesOfLines<'a> {
 
     /// Processes the next bytes, and appends a frame to `frames` for each line that they complete.
     ///
-    /// If a line isn't a value of the type, `line K: PATH: WHY` is appended to `wrongs` instead; lines count from 1. Chunk boundaries
-    /// don't matter.
+    /// If a line isn't a value of the type, or its frame has more than [`LIMIT`] bytes, `line K: PATH: WHY` is appended to `wrongs`
+    /// instead; lines count from 1. Chunk boundaries don't matter.
     ///
     /// # Errors
     /// Out of memory; what the lines before that became has been appended.
+    ///
+    /// # Allocates
+    /// What `frames`, `wrongs` and the begun line grow by. A value and its frame at a time are freed.
     pub fn push(&mut self, piece: &[u8], frames: &mut Vec<u8>, wrongs: &mut String) -> Sent
         ensures made { OnOk result ((text : List ℕ) (made : List LineMade)
             → HasMade self.old text made → (more : List LineMade)
@@ -215,6 +221,9 @@ impl<'a> FramesOfLines<'a> {
     ///
     /// # Errors
     /// Out of memory.
+    ///
+    /// # Allocates
+    /// What `frames` and `wrongs` grow by. The last value and its frame are freed.
     pub fn finish(mut self, frames: &mut Vec<u8>, wrongs: &mut String) -> Result<bool, AllocError>
         ensures { IfOk result (λ good. (text : List ℕ) (made : List LineMade)
             → HasMade self.entry text made → (last : List LineMade)

@@ -50,6 +50,9 @@ impl Shown {
     ///
     /// # Errors
     /// Out of memory.
+    ///
+    /// # Allocates
+    /// With `only`, how its lines begin.
     pub fn new(alloc: Global, only: Option<&str>, colour: bool) -> Result<Shown, AllocError> {
         Ok(Shown {
             alloc,
@@ -102,6 +105,9 @@ impl Shown {
     ///
     /// # Errors
     /// Out of memory; the lines before that have been appended.
+    ///
+    /// # Allocates
+    /// What `out` grows by. With a `time` a text at a time is freed.
     pub fn put(
         &self,
         lines: &[u8],

@@ -186,6 +186,9 @@ impl Sizes {
 ///
 /// # Errors
 /// Out of memory.
+///
+/// # Allocates
+/// A size for each type; as much again for the types that are begun is freed.
 pub fn greatest_sizes(alloc: Global, nodes: &[Node]) -> Result<Vec<Option<u64>>, AllocError>
     ensures each { IfOk result (λ sizes. length sizes.items ≡ length nodes.now) }
     ensures bounds { IfOk result (λ sizes. AreSizesOf nodes.now sizes.items) }
@@ -230,6 +233,9 @@ fn empty_elements(sizes: &[Option<u64>], node: &Node) -> Option<usize>
 ///
 /// # Errors
 /// Out of memory; the nodes are unchanged.
+///
+/// # Allocates
+/// As [`greatest_sizes`], freed.
 pub fn bound_lists(alloc: Global, nodes: &mut Vec<Node>, most: u64) -> Result<(), AllocError>
     ensures bounded { IfOk result (λ _. AreListsBounded most nodes.old.items nodes.new.items) }
     ensures error { IsErr result → nodes.new.items ≡ nodes.old.items }

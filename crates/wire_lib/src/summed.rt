@@ -55,6 +55,9 @@ pub(crate) fn put_sum(message: &mut Vec<u8>) -> Result<(), AllocError>
 ///
 /// # Errors
 /// Out of memory; nodes without use may have been added.
+///
+/// # Allocates
+/// What the table grows by: two types.
 pub fn add_summed(alloc: Global, schema: &mut Schema, place: usize) -> Result<usize, AllocError> {
     let mut parts = Vec::new(alloc);
     parts.push(place)?;

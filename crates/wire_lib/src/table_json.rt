@@ -301,6 +301,9 @@ fn put_table(out: &mut Writer, schema: &Schema, sizes: &[Option<u64>]) -> Put
 ///
 /// # Errors
 /// Out of memory.
+///
+/// # Allocates
+/// The line.
 pub fn table_json(alloc: Global, schema: &Schema) -> Result<Vec<u8>, AllocError>
     ensures { IfOk result (λ text. IsTableText schema.now text.items) }
 {

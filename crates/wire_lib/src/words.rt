@@ -174,7 +174,7 @@ fn has_word(mode: Action, name: &str) -> bool {
 /// `depth=N`, `empty=N`, `raw`, `crc32`, `time`, `only=NAME`.
 ///
 /// # Errors
-/// The first argument that the mode hasn't, or whose value is invalid; `raw` with a `sentinel` or `from`.
+/// The first argument that the mode hasn't, or whose value is invalid; `raw` with a `sentinel` that isn't 00 or a `from` that isn't 0.
 pub fn options_of<'a>(mode: Action, words: &'a [String]) -> Result<Options<'a>, WrongWord<'a>> {
     let mut options = PLAIN;
     for word in words {

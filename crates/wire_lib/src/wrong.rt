@@ -73,7 +73,11 @@ fn joined(alloc: Global, name: &str, path: &Option<String>) -> Result<String, Al
 }
 
 // The path is made on the way out, so a line without a fault costs nothing.
-/// Returns the error with the name of the part in which it is put before its path.
+/// Returns the error with the name of the part in which it is put before its path; `OutOfMemory` if that is the error, or if the
+/// path couldn't be allocated.
+///
+/// # Allocates
+/// The path.
 pub fn inside(alloc: Global, name: &str, error: ParseError) -> ParseError
     ensures { IsWrong result → IsWrong error }
 {
@@ -89,7 +93,10 @@ pub fn inside(alloc: Global, name: &str, error: ParseError) -> ParseError
     }
 }
 
-/// Returns the error with the index of the element in which it is put before its path.
+/// Returns the error with the index of the element in which it is put before its path; `OutOfMemory` as [`inside`].
+///
+/// # Allocates
+/// The path.
 pub fn inside_element(alloc: Global, index: usize, error: ParseError) -> ParseError
     ensures { IsWrong result → IsWrong error }
 {
@@ -99,7 +106,10 @@ pub fn inside_element(alloc: Global, index: usize, error: ParseError) -> ParseEr
     }
 }
 
-/// Returns the error for a line that isn't JSON from this column on.
+/// Returns the error for a line that isn't JSON from this column on; `OutOfMemory` if its path couldn't be allocated.
+///
+/// # Allocates
+/// The path.
 pub fn at_column(alloc: Global, column: usize) -> ParseError {
     match format!(in alloc; "column {column}") {
         Ok(path) => ParseError::Wrong(Wrong {
@@ -114,6 +124,9 @@ pub fn at_column(alloc: Global, column: usize) -> ParseError {
 ///
 /// # Errors
 /// Out of memory; a part may have been appended.
+///
+/// # Allocates
+/// What `lines` grows by.
 pub fn put_wrong(lines: &mut String, number: u64, wrong: &Wrong) -> Result<(), AllocError>
     ensures { OnOk result ((why : List ℕ)
         × (string_bytes lines.new ≡ string_bytes lines.old ++ refusal_text number why)) }

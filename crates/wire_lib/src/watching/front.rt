@@ -24,7 +24,10 @@ fn keep(bytes: &mut Vec<u8>, sentinel: u8, byte: u8) -> Result<(), AllocError>
 /// Updates the first [`MOST`] bytes after the stream's last sentinel by the stream's next chunk.
 ///
 /// # Errors
-/// Out of memory.
+/// Out of memory; a part of the chunk may have been taken.
+///
+/// # Allocates
+/// What `bytes` grows by, to at most [`MOST`].
 pub fn keep_front(bytes: &mut Vec<u8>, sentinel: u8, piece: &[u8]) -> Result<(), AllocError>
     ensures { OnOk result (bytes.new.items ≡ kept_behind sentinel bytes.old.items piece.now) }
 {

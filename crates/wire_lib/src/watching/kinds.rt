@@ -27,6 +27,9 @@ fn row(alloc: Global, name: &str) -> Result<Row, AllocError>
 ///
 /// # Errors
 /// Out of memory.
+///
+/// # Allocates
+/// The rows, and their names.
 pub fn rows_of(alloc: Global, schema: &Schema, place: usize) -> Result<Vec<Row>, AllocError>
     ensures none { IfOk result (λ rows. All (λ row. row.count ≡ 0) rows.items) }
 {
@@ -83,10 +86,14 @@ fn short(alloc: Global, text: &str) -> Result<String, AllocError> {
     Ok(kept)
 }
 
-/// Returns a value's text beside its kind: the JSON of a variant's payload, empty without fields; else the whole value's JSON.
+/// Returns a value's text beside its kind: the JSON of a variant's payload, empty without fields; else the whole value's JSON. Of a
+/// long text it has the first [`LONGEST`] bytes or a few more, and `..`.
 ///
 /// # Errors
 /// Out of memory.
+///
+/// # Allocates
+/// The text, of at most a few more than [`LONGEST`] bytes. The whole JSON is freed.
 pub fn text_of(reading: Reading<'_>, value: &Value) -> Result<String, AllocError> {
     let Reading {
         alloc,

@@ -112,10 +112,14 @@ pub fn damage_lines(table: &Table) -> usize {
     table.damages.len().saturating_add(1)
 }
 
-/// Returns a table as printable lines: each kind of which a message came, and then the number of damages with the last ones.
+/// Returns a table as printable lines, of at most as many bytes as the view has columns: a head, each kind of which a message came (a
+/// line `..` for those beyond the view's number), and then the number of damages with the last ones.
 ///
 /// # Errors
 /// Out of memory.
+///
+/// # Allocates
+/// The lines. A text at a time is freed.
 pub fn picture(alloc: Global, table: &Table, view: View) -> Result<Vec<Vec<u8>>, AllocError>
     ensures { IfOk result (λ lines. Fits view.columns lines.items) }
 {

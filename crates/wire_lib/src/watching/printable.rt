@@ -63,10 +63,14 @@ fn put(line: &mut Vec<u8>, character: char) -> Result<(), AllocError>
     put_escaped(line, character)
 }
 
-/// Returns a text as one line of at most `columns` bytes. Each character that isn't printable ASCII is escaped as in JSON.
+/// Returns a text as one line of at most `columns` bytes: what exceeds them is cut off, also within an escape. Each character that
+/// isn't printable ASCII is escaped as in JSON.
 ///
 /// # Errors
 /// Out of memory.
+///
+/// # Allocates
+/// The line.
 pub fn printable(alloc: Global, text: &str, columns: usize) -> Result<Vec<u8>, AllocError>
     ensures printable { IfOk result (λ line. ArePrintable line.items) }
     ensures fits { IfOk result (λ line. length line.items ≤ columns) }

@@ -58,7 +58,8 @@ impl Rate {
         }
     }
 
-    /// Returns how many messages came in the window before this one. This one must not be earlier than the last in which any came.
+    /// Returns how many messages came in the window before this one. If this one is earlier than the last in which any came, the
+    /// result isn't specified.
     pub fn in_the_last(&self, window: u64) -> u64
         ensures { (times : List ℕ) → HasTimed self.now times → IsRate times window result }
     {

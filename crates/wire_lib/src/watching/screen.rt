@@ -91,7 +91,10 @@ impl Screen {
     /// the picture shows its first lines, and no picture fills the scrollback.
     ///
     /// # Errors
-    /// Out of memory; what was appended must not be written.
+    /// Out of memory: the screen is unchanged, and what was appended must not be written.
+    ///
+    /// # Allocates
+    /// What `out` grows by.
     pub fn draw(
         &mut self,
         lines: &[Vec<u8>],

@@ -23,7 +23,7 @@ pub struct Row {
 }
 
 impl Row {
-    /// Returns a kind of which no message came.
+    /// Returns a kind of which no message came. Doesn't allocate yet.
     pub fn new(name: String, alloc: Global) -> Row
         ensures name { result.name ≡ name }
         ensures count { result.count ≡ 0 }
@@ -77,6 +77,9 @@ impl Table {
     ///
     /// # Errors
     /// Out of memory; the damage is counted, and the oldest text may be gone.
+    ///
+    /// # Allocates
+    /// What the list of damages grows by.
     pub fn note_damage(&mut self, told: String) -> Result<(), AllocError>
         ensures damaged { self.new.damaged ≡ capped (self.old.damaged + 1) }
         ensures damages { length self.old.damages.items ≤ 3 → OnOk result

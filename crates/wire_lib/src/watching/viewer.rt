@@ -189,6 +189,9 @@ impl<'a> Viewer<'a> {
     ///
     /// # Errors
     /// Out of memory; the table may have counted only some of the chunk's results.
+    ///
+    /// # Allocates
+    /// What `lines` and the table grow by. A value at a time is freed.
     pub fn push(&mut self, piece: &[u8], window: u64, lines: &mut Vec<u8>) -> Result<(), AllocError>
         ensures seen { OnOk result ((stream : List ℕ) (answers : List (Answers Values))
             → HasSeen self.old stream answers → (more : List (Answers Values))
@@ -208,6 +211,9 @@ impl<'a> Viewer<'a> {
     ///
     /// # Errors
     /// Out of memory.
+    ///
+    /// # Allocates
+    /// What `lines` and the table grow by.
     pub fn finish(&mut self, lines: &mut Vec<u8>) -> Result<bool, AllocError>
         ensures counted { OnOk result ((stream : List ℕ) (answers : List (Answers Values))
             → HasSeen self.old stream answers
