@@ -202,7 +202,8 @@ impl Text<'_> {
 
     /// Appends the implementations of a declaration, with its schema if it is read, or without.
     pub fn put_declaration(&mut self, it: &Declaration, with_schemas: bool) {
-        self.made.note(self.uses.push((NO_NAME, it.name)).is_err());
+        self.made
+            .note(self.uses.insert((NO_NAME, it.name)).is_err());
         let (count, shape, sent) = match &it.body {
             Body::Enum(variants) => (variants.len(), VARIANTS, MATCHING),
             Body::Struct(fields) if fields.items.len() > 1 => (0, SEVERAL, SENDING),

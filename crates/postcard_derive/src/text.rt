@@ -5,6 +5,7 @@ use declaration_parser::faults::Faults;
 use declaration_parser::texts::{first_letter, is_listed, is_of_word};
 use declaration_parser::tokens::{NO_NAME, Name, Word, Words};
 use std::alloc::Global;
+use std::collections::BTreeSet;
 
 /// How many parts a tuple has at most; more are in rows.
 const ROW: usize = 6;
@@ -49,7 +50,7 @@ pub struct Text<'a> {
     /// How many variants there are, where a declaration has some.
     pub count: usize,
     /// Each name that is brought in, behind the type whose fields have it; behind none if bounds have it.
-    pub uses: Vec<(Name, Name)>,
+    pub uses: BTreeSet<(Name, Name)>,
     pub made: Faults,
 }
 
@@ -60,7 +61,7 @@ impl<'a> Text<'a> {
             origins,
             path,
             count: 0,
-            uses: Vec::new(alloc),
+            uses: BTreeSet::new(alloc),
             made: Faults::new(alloc),
         }
     }
@@ -107,7 +108,7 @@ impl<'a> Text<'a> {
             });
             before = text;
             if origins.is_brought_in(it, word, by == NO_NAME) {
-                self.made.note(self.uses.push((by, word.name)).is_err());
+                self.made.note(self.uses.insert((by, word.name)).is_err());
             }
         }
     }
