@@ -16,7 +16,7 @@ use declaration_parser::items::{self, Kind, Scope, Walk};
 use declaration_parser::tokens::{NO_NAME, Name, Tokens, Words};
 pub use path::Path;
 use std::alloc::{AllocError, Global};
-use std::collections::BTreeMap;
+use std::collections::{BTreeMap, BTreeSet};
 use ways::Lead;
 
 /// What a name stands for where it is declared.
@@ -72,9 +72,9 @@ pub struct Scopes<'a> {
     /// Of each name whether it is declared, or brought in from what isn't known.
     named: Vec<bool>,
     /// The names of items, modules and of what a `use` brings in, each with its scope; no name where a `*` is.
-    members: BTreeMap<(Name, usize), ()>,
+    members: BTreeSet<(Name, usize)>,
     /// From which scope a `*` leads to which others, also by those of others; and from each to itself.
-    ways: BTreeMap<(usize, usize), ()>,
+    ways: BTreeSet<(usize, usize)>,
     /// The rules of macros, and calls that may declare something.
     rules: Vec<items::Item>,
     calls: Vec<items::Item>,
@@ -100,8 +100,8 @@ impl<'a> Scopes<'a> {
             items: Vec::new(alloc),
             imports: Vec::new(alloc),
             marked: BTreeMap::new(alloc),
-            members: BTreeMap::new(alloc),
-            ways: BTreeMap::new(alloc),
+            members: BTreeSet::new(alloc),
+            ways: BTreeSet::new(alloc),
             rules: Vec::new(alloc),
             calls: Vec::new(alloc),
             endpoints: Vec::new(alloc),
@@ -132,7 +132,7 @@ impl<'a> Scopes<'a> {
             if it.name != NO_NAME {
                 self.add_member(it.name, it.outer);
             }
-            self.failed = self.ways.insert((place, place), ()).is_err() || self.failed;
+            self.failed = self.ways.insert((place, place)).is_err() || self.failed;
         }
     }
 
@@ -155,7 +155,7 @@ impl<'a> Scopes<'a> {
         let place = self.scopes.len();
         let scope = self.scope(place);
         self.failed = self.scopes.push(scope).is_err() || self.failed;
-        self.failed = self.ways.insert((place, place), ()).is_err() || self.failed;
+        self.failed = self.ways.insert((place, place)).is_err() || self.failed;
         place
     }
 
@@ -178,7 +178,7 @@ impl<'a> Scopes<'a> {
     }
 
     fn add_member(&mut self, name: Name, scope: usize) {
-        self.failed = self.members.insert((name, scope), ()).is_err() || self.failed;
+        self.failed = self.members.insert((name, scope)).is_err() || self.failed;
     }
 
     /// Notes that a name is declared, or brought in from what isn't known.
@@ -201,7 +201,7 @@ impl<'a> Scopes<'a> {
     }
 
     fn has_star(&self, scope: usize) -> bool {
-        self.members.contains_key(&(NO_NAME, scope))
+        self.members.contains(&(NO_NAME, scope))
     }
 
     /// Whether a scope is in a module, as a body is.

@@ -137,7 +137,7 @@ impl<'a> Scopes<'a> {
 
     /// What a scope declares or brings in under a name.
     pub(super) fn own(&self, scope: usize, name: Name, space: Space) -> Meaning {
-        if !self.members.contains_key(&(name, scope)) || name == NO_NAME {
+        if !self.members.contains(&(name, scope)) || name == NO_NAME {
             return Meaning::Nothing;
         }
         let (mut found, mut is_conditional) = self.declared(scope, name, space);
@@ -178,7 +178,7 @@ impl<'a> Scopes<'a> {
     /// What all modules but this one have under a name, and whether a `*` of this one leads to one that has it.
     fn of_others(&self, module: usize, name: Name, space: Space) -> (Meaning, bool) {
         let (mut found, mut is_led) = (Meaning::Nothing, false);
-        for ((_, there), ()) in self.members.range((name, 0)..=(name, usize::MAX)) {
+        for (_, there) in self.members.range((name, 0)..=(name, usize::MAX)) {
             if *there == module || !is_within(&self.scopes, Step::All, *there) {
                 continue;
             }

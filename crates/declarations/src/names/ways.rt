@@ -126,13 +126,13 @@ impl<'a> Scopes<'a> {
 
     fn add_ways(&mut self, scope: usize, to: usize) {
         let mut places = Vec::new(self.alloc);
-        for (way, _) in self.ways.range((to, 0)..=(to, usize::MAX)) {
-            self.failed = places.push(way.1).is_err() || self.failed;
+        for (_, place) in self.ways.range((to, 0)..=(to, usize::MAX)) {
+            self.failed = places.push(*place).is_err() || self.failed;
         }
         for from in 0..self.scopes.len() {
             if self.leads_to(from, scope) && !self.leads_to(from, to) {
                 for place in &places {
-                    self.failed = self.ways.insert((from, *place), ()).is_err() || self.failed;
+                    self.failed = self.ways.insert((from, *place)).is_err() || self.failed;
                 }
             }
         }
@@ -140,6 +140,6 @@ impl<'a> Scopes<'a> {
 
     /// Whether a scope is another, or a `*` leads from one to the other, also by those of others.
     pub(super) fn leads_to(&self, from: usize, place: usize) -> bool {
-        self.ways.contains_key(&(from, place))
+        self.ways.contains(&(from, place))
     }
 }
