@@ -32,7 +32,7 @@ use crate::checking::{check, mend};
 use crate::entries::{NULL, OUTPUT, hold_descriptors, say_error};
 use crate::following::follow;
 use crate::showing::show;
-use crate::words::{NO_OPTION, TOO_MANY, Wanted, WrongArgument, wanted_by};
+use crate::words::{NO_FILE, NO_OPTION, TOO_MANY, Wanted, WrongArgument, wanted_by};
 use help::answer;
 use std::io::{ErrorKind, IsTerminal};
 use std::process::ExitCode;
@@ -94,7 +94,8 @@ fn run_by(rt: &HostRuntime, words: &[&str]) -> io::Result<u8> {
         ["check"] => check(rt, None),
         ["check", path] => check(rt, Some(path)),
         ["repair"] => mend(rt),
-        ["append" | "check", _, word, ..] | ["repair", word, ..] => wrong(rt, word, TOO_MANY),
+        ["append" | "check", _, word, ..] => wrong(rt, word, TOO_MANY),
+        ["repair", word, ..] => wrong(rt, word, NO_FILE),
         [word, ..] => wrong(rt, word, "no such command"),
         [] => wrong(rt, "no command", "one is missing"),
     }

@@ -27,6 +27,9 @@ pub struct Wanted<'a> {
 /// Why a word after the last that a command takes is wrong.
 pub const TOO_MANY: &str = "one word too many";
 
+/// Why `repair` takes no word.
+pub const NO_FILE: &str = "`repair` reads the log on standard input: write `< FILE` after it";
+
 /// Why a word that begins as an option is wrong. A file of such a name is `./--name`.
 pub const NO_OPTION: &str = "no such option";
 
