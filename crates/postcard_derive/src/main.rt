@@ -16,6 +16,7 @@ use crate::text::Text;
 use declaration_parser::faults::Faults;
 use declaration_parser::parser::Purpose;
 use declaration_parser::reading::{AllDeclared, declarations};
+use declaration_parser::texts::is_of_word;
 use declaration_parser::tokens::Tokens;
 use help::{About, answer};
 use std::alloc::{AllocError, Global};
@@ -39,11 +40,21 @@ where a declaration can't be, 2 at wrong words, 3 if a device failed, 4 out of m
     usage: USAGE,
 };
 
+/// Whether a word can name a crate or a module.
+fn is_name(word: &str) -> bool {
+    for character in word.chars() {
+        if !is_of_word(character) {
+            return false;
+        }
+    }
+    !word.is_empty()
+}
+
 /// The path of the definitions of a module: of the crate and the modules in it that these name; empty if one is no name.
 fn path_of(alloc: Global, names: &[String]) -> Result<String, AllocError> {
     let mut path = Faults::new(alloc);
     for (place, name) in names.iter().enumerate() {
-        if name.starts_with('-') {
+        if !is_name(name.as_str()) {
             return Ok(String::new(alloc));
         }
         path.put_all(&[".", name, if place > 0 { "" } else { ".specs.declared" }]);
