@@ -164,8 +164,7 @@ impl<'a, 'b> Parser<'a, 'b> {
     /// Turns to what is in the group at the start, and gives what follows that.
     fn enter(&mut self) -> Words {
         let Some((inside, behind)) = self.at.tokens.group(self.at.rest) else {
-            self.at
-                .want(false, "what is declared is wanted, and closed,");
+            self.at.want(false, "closed brackets are wanted");
             return Words::default();
         };
         self.at.rest = inside;

@@ -218,7 +218,7 @@ const WRONG: [Row; 9] = [
     ),
     (
         "// message\nstruct A(Option);",
-        "line 2: `A.0`: what a type holds is wanted in `<` and `>`, as `Option<u8>` and `ArrayVec<u8, 4>` have it\n",
+        "line 2: `A.0`: write what the type holds in `<` and `>`, as in `Option<u8>` and `ArrayVec<u8, 4>`\n",
     ),
     (
         "// message\nstruct A { #[serde(flatten)] a: u8 }",

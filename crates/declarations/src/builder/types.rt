@@ -34,14 +34,12 @@ const CANNOT_BE_SENT: &str =
 
 const LEFT_OUT: &str = "` is left out, and defaults aren't followed: write it";
 
-const MORE: &str =
-    "` can't stand here, where lifetimes and what stands for parameters alone do: leave it out";
+const MORE: &str = "` is an argument too many: leave it out";
 
-const BEHIND: &str =
-    "` can't stand behind a type: write a known type, or one that is declared and marked";
+const BEHIND: &str = "` can't follow a type: leave it out, or write the type that is on the wire";
 
 const NO_ARGUMENTS: &str =
-    "what a type holds is wanted in `<` and `>`, as `Option<u8>` and `ArrayVec<u8, 4>` have it";
+    "write what the type holds in `<` and `>`, as in `Option<u8>` and `ArrayVec<u8, 4>`";
 
 const NO_INTEGER: &str =
     "` isn't an integer of 16 to 128 bits: write one, or its bytes as an array";
@@ -301,7 +299,10 @@ impl<'a> Builder<'a> {
         if most > 0 {
             faults.put_all(&["the nearest is `", nearest, "`\n"]);
         }
-        faults.put("there are:");
+        faults.put(match self.all {
+            [] => "no type is declared and marked in these files",
+            _ => "there are:",
+        });
         for it in self.all {
             faults.put_all(&[" ", self.tokens.text(it.name)]);
         }
