@@ -30,6 +30,27 @@ fn name_of(tokens: &Tokens, rules: &items::Item) -> Name {
     tokens.nth(rules.words, 2).name
 }
 
+/// The place of the first name of the path that ends with the name at this place.
+fn start_of(tokens: &Tokens, place: usize) -> usize {
+    let mut start = place;
+    for _ in 0..place {
+        let before = start.saturating_sub(3);
+        let colons = (
+            tokens.at(before.saturating_add(1)),
+            tokens.at(before.saturating_add(2)),
+        );
+        if before.saturating_add(3) != start
+            || !tokens.at(before).is_name
+            || colons.0.word != Word::Colon
+            || colons.1.word != Word::Colon
+        {
+            break;
+        }
+        start = before;
+    }
+    start
+}
+
 /// Whether words may make any name: one of others, as `struct [<$a $b>]` does in `paste!`, or a module. And whether they are
 /// rules of a macro that declare a type by the first name that they are handed.
 fn made_by(tokens: &Tokens, words: Words) -> (bool, bool) {
@@ -158,8 +179,7 @@ impl<'a> Scopes<'a> {
     /// Reads the call of a macro of which nothing is known but its rules. If it may make any name, it is as a `*` that leads out.
     fn read_call_of(&mut self, import: Import, item: &items::Item) {
         let tokens = self.tokens;
-        let path = item.words.before(tokens.up_to(item.words, &[Word::Not]));
-        let name = tokens.last(path).name;
+        let name = tokens.first(item.words).name;
         let text = tokens.text(name);
         // which declare no type and no length
         if text.starts_with("assert_")
@@ -168,10 +188,10 @@ impl<'a> Scopes<'a> {
         {
             return;
         }
-        let is_near = match path.len() {
-            1 => !self.is_imported(item.scope, name),
-            _ => matches!(tokens.front(path), Word::Crate | Word::Own | Word::Super),
-        };
+        let start = start_of(tokens, item.words.from);
+        let is_alone = start == item.words.from;
+        let is_own = matches!(tokens.at(start).word, Word::Crate | Word::Own | Word::Super);
+        let is_near = (is_alone || is_own) && !self.is_imported(item.scope, name, is_alone);
         let mut is_foreign = !self.is_inner(item.scope);
         let (mut is_open, _) = made_by(tokens, item.inside);
         for place in 0..self.rules.len() {
@@ -215,10 +235,12 @@ impl<'a> Scopes<'a> {
         false
     }
 
-    /// Whether a scope may have the macro of this name from another crate, by a `use` or by `extern crate`.
-    fn is_imported(&self, scope: usize, name: Name) -> bool {
+    /// Whether a scope may have the macro of this name from another crate, by a `use` or by `extern crate`; or one to which a path
+    /// leads. A `use` of the name alone is of a macro that is there.
+    fn is_imported(&self, scope: usize, name: Name, is_alone: bool) -> bool {
         for it in &self.imports {
-            let may_be = it.is_crate || (it.scope == scope && it.name == name);
+            let is_there = it.scope == scope || !is_alone;
+            let may_be = it.is_crate || (is_there && it.name == name && it.path.count > 0);
             if may_be && it.leads_out() && !matches!(it.lead.before, Meaning::Known(_)) {
                 return true;
             }
