@@ -3,6 +3,7 @@ use super::meaning::Meaning;
 use super::{Import, Item, Kind, NO_NAME, Name, Scopes, Tokens, What, Words};
 use crate::known::is_everywhere;
 use declaration_parser::items::{self, ItemKind};
+use declaration_parser::texts::is_listed;
 use declaration_parser::tokens::Word;
 
 /// Why what a macro makes isn't taken.
@@ -184,7 +185,7 @@ impl<'a> Scopes<'a> {
         // which declare no type and no length
         if text.starts_with("assert_")
             || text.starts_with("const_assert")
-            || text == "thread_local"
+            || is_listed(text, "compile_error global_asm thread_local")
         {
             return;
         }
