@@ -141,11 +141,22 @@ impl<'a> Scopes<'a> {
         match tokens.first_text(item.words) {
             _ if self.is_inner(item.scope) => self.read_call_of(import, item),
             "include" => self.add_include(import),
+            _ if self.has_rules(tokens.first(item.words).name) => self.read_call_of(import, item),
             "endpoints" | "topics" => self.failed = self.endpoints.push(item.inside).is_err()
                 || self.failed,
             "bitflags" => self.read_made(import, item.inside, true),
             _ => self.read_call_of(import, item),
         }
+    }
+
+    /// Whether these files have the rules of a macro of this name.
+    fn has_rules(&self, name: Name) -> bool {
+        for it in &self.rules {
+            if name_of(self.tokens, it) == name {
+                return true;
+            }
+        }
+        false
     }
 
     /// Reads what a macro makes: names after the words of items, in all groups.
