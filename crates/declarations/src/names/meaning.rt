@@ -279,6 +279,20 @@ impl<'a> Scopes<'a> {
         }
     }
 
+    /// Whether a `*` of a module may hide what every file has under a name, which some file gives to another thing.
+    fn may_be_hidden(&self, module: usize, name: Name) -> bool {
+        if !self.has_star(module) || !self.has(name) {
+            return false;
+        }
+        for ((_, there), ()) in self.members.range((name, 0)..=(name, usize::MAX)) {
+            if self.leads_to(module, *there) {
+                return true;
+            }
+        }
+        self.by_open_stars(module, name, Space::Types) != Meaning::Nothing
+            || self.by_macros(module, name, Space::Types) != Meaning::Nothing
+    }
+
     /// What a name means where a scope uses it: what the scope has, or else what is round it.
     pub(super) fn seen(&self, scope: usize, name: Name, space: Space) -> Meaning {
         let is_everywhere = is_everywhere(self.tokens.text(name));
@@ -303,7 +317,7 @@ impl<'a> Scopes<'a> {
     /// What a name means that its module doesn't have: what a `*` brings in, beside a crate, or what every file has.
     fn beyond(&self, module: usize, name: Name, space: Space) -> Meaning {
         let is_everywhere = space == Space::Types && is_everywhere(self.tokens.text(name));
-        if is_everywhere && self.has_star(module) && self.has(name) {
+        if is_everywhere && self.may_be_hidden(module, name) {
             return Meaning::Wrong(BY_STAR);
         }
         if is_everywhere {
