@@ -202,6 +202,13 @@ impl Builder<'_> {
         if is_primitive(self.tokens.text(before)) && !self.names.has_module(before) {
             return Some((self.of_language(at, &path, last)?, rest));
         }
+        // a function that is called, or what has fields
+        if !rest.is_empty()
+            && self.tokens.front(rest) != Word::As
+            && operator_at(self.tokens, rest).is_none()
+        {
+            return None;
+        }
         let (words, at, most) = self.constant(at, &path, last)?;
         let number = self.value(words, at, most, depth)?;
         Some((number_of(number.value, most)?, rest))
