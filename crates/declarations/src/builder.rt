@@ -234,13 +234,21 @@ impl<'a> Builder<'a> {
         if self.is_refused(index, it) {
             return;
         }
-        let (scope, is_second) = self.names.stand(index);
+        let stand = self.names.stand(index);
+        let (scope, is_second) = stand.unwrap_or((self.asked, false));
         self.turn_to(Context { scope, own });
+        self.words.is_without_line = false;
+        self.words.file = it.file;
         self.words.is_wrong = false;
         self.words.name = it.name;
         self.words.variant = NO_NAME;
         self.words.field = None;
         self.words.line = it.line;
+        if stand.is_none() {
+            self.wrong(&[
+                "a declaration in the words of another item isn't read: write it beside that",
+            ]);
+        }
         if is_second {
             self.wrong(&["the file declares this name twice: leave out what isn't on the wire"]);
         }

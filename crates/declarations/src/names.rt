@@ -164,17 +164,20 @@ impl<'a> Scopes<'a> {
         self.scope(scope).file
     }
 
-    /// The scope of a marked declaration, and whether another in it precedes it by the same name.
-    pub fn stand(&self, index: usize) -> (usize, bool) {
-        let mut own = (0, NO_NAME);
+    /// The scope of a marked declaration, and whether another in it precedes it by the same name; none of one that is in the words
+    /// of another item.
+    pub fn stand(&self, index: usize) -> Option<(usize, bool)> {
+        let mut own = None;
         for it in self.items.iter().rev() {
+            let here = (it.scope, it.name);
             match it.what {
-                What::Marked(place) if place == index => own = (it.scope, it.name),
-                What::Marked(_) if own == (it.scope, it.name) => return (it.scope, true),
+                What::Marked(place) if place == index => own = Some(here),
+                What::Marked(_) if own == Some(here) => return Some((it.scope, true)),
                 _ => {}
             }
         }
-        (own.0, false)
+        let (scope, _) = own?;
+        Some((scope, false))
     }
 
     fn add_member(&mut self, name: Name, scope: usize) {
