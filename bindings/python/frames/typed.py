@@ -304,17 +304,25 @@ class _Process:
                 raise OSError(said or f"wire ended with status {status}")
 
     def _feed(self, source: Any, ends: bool) -> None:
-        assert self._process.stdin is not None
         try:
             for piece in _pieces(source, ends, lambda: self._process.poll() is not None):
-                self._process.stdin.write(piece)
-                self._process.stdin.flush()
-        except (BrokenPipeError, ValueError):  # it ended, or was closed
-            pass
-        except BaseException as failure:
+                if not self._is_taken(piece):
+                    break
+        except BaseException as failure:  # of the source
             self._failure = failure
         finally:
+            assert self._process.stdin is not None
             _closed(self._process.stdin)
+
+    def _is_taken(self, piece: bytes) -> bool:
+        """Whether the program takes these bytes: not if it ended, or was closed."""
+        assert self._process.stdin is not None
+        try:
+            self._process.stdin.write(piece)
+            self._process.stdin.flush()
+        except (BrokenPipeError, ValueError):
+            return False
+        return True
 
 
 class TypedReceiver(_Single):

@@ -450,12 +450,12 @@ def test_wheel(folder):
 class Failing:
     """A source that gives bytes, and then fails."""
 
-    def __init__(self, stream):
-        self.stream = stream
+    def __init__(self, stream, failure=EOFError("the line is gone")):
+        self.stream, self.failure = stream, failure
 
     def read(self, size):
         if not self.stream:
-            raise EOFError("the line is gone")
+            raise self.failure
         piece, self.stream = self.stream[:size], self.stream[size:]
         return piece
 
@@ -661,6 +661,10 @@ def test_typed(folder, wire):
         assert heard == answers
     else:
         raise AssertionError("not raised")
+    shut = io.BytesIO()
+    shut.close()
+    for source, error in ((shut, ValueError), (Failing(stream, BrokenPipeError("the line is gone")), BrokenPipeError)):
+        assert refuses(error, list, typed.TypedReceiver(path, "Reading", wire=wire).listen(source)), "a read that fails is taken for the end"
     with typed.TypedReceiver(path, "Reading", wire=wire) as receiver:  # left early
         assert next(receiver.listen(io.BytesIO(stream * 20000))) == answers[0]
     here, there = os.openpty()  # as they come, over a line that stays open
