@@ -38,10 +38,34 @@ class _Terms(Structure):
 _loaded: Optional[ctypes.CDLL] = None
 
 
+class Pairs(List[List[Any]]):
+    """The pairs of a map in which a key comes twice. Its keys are texts, as those of a dictionary; `write` takes it for that map."""
+
+
+class _Members(Dict[Any, Any]):
+    """An object of JSON in which a key may come twice."""
+
+    def __init__(self, pairs: List[Tuple[Any, Any]]) -> None:
+        super().__init__(pairs)
+        self._pairs = pairs
+
+    def items(self) -> Any:
+        return self._pairs
+
+
 def _object(pairs: List[Tuple[str, Any]]) -> Any:
     """A dictionary; of a map in which a key comes twice, all of its pairs."""
     held = dict(pairs)
-    return held if len(held) == len(pairs) else [list(pair) for pair in pairs]
+    return held if len(held) == len(pairs) else Pairs(list(pair) for pair in pairs)
+
+
+def _as_objects(value: Any) -> Any:
+    """A value in which all pairs of a map are an object again."""
+    if isinstance(value, Pairs):
+        return _Members([(key, _as_objects(held)) for key, held in value])
+    if isinstance(value, dict):
+        return {key: _as_objects(held) for key, held in value.items()}
+    return [_as_objects(held) for held in value] if isinstance(value, (list, tuple)) else value
 
 
 _DECODER = json.JSONDecoder(object_pairs_hook=_object)
@@ -227,6 +251,10 @@ def _told(said: bytes) -> str:
 
 def _line(value: Any) -> str:
     try:
+        value = _as_objects(value)
+    except RecursionError:  # also of a list that holds itself, of which json says that
+        pass
+    try:
         return json.dumps(value, allow_nan=False) + "\n"
     except ValueError as error:
         if "JSON compliant" not in str(error):
@@ -328,7 +356,7 @@ class _Process:
 class TypedReceiver(_Single):
     """Receives the messages of a type, each as a dictionary of what `wire read` prints.
 
-    A map is a dictionary if its keys can be texts and none comes twice, else a list of its pairs.
+    A map is a dictionary if its keys can be texts and none comes twice, else a list of its pairs: `Pairs`, if a key comes twice.
 
     Wrong declarations, a wrong type or a failing device are an `OSError`, at the latest from `close`, which the end of a `with` block calls.
     """

@@ -571,6 +571,11 @@ def test_value_field(folder, wire):
     twice = b"\0" + frames.encode(b"\2\1a\1\1a\2") + b"\0"
     assert typed.TypedReceiver(path, "BTreeMap<String, u8>", wire=wire).answers(twice) == [{"value": [["a", 1], ["a", 2]]}]
     assert written("BTreeMap<String, u8>", [["a", 1], ["a", 2]]) == twice and written("BTreeMap<String, u8>", {"a": 1}) == b"\0\5\1\1a\1\0"
+    # nor is it refused as a receiver returns it, where the keys are numbers
+    for type_name, body in (("BTreeMap<i16, u8>", b"\2\1\2\1\3"), ("BTreeMap<bool, u8>", b"\2\1\2\1\3"), ("Vec<BTreeMap<u8, BTreeMap<u8, u8>>>", b"\1\1\7\2\1\2\1\3")):
+        stream = b"\0" + frames.encode(body) + b"\0"
+        answers = typed.TypedReceiver(path, type_name, wire=wire).answers(stream)
+        assert written(type_name, *answers) == written(type_name, answers[0]["value"]) == stream, answers
     # what has one meaning goes out, by itself or as a receiver answers it; and nothing else does
     assert written("Inner", {"value": 7}) == written("Inner", {"value": {"value": 7}}) == b"\0\2\7\0"
     assert written("Outer", {"value": {"value": 7}}, {"value": {"value": {"value": 8}}}) == b"\0\2\7\0\2\x08\0"
