@@ -1,6 +1,10 @@
 # find_package(frames) gives frames::frames (the static library) and frames::shared, and frames::wire (that of typed messages). It is
 # installed as lib/cmake/frames/framesConfig.cmake.
 get_filename_component(_frames_prefix "${CMAKE_CURRENT_LIST_DIR}/../../.." ABSOLUTE)
+if(NOT EXISTS "${_frames_prefix}/include/frames.h") # found by a link, such as /lib to /usr/lib
+  get_filename_component(_frames_prefix "${CMAKE_CURRENT_LIST_DIR}" REALPATH)
+  get_filename_component(_frames_prefix "${_frames_prefix}/../../.." ABSOLUTE)
+endif()
 foreach(_frames_kind IN ITEMS frames shared)
   if(NOT TARGET frames::${_frames_kind})
     if(_frames_kind STREQUAL "shared")
