@@ -410,14 +410,23 @@ def _pieces(source: Any, ends: bool, is_over: Callable[[], bool] = lambda: False
             is_ready = _is_ready(descriptor)
 
 
-def listen(source: Any, limit: int, sentinel: int = 0, plain: bool = False, ends: bool = True) -> Generator[Event, None, None]:
+def _receiver_of(limit: Union[int, Receiver], sentinel: int, plain: bool) -> Receiver:
+    """A new receiver, or the one that is given in place of a limit, which has a sentinel and a form of its own."""
+    if not isinstance(limit, Receiver):
+        return Receiver(limit, sentinel, plain)
+    if _byte(sentinel) or plain:
+        raise TypeError("a receiver has its own sentinel and form: give none with it")
+    return limit
+
+
+def listen(source: Any, limit: Union[int, Receiver], sentinel: int = 0, plain: bool = False, ends: bool = True) -> Generator[Event, None, None]:
     """The events of a file object, a socket's file or a serial port, as they come.
 
     It reads what is there, and at least a byte. A read of nothing ends the stream, and `Cut` may then come last. With `ends=False`, for a
     serial port with a timeout, it reads again, and waits first if the read didn't wait. A file that doesn't block and has nothing yet
-    hasn't ended.
+    hasn't ended. A `Receiver` in place of the limit keeps a frame that has begun, for the next call.
     """
-    receiver = Receiver(limit, sentinel, plain)
+    receiver = _receiver_of(limit, sentinel, plain)
     for piece in _pieces(source, ends):
         yield from receiver.push(piece)
     cut = receiver.finish()

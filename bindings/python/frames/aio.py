@@ -9,19 +9,20 @@
 from __future__ import annotations
 
 import asyncio
-from typing import AsyncGenerator
+from typing import AsyncGenerator, Union
 
-from . import Event, Receiver, Sender
+from . import Event, Receiver, Sender, _receiver_of
 
 __all__ = ["Line", "listen"]
 
 
-async def listen(reader: asyncio.StreamReader, limit: int, sentinel: int = 0, plain: bool = False) -> AsyncGenerator[Event, None]:
+async def listen(reader: asyncio.StreamReader, limit: Union[int, Receiver], sentinel: int = 0, plain: bool = False) -> AsyncGenerator[Event, None]:
     """The events of a stream, as they come; `Cut` last, if it ends inside a frame.
 
-    Raises what a read raises, after the events of what was read before.
+    Raises what a read raises, after the events of what was read before. A wait that is cancelled, as by `asyncio.wait_for`, ends it. A
+    `Receiver` in place of the limit keeps a frame that has begun, for the next call.
     """
-    receiver = Receiver(limit, sentinel, plain)
+    receiver = _receiver_of(limit, sentinel, plain)
     while True:
         piece = await reader.read(65536)
         if not piece:

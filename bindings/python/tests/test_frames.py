@@ -306,6 +306,20 @@ def test_aio():
         server.close()
         return heard
 
+    async def cancelled(limit):  # while it waits inside of a frame; and what is heard of the rest
+        line, reader = frames.Sender().send(b"\x09\x09\x03\x01X"), asyncio.StreamReader()
+        reader.feed_data(line[:5])
+        assert await asyncio.wait_for(refuses_to_wait(aio.listen(reader, limit)), 5)
+        reader.feed_data(line[5:]), reader.feed_eof()
+        return [event async for event in aio.listen(reader, limit)]
+
+    async def refuses_to_wait(heard):
+        try:
+            await asyncio.wait_for(heard.__anext__(), 0.05)
+        except asyncio.TimeoutError:
+            return True
+
+    assert asyncio.run(cancelled(frames.Receiver(16))) == [b"\x09\x09\x03\x01X"]
     heard = asyncio.run(session())
     assert heard[:20] == [bytes([k]) * k for k in range(20)] and heard[20:] == [frames.Damaged(3), frames.Cut(2)], heard[18:]
 
@@ -341,6 +355,10 @@ def test_listen():
     stream = b"\0\x04\x02hi\0\x05abc\0" + b"\x04\x02yo"
     assert list(frames.listen(io.BytesIO(stream), limit=8)) == [b"hi", frames.Damaged(4), frames.Cut(4)]
     assert list(frames.listen(io.BytesIO(b"\x0aabcdefghi\0"), limit=8)) == [frames.TooLong(8)]
+    # a receiver of one's own keeps what has begun
+    receiver = frames.Receiver(8)
+    assert refuses(EOFError, list, frames.listen(Failing(stream[:3]), receiver)) and next(frames.listen(io.BytesIO(stream[3:]), receiver)) == b"hi"
+    assert all(refuses(TypeError, list, frames.listen(io.BytesIO(stream), receiver, *more)) for more in ((10,), (0, True)))
     # plain bytes: a send that broke off is heard as a front of it
     assert list(frames.listen(io.BytesIO(b"\0\x04pay\0"), limit=8, plain=True)) == [b"pay"]
 
