@@ -91,13 +91,14 @@ impl<'a> Scopes<'a> {
     /// crate's.
     fn at_times(&self, scope: usize, name: Name, space: Space, found: Meaning) -> Meaning {
         let is_root = space == Space::Roots;
-        let may_differ = self.has(name)
+        let is_module = matches!(found, Meaning::Module(_));
+        let may_differ = (is_module || self.has(name))
             && (is_known(self.tokens.text(name))
                 || self.is_inner(scope)
                 || self.has_star(scope)
                 || self.is_handed(scope, name));
         match found {
-            Meaning::Module(_) if is_root => Meaning::Wrong(MODULE_AT_TIMES),
+            _ if is_root && is_module => Meaning::Wrong(MODULE_AT_TIMES),
             _ if found.is_one() && (is_root || may_differ) => Meaning::Wrong(AT_TIMES),
             _ => found,
         }
@@ -284,7 +285,7 @@ impl<'a> Scopes<'a> {
         if !self.has_star(module) || !self.has(name) {
             return false;
         }
-        for ((_, there), ()) in self.members.range((name, 0)..=(name, usize::MAX)) {
+        for (_, there) in self.members.range((name, 0)..=(name, usize::MAX)) {
             if self.leads_to(module, *there) {
                 return true;
             }
