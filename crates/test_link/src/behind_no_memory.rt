@@ -2,13 +2,13 @@
 //!
 //! The tests whose names begin with `said` are also run with each allocation refused in turn, by `.ci/refusals`: then one answer is
 //! missing, and no more. In the gate none is refused, and none is missing.
-ghost use Rattle.std.specs.Prelude.{◌≡◌, ◌<◌, false, ⊤};
-ghost use Rattle.link.specs.Each.{HeardAnyhow, heard_anyhow};
+ghost use Rattle.std.specs.Prelude.{◌<◌};
 
 use crate::checks::check;
 use crate::refused_growths::are_first;
+use crate::vectors_in_turn::Hearing;
 use line_io::memory::In;
-use link::{Answer, End, Hearer, OfType, Ordinary, Receiver, receive, receive_by_accumulator};
+use link::{End, OfType, Ordinary, Receiver, receive, receive_by_accumulator};
 use std::alloc::Global;
 
 // Four vectors and their frames. In the longer two there stands the frame of a vector that nobody sent: whoever begins to listen
@@ -16,72 +16,6 @@ use std::alloc::Global;
 const SENT: [&[u8]; 4] = [&[9], &[3, 1, 7], &[2], &[3, 1, 8]];
 
 const LINE: [u8; 20] = [3, 1, 9, 0, 5, 3, 3, 1, 7, 0, 3, 1, 2, 0, 5, 3, 3, 1, 8, 0];
-
-/// How many of the vectors were received, in their order.
-#[derive(Drop)]
-struct Hearing {
-    heard: usize,
-    /// Where the next one may stand.
-    next: usize,
-    /// Whether nothing else was received.
-    is_right: bool,
-}
-
-impl Hearing {
-    fn new() -> Hearing {
-        Hearing {
-            heard: 0,
-            next: 0,
-            is_right: true,
-        }
-    }
-}
-
-// Where a vector stands among those that were sent, from this place on.
-fn place_of(answer: &Answer<Vec<u8>>, from: usize) -> Option<usize> {
-    let Answer::Value(value) = answer else {
-        return None;
-    };
-    for (at, sent) in SENT.iter().enumerate() {
-        if from <= at && value.as_slice() == *sent {
-            return Some(at);
-        }
-    }
-    None
-}
-
-impl Hearer<Vec<u8>> for Hearing {
-    ghost hears = { HeardAnyhow };
-
-    ghost laws = { heard_anyhow };
-
-    ghost enough = { λ h. false };
-
-    ghost settled = { λ _. ⊤ };
-
-    fn hear(&mut self, answer: Answer<Vec<u8>>)
-        ensures { ⊤ }
-    {
-        match place_of(&answer, self.next) {
-            Some(at) => {
-                self.heard = self.heard.saturating_add(1);
-                self.next = at.saturating_add(1);
-            }
-            None => self.is_right = false,
-        }
-    }
-
-    fn pause(&mut self)
-        ensures heard { ⊤ }
-        ensures settles { ⊤ }
-    {}
-
-    fn has_enough(&self) -> bool
-        ensures { result ≡ false }
-    {
-        false
-    }
-}
 
 /// What one read of a line that idles has come to.
 #[derive(Clone, Copy, PartialEq, Eq, Drop)]
@@ -135,7 +69,7 @@ fn is_heard_on(alloc: Global, each: usize) -> bool
 {
     let mut receiver = Receiver::<16>::new();
     let mut reader = In::new(&LINE, each, None);
-    let mut hearing = Hearing::new();
+    let mut hearing = Hearing::new(&SENT);
     let lost = listen_out(alloc, &mut receiver, &mut reader, &mut hearing);
     let whole = hearing.heard.saturating_add(lost) == 4;
     hearing.is_right && whole && reader.moved() == 20 && receiver.is_between()
@@ -143,9 +77,11 @@ fn is_heard_on(alloc: Global, each: usize) -> bool
 
 #[test]
 fn said_by_listening(rt: HostRuntime) {
-    check(&rt, is_heard_on(rt.alloc(), 1));
-    check(&rt, is_heard_on(rt.alloc(), 7));
-    check(&rt, is_heard_on(rt.alloc(), 20));
+    let alloc = rt.alloc();
+    check(
+        &rt,
+        is_heard_on(alloc, 1) && is_heard_on(alloc, 7) && is_heard_on(alloc, 20),
+    );
 }
 
 /// Where a reception ended at a lost value, the receiver stands after all that was read: who continues to listen receives nothing else than was
@@ -155,7 +91,7 @@ fn is_behind(alloc: Global, each: usize) -> bool
 {
     let mut receiver = Receiver::<16>::new();
     let mut reader = In::new(&LINE, each, None);
-    let mut hearing = Hearing::new();
+    let mut hearing = Hearing::new(&SENT);
     let end = receiver.receive_each_with(alloc, &Ordinary(OfType), &mut reader, &mut hearing);
     let whole = end == Some(End::Ended) && hearing.heard == 4;
     let lost = end == Some(End::NoMemory) && hearing.heard < 4;
@@ -165,9 +101,11 @@ fn is_behind(alloc: Global, each: usize) -> bool
 
 #[test]
 fn said_by_receiving_each(rt: HostRuntime) {
-    check(&rt, is_behind(rt.alloc(), 1));
-    check(&rt, is_behind(rt.alloc(), 7));
-    check(&rt, is_behind(rt.alloc(), 20));
+    let alloc = rt.alloc();
+    check(
+        &rt,
+        is_behind(alloc, 1) && is_behind(alloc, 7) && is_behind(alloc, 20),
+    );
 }
 
 // The frames of six vectors of one byte: more than the first growth of a list has room for.
@@ -181,9 +119,8 @@ fn said_by_lists(rt: HostRuntime) {
     let got = receive::<Vec<u8>, _, 16>(rt.alloc(), In::new(&SIX, 1, None));
     let missing = usize::from(got.end == End::NoMemory);
     let answered = got.answers.len().saturating_add(missing);
-    check(&rt, answered == got.reader.moved() / 4);
-    check(&rt, are_first(&got.answers));
-    check(&rt, missing == 1 || answered == 6);
+    let are_all = answered == got.reader.moved() / 4 && are_first(&got.answers);
+    check(&rt, are_all && (missing == 1 || answered == 6));
 }
 
 /// The same of the accumulator's loop, which leaves a value without memory out, and ends where its list finds none.
@@ -192,9 +129,10 @@ fn said_by_accumulating(rt: HostRuntime) {
     let got = receive_by_accumulator::<Vec<u8>, _, 16>(rt.alloc(), In::new(&SIX, 1, None));
     let frames = got.reader.moved() / 4;
     let count = got.values.len();
-    match got.end {
-        End::NoMemory => check(&rt, count.saturating_add(1) == frames),
-        End::Ended => check(&rt, frames == 6 && 5 <= count && count <= 6),
-        End::ReadFault => check(&rt, false),
-    }
+    let is_right = match got.end {
+        End::NoMemory => count.saturating_add(1) == frames,
+        End::Ended => frames == 6 && 5 <= count && count <= 6,
+        End::ReadFault => false,
+    };
+    check(&rt, is_right);
 }

@@ -1,7 +1,7 @@
 //! What the tests of this crate share: a check, and the comparisons that many of them make. A comparison that is called costs
 //! a test's proof less than one that is written in it.
 use link::{Answer, Fate, NoMemory, Pushed, SendError};
-use postcard::{Error, Serialize, to_slice};
+use postcard::Error;
 use std::process::Abort;
 
 /// Ends a test that isn't right.
@@ -17,15 +17,6 @@ pub fn check_at(rt: &impl Abort, at: usize, is_right: bool) {
 /// Whether each of these holds.
 pub fn all_true<const N: usize>(found: [bool; N]) -> bool {
     found == [true; N]
-}
-
-/// Whether a value is written as these bytes.
-pub fn writes<T: Serialize>(value: &T, bytes: &[u8]) -> bool {
-    let mut room = [0u8; 64];
-    match to_slice(value, &mut room) {
-        Ok(written) => are_bytes(written, bytes),
-        Err(_) => false,
-    }
 }
 
 /// Whether these are the bytes that are wanted.

@@ -2,55 +2,27 @@
 ghost use Rattle.std.specs.Prelude.{◌<◌};
 
 use crate::checks::{all_true, check};
+use crate::devices::{Giving, Taking, reader_of, writer_of};
 use framed_lib::arguments::Mode;
 use framed_lib::run::run;
 use line_io::memory::{In, Out};
 use line_io::{End, Inlet, Reads, Writes, read_to_end, write_all};
 use link::{Sender, receive, receive_by_accumulator};
 use std::alloc::Global;
-use std::io;
-use std::io::{Read, Write};
+use std::io::ErrorKind;
 
-/// Takes all that it is offered, and counts its calls.
-#[derive(Drop)]
-struct Counted {
-    calls: usize,
+/// Takes all that it is offered.
+fn counting_writer() -> Writes<Taking> {
+    writer_of(usize::MAX, usize::MAX, None)
 }
 
-impl Write for Counted {
-    fn write(&mut self, buf: &[u8]) -> io::Result<usize> {
-        self.calls = self.calls.saturating_add(1);
-        Ok(buf.len())
-    }
+// What a reader gives.
+const LETTERS: [u8; 40000] = [b'a'; 40000];
 
-    fn flush(&mut self) -> io::Result<()> {
-        Ok(())
-    }
-}
-
-/// Fills what it is offered, with so many bytes in all, and counts its calls.
-#[derive(Drop)]
-struct Filling {
-    left: usize,
-    calls: usize,
-}
-
-impl Read for Filling {
-    fn read(&mut self, buf: &mut [u8]) -> io::Result<usize> {
-        let count = buf.len().min(self.left);
-        buf[..count].fill(b'a');
-        self.left -= count;
-        self.calls = self.calls.saturating_add(1);
-        Ok(count)
-    }
-}
-
-fn counting_writer() -> Writes<Counted> {
-    Writes::new(Counted { calls: 0 })
-}
-
-fn filling_reader(left: usize) -> Reads<Filling> {
-    Reads::new(Filling { left, calls: 0 })
+/// Fills what it is offered, with so many bytes in all.
+fn filling_reader(left: usize) -> Reads<Giving<'static>> {
+    let letters = LETTERS.get(..left).unwrap_or(&[]);
+    reader_of(letters, usize::MAX, usize::MAX, ErrorKind::Other)
 }
 
 /// How many writes the bytes take.

@@ -14,6 +14,8 @@ mod checks;
 #[cfg(test)]
 mod device_calls;
 #[cfg(test)]
+mod devices;
+#[cfg(test)]
 mod framed_runs;
 #[cfg(test)]
 mod framed_words;
@@ -49,3 +51,5 @@ mod message_readers;
 mod owned_receiver;
 #[cfg(test)]
 mod refused_growths;
+#[cfg(test)]
+mod vectors_in_turn;

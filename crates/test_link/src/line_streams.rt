@@ -1,67 +1,22 @@
 //! Devices of `line_io` over writers and readers of std: they fail and end only where those do.
 use crate::checks::{are_bytes, check, check_at};
+use crate::devices::{reader_of, writer_of};
 use crate::line_moves::{fails_once, takes};
-use line_io::{Outlet, Reads, Writes};
-use std::io;
-use std::io::{Read, Write};
-
-// Gives a byte a call of three, and fails once, after `before` bytes.
-#[derive(Drop)]
-struct Failing {
-    given: usize,
-    before: usize,
-}
-
-impl Read for Failing {
-    fn read(&mut self, buf: &mut [u8]) -> io::Result<usize> {
-        if self.given == self.before {
-            self.before = usize::MAX;
-            return Err(io::Error::from(io::ErrorKind::Other));
-        }
-        if buf.is_empty() || self.given >= 3 {
-            return Ok(0);
-        }
-        buf[0] = b'a';
-        self.given += 1;
-        Ok(1)
-    }
-}
+use line_io::{Inlet, Outlet, Writes};
+use std::io::ErrorKind;
 
 #[test]
 fn a_failed_read_is_a_fault(rt: HostRuntime) {
     for before in 0..4 {
-        let mut line = Reads::new(Failing { given: 0, before });
+        let mut line = reader_of(b"aaa", 1, before, ErrorKind::Other);
         let failed = fails_once(&mut line, before);
         check_at(&rt, before, failed && line.into_inner().given == 3);
     }
 }
 
-// Takes a byte a call, and is interrupted once, after `before` bytes.
-#[derive(Drop)]
-struct Interrupted {
-    taken: usize,
-    before: usize,
-}
-
-impl Write for Interrupted {
-    fn write(&mut self, buf: &[u8]) -> io::Result<usize> {
-        if self.taken == self.before {
-            self.before = usize::MAX;
-            return Err(io::Error::from(io::ErrorKind::Interrupted));
-        }
-        let count = buf.len().min(1);
-        self.taken = self.taken.saturating_add(count);
-        Ok(count)
-    }
-
-    fn flush(&mut self) -> io::Result<()> {
-        Ok(())
-    }
-}
-
 /// Whether six writes of two bytes are taken a byte each, but for the one that is interrupted after so many.
 fn is_interrupted_once(before: usize) -> bool {
-    let mut line = Writes::new(Interrupted { taken: 0, before });
+    let mut line = writer_of(1, before, Some(ErrorKind::Interrupted));
     for call in 0..6 {
         let want = if call == before { None } else { Some(1) };
         if line.write(b"ab") != want {
@@ -97,4 +52,12 @@ fn a_full_writer_takes_nothing(rt: HostRuntime) {
     let mut room = [0u8; 3];
     let filled = is_filled(&mut room);
     check(&rt, filled && are_bytes(&room, b"abc"));
+}
+
+/// The reader has written past its answer.
+#[test]
+fn the_room_past_an_answer_stays(rt: HostRuntime) {
+    let mut room = [0u8; 4];
+    let answer = reader_of(b"abc", 1, usize::MAX, ErrorKind::Other).read(&mut room);
+    check(&rt, answer == Some(1) && are_bytes(&room, b"a\0\0\0"));
 }

@@ -2,10 +2,8 @@
 use crate::checks::{are_bytes, check, check_at};
 use crate::line_moves::takes;
 use line_io::memory::{Fault, In, Out, OwnedOut};
-use line_io::{End, Inlet, Reads, read_to_end, write_all};
+use line_io::{End, read_to_end, write_all};
 use std::alloc::Global;
-use std::io;
-use std::io::Read;
 
 // What five bytes of room hold where the device meets its fault after so many of five; and where it meets none, whole.
 const WRITTEN: [(usize, bool, &[u8]); 6] = [
@@ -25,10 +23,10 @@ fn writes_all(room: &mut [u8], before: usize) -> bool {
 
 #[test]
 fn writes_all_or_to_the_fault(rt: HostRuntime) {
-    for (before, is_whole, bytes) in WRITTEN {
+    for (before, is_whole, bytes) in &WRITTEN {
         let mut room = [0u8; 5];
-        let wrote = writes_all(&mut room, before);
-        check_at(&rt, before, wrote == is_whole && are_bytes(&room, bytes));
+        let wrote = writes_all(&mut room, *before);
+        check_at(&rt, *before, wrote == *is_whole && are_bytes(&room, bytes));
     }
 }
 
@@ -78,25 +76,7 @@ fn owns(alloc: Global, before: usize, bytes: &[u8]) -> bool {
 
 #[test]
 fn owns_its_bytes_after_a_fault(rt: HostRuntime) {
-    for (before, bytes) in OWNED {
-        check_at(&rt, before, owns(rt.alloc(), before, bytes));
+    for (before, bytes) in &OWNED {
+        check_at(&rt, *before, owns(rt.alloc(), *before, bytes));
     }
-}
-
-// Writes past its answer.
-#[derive(Drop)]
-struct Scribbling;
-
-impl Read for Scribbling {
-    fn read(&mut self, buf: &mut [u8]) -> io::Result<usize> {
-        buf.fill(b'x');
-        Ok(buf.len().min(1))
-    }
-}
-
-#[test]
-fn the_room_past_an_answer_stays(rt: HostRuntime) {
-    let mut room = [0u8; 4];
-    let answer = Reads::new(Scribbling).read(&mut room);
-    check(&rt, answer == Some(1) && are_bytes(&room, b"x\0\0\0"));
 }

@@ -3,12 +3,12 @@
 ghost use Rattle.std.specs.Prelude.{◌<◌};
 
 use crate::checks::{are_fates, check, holds, is_broken, is_too_long};
+use crate::devices::{Taking, reader_of, writer_of};
 use line_io::memory::{Fault, In, Out};
-use line_io::{Outlet, Reads, Writes};
+use line_io::{Outlet, Writes};
 use link::{Answer, End, Fate, Received, Sender, receive, receive_strict, send_each};
 use std::alloc::Global;
-use std::io;
-use std::io::{ErrorKind, Read, Write};
+use std::io::ErrorKind;
 
 /// 300 (a `u32`) by a new sender, interrupted after so many bytes, and then sent whole by the same sender.
 #[derive(Clone, Copy, Drop)]
@@ -46,64 +46,6 @@ const ROWS: [Row; 5] = [
         first: Some((5, true)),
     },
 ];
-
-/// Takes a byte a call, and is in trouble once, after so many: it fails so, or takes nothing.
-#[derive(Drop)]
-struct Narrow {
-    taken: [u8; 16],
-    count: usize,
-    before: usize,
-    trouble: Option<ErrorKind>,
-}
-
-impl Write for Narrow {
-    fn write(&mut self, buf: &[u8]) -> io::Result<usize> {
-        if self.count == self.before {
-            self.before = usize::MAX;
-            return match self.trouble {
-                Some(kind) => Err(io::Error::from(kind)),
-                None => Ok(0),
-            };
-        }
-        if buf.is_empty() || self.count >= 16 {
-            return Ok(0);
-        }
-        self.taken[self.count] = buf[0];
-        self.count += 1;
-        Ok(1)
-    }
-
-    fn flush(&mut self) -> io::Result<()> {
-        Ok(())
-    }
-}
-
-/// Gives a byte a call, and is interrupted once, after so many.
-#[derive(Drop)]
-struct Slow<'a> {
-    rest: &'a [u8],
-    given: usize,
-    before: usize,
-}
-
-impl Read for Slow<'_> {
-    fn read(&mut self, buf: &mut [u8]) -> io::Result<usize> {
-        if self.given == self.before {
-            self.before = usize::MAX;
-            return Err(io::Error::from(ErrorKind::Interrupted));
-        }
-        let rest = self.rest;
-        match rest {
-            [first, rest @ ..] if !buf.is_empty() => {
-                buf[0] = *first;
-                self.rest = rest;
-                self.given = self.given.saturating_add(1);
-                Ok(1)
-            }
-            _ => Ok(0),
-        }
-    }
-}
 
 /// Whether 300 is interrupted by a line.
 fn is_broken_off<W: Outlet>(sender: &mut Sender<W, 8>) -> bool {
@@ -187,30 +129,20 @@ fn sends_in_each_size(row: &Row, kind: Fault) -> bool {
 #[test]
 fn sends_over_memory(rt: HostRuntime) {
     for row in &ROWS {
-        check(&rt, sends_in_each_size(row, Fault::Fail));
-        check(&rt, sends_in_each_size(row, Fault::Nothing));
+        let fails = sends_in_each_size(row, Fault::Fail);
+        check(&rt, fails && sends_in_each_size(row, Fault::Nothing));
     }
 }
 
-/// A writer that is in trouble once, after so many bytes.
-fn narrow_writer(before: usize, trouble: Option<ErrorKind>) -> Writes<Narrow> {
-    Writes::new(Narrow {
-        taken: [0; 16],
-        count: 0,
-        before,
-        trouble,
-    })
-}
-
 /// Whether a sender has left this line.
-fn has_left<const N: usize>(sender: Sender<Writes<Narrow>, N>, line: &[u8]) -> bool {
+fn has_left<const N: usize>(sender: Sender<Writes<Taking>, N>, line: &[u8]) -> bool {
     let narrow = sender.into_inner().into_inner();
-    holds(&narrow.taken, narrow.count, line)
+    holds(&narrow.first, narrow.taken, line)
 }
 
 /// Whether a sender over a writer that is in trouble once leaves the row's line.
 fn sends_narrowly(row: &Row, trouble: Option<ErrorKind>) -> bool {
-    let mut sender = Sender::<_, 8>::new(narrow_writer(row.broken, trouble));
+    let mut sender = Sender::<_, 8>::new(writer_of(1, row.broken, trouble));
     let passed = is_sent_again(&mut sender);
     has_left(sender, row.line) && passed
 }
@@ -218,9 +150,12 @@ fn sends_narrowly(row: &Row, trouble: Option<ErrorKind>) -> bool {
 #[test]
 fn sends_over_writers(rt: HostRuntime) {
     for row in &ROWS {
-        check(&rt, sends_narrowly(row, Some(ErrorKind::Interrupted)));
-        check(&rt, sends_narrowly(row, Some(ErrorKind::Other)));
-        check(&rt, sends_narrowly(row, None));
+        check(
+            &rt,
+            sends_narrowly(row, Some(ErrorKind::Interrupted))
+                && sends_narrowly(row, Some(ErrorKind::Other))
+                && sends_narrowly(row, None),
+        );
     }
 }
 
@@ -235,12 +170,8 @@ fn hears(alloc: Global, row: &Row, count: usize, each: usize) -> bool
 
 /// Whether so many bytes of a row's line are received until a reader is interrupted.
 fn hears_slowly(alloc: Global, row: &Row, count: usize) -> bool {
-    let slow = Slow {
-        rest: row.line,
-        given: 0,
-        before: count,
-    };
-    is_heard(row, count, &receive::<u32, _, 8>(alloc, Reads::new(slow)))
+    let slow = reader_of(row.line, 1, count, ErrorKind::Interrupted);
+    is_heard(row, count, &receive::<u32, _, 8>(alloc, slow))
 }
 
 /// Whether so many bytes of a row's line are received by each reader, in chunks of each size.
@@ -265,9 +196,7 @@ fn hears_until_a_fault(rt: HostRuntime) {
 /// A frame of one byte, and one that is longer, by a sender of one byte.
 #[test]
 fn sends_by_the_least_sender(rt: HostRuntime) {
-    let mut sender = Sender::<_, 1>::new(narrow_writer(16, None));
-    check(&rt, sender.send(&()).is_ok());
-    check(&rt, is_too_long(sender.send(&true)));
-    check(&rt, sender.is_clean());
-    check(&rt, has_left(sender, &[0, 1, 0]));
+    let mut sender = Sender::<_, 1>::new(writer_of(1, usize::MAX, None));
+    let passed = sender.send(&()).is_ok() && is_too_long(sender.send(&true)) && sender.is_clean();
+    check(&rt, passed && has_left(sender, &[0, 1, 0]));
 }

@@ -45,9 +45,12 @@ fn sends_each_in_turn(rt: HostRuntime) {
         &mut second,
     );
     let count = writer.moved();
-    check(&rt, holds(&room, count, &[0, 2, 5, 0, 0, 2, 7, 0]));
-    check(&rt, are_fates(&first, &[Fate::Done, Fate::Broken]));
-    check(&rt, are_fates(&second, &[Fate::Done]));
+    check(
+        &rt,
+        holds(&room, count, &[0, 2, 5, 0, 0, 2, 7, 0])
+            && are_fates(&first, &[Fate::Done, Fate::Broken])
+            && are_fates(&second, &[Fate::Done]),
+    );
 }
 
 #[test]

@@ -23,8 +23,10 @@ fn refuses_what_is_too_long(rt: HostRuntime) {
     let sent = sender.send(&4294967295u32);
     let is_clean = sender.is_clean();
     let count = sender.into_inner().moved();
-    check(&rt, is_too_long(sent) && count == 0);
-    check(&rt, !was_clean && !is_clean);
+    check(
+        &rt,
+        is_too_long(sent) && count == 0 && !was_clean && !is_clean,
+    );
 }
 
 // No byte behind a frame is changed.

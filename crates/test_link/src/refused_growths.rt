@@ -2,15 +2,16 @@
 //!
 //! The tests whose names begin with `said` are also run with each allocation refused in turn, by `.ci/refusals`. In the gate
 //! none is refused, and `whole_answers` passes too.
-ghost use Rattle.std.specs.Prelude.{◌≡◌, ◌<◌, false, ⊤};
-ghost use Rattle.link.specs.Each.{HeardAnyhow, heard_anyhow};
+ghost use Rattle.std.specs.Prelude.{◌<◌};
 
 use crate::checks::{all_true, are_bytes, are_fates, check, is_answer, is_told};
+use crate::vectors_in_turn::Hearing;
 use cobs::{CobsDecoderOwned, DecodeVecError};
+use line_io::Inlet;
 use line_io::memory::{In, Out};
 use link::{
-    Answer, End, Fate, Gathered, Hearer, NoMemory, OfType, Ordinary, OwnedReceiver, Pushed,
-    Received, Receiver, Sender, Strict, read_in_place, read_in_place_with_sentinel, receive,
+    Answer, End, Fate, Gathered, NoMemory, OfType, Ordinary, OwnedReceiver, Pushed, Received,
+    Receiver, Sender, Strict, read_in_place, read_in_place_with_sentinel, receive,
     receive_by_accumulator, receive_by_accumulator_with_sentinel, receive_owned,
     receive_owned_strict, receive_strict, receive_strict_with_sentinel, receive_with_sentinel,
     send_each,
@@ -18,13 +19,15 @@ use link::{
 use postcard::accumulator::{CobsAccumulator, FeedResult};
 use postcard::experimental::serialized_size;
 use postcard::{
-    Error, from_bytes, from_bytes_cobs, from_bytes_cobs_with_sentinel, from_bytes_owned, from_io,
-    take_from_bytes, take_from_bytes_cobs, take_from_bytes_cobs_with_sentinel, to_allocvec,
-    to_allocvec_cobs, to_allocvec_cobs_with_sentinel, to_extend, to_io, to_slice, to_slice_cobs,
-    to_stdvec, to_stdvec_cobs, to_stdvec_cobs_with_sentinel, to_vec, to_vec_cobs,
+    DeserializeOwned, Error, Exact, Serialize, from_bytes, from_bytes_cobs,
+    from_bytes_cobs_with_sentinel, from_bytes_owned, from_io, take_from_bytes,
+    take_from_bytes_cobs, take_from_bytes_cobs_with_sentinel, to_allocvec, to_allocvec_cobs,
+    to_allocvec_cobs_with_sentinel, to_extend, to_io, to_slice, to_slice_cobs, to_stdvec,
+    to_stdvec_cobs, to_stdvec_cobs_with_sentinel, to_vec, to_vec_cobs,
 };
 use std::alloc::{AllocError, Global};
 use std::collections::BTreeMap;
+use std::slice;
 
 /// What was answered so far.
 #[derive(Drop)]
@@ -154,17 +157,19 @@ const LONG: [u8; 41] = [
     1, 1, 1, 1, 1, 1, 1, 1, 1, 1,
 ];
 
+/// Calls that write a value's bytes into a vector.
+fn write_value<T: Serialize>(alloc: Global, wants: &mut Wants, value: &T, whole: &[u8]) {
+    wants.written(to_allocvec(alloc, value), whole);
+    wants.written(to_stdvec(alloc, value), whole);
+    wants.written(to_extend(value, Vec::new(alloc)), whole);
+}
+
 /// Calls that write into a vector.
 fn write(alloc: Global, wants: &mut Wants) {
-    let value = (1u8, 10u32, "Hello!");
-    wants.written(to_allocvec(alloc, &value), &WHOLE);
-    wants.written(to_stdvec(alloc, &value), &WHOLE);
-    wants.written(to_extend(&value, Vec::new(alloc)), &WHOLE);
+    write_value(alloc, wants, &(1u8, 10u32, "Hello!"), &WHOLE);
     wants.written(to_allocvec_cobs(alloc, &"Hi!"), &FRAMED);
     wants.written(to_stdvec_cobs(alloc, &"Hi!"), &FRAMED);
-    let ones = ONES.as_slice();
-    wants.written(to_allocvec(alloc, &ones), &LONG);
-    wants.written(to_extend(&ones, Vec::new(alloc)), &LONG);
+    write_value(alloc, wants, &ONES.as_slice(), &LONG);
 }
 
 /// A text, bytes and a box.
@@ -193,28 +198,44 @@ fn read_map(alloc: Global, wants: &mut Wants) {
     }
 }
 
-// The frame of the vector of a 7, and a byte more.
+// The frame of the vector of a 7, and a byte more: on a line whose mark is zero, and on one whose mark is FF.
 const SEVEN: [u8; 5] = [3, 1, 7, 0, 9];
 
+const SEVEN_MARKED: [u8; 5] = [0xFC, 0xFE, 0xF8, 0xFF, 9];
+
 /// A frame of a value that allocates.
-fn read_frame(alloc: Global, wants: &mut Wants) {
-    let mut line = SEVEN;
-    wants.written(from_bytes_cobs(alloc, &mut line), &[7]);
+fn read_frame(alloc: Global, wants: &mut Wants, is_marked: bool) {
+    let mut line = if is_marked { SEVEN_MARKED } else { SEVEN };
+    let read = if is_marked {
+        from_bytes_cobs_with_sentinel(alloc, &mut line, 0xFF)
+    } else {
+        from_bytes_cobs(alloc, &mut line)
+    };
+    wants.written(read, &[7]);
 }
 
 /// As above, with the bytes after it.
-fn take_frame(alloc: Global, wants: &mut Wants) {
-    let mut line = SEVEN;
-    let taken = take_from_bytes_cobs::<Vec<u8>>(alloc, &mut line);
+fn take_frame(alloc: Global, wants: &mut Wants, is_marked: bool) {
+    let mut line = if is_marked { SEVEN_MARKED } else { SEVEN };
+    let taken = if is_marked {
+        take_from_bytes_cobs_with_sentinel::<Vec<u8>>(alloc, &mut line, 0xFF)
+    } else {
+        take_from_bytes_cobs::<Vec<u8>>(alloc, &mut line)
+    };
     if let Some((bytes, rest)) = wants.value(taken, Error::OutOfMemory) {
         wants.expect(rest.len() == 1 && are_bytes(&bytes, &[7]));
     }
 }
 
 /// As above, by `link`.
-fn read_stretch(alloc: Global, wants: &mut Wants) {
-    let mut line = SEVEN;
-    match read_in_place::<Vec<u8>>(alloc, &mut line) {
+fn read_stretch(alloc: Global, wants: &mut Wants, is_marked: bool) {
+    let mut line = if is_marked { SEVEN_MARKED } else { SEVEN };
+    let read = if is_marked {
+        read_in_place_with_sentinel::<Vec<u8>>(alloc, &mut line, 0xFF)
+    } else {
+        read_in_place::<Vec<u8>>(alloc, &mut line)
+    };
+    match read {
         Some((answer, rest)) => {
             wants.expect(rest.len() == 1);
             wants.told(answer);
@@ -223,13 +244,18 @@ fn read_stretch(alloc: Global, wants: &mut Wants) {
     }
 }
 
+/// Such frames.
+fn read_frames(alloc: Global, wants: &mut Wants, is_marked: bool) {
+    read_frame(alloc, wants, is_marked);
+    take_frame(alloc, wants, is_marked);
+    read_stretch(alloc, wants, is_marked);
+}
+
 /// Values that allocate, and frames of such values.
 fn read_all(alloc: Global, wants: &mut Wants) {
     read_parts(alloc, wants);
     read_map(alloc, wants);
-    read_frame(alloc, wants);
-    take_frame(alloc, wants);
-    read_stretch(alloc, wants);
+    read_frames(alloc, wants, false);
 }
 
 // Two frames: the vectors of a 7 and of an 8.
@@ -342,154 +368,49 @@ fn greatest(values: &[Vec<u8>]) -> Option<usize> {
     Some(usize::from(last))
 }
 
-/// How many vectors of one byte were received, from 1 on.
-#[derive(Drop)]
-struct Vectors {
-    next: u8,
-    are_right: bool,
-}
-
-impl Vectors {
-    fn new() -> Vectors {
-        Vectors {
-            next: 1,
-            are_right: true,
-        }
-    }
-}
-
-impl Hearer<Vec<u8>> for Vectors {
-    ghost hears = { HeardAnyhow };
-
-    ghost laws = { heard_anyhow };
-
-    ghost enough = { λ v. false };
-
-    ghost settled = { λ _. ⊤ };
-
-    fn hear(&mut self, answer: Answer<Vec<u8>>)
-        ensures { ⊤ }
-    {
-        self.are_right = self.are_right && is_vector(&answer, self.next);
-        self.next = self.next.saturating_add(1);
-    }
-
-    fn pause(&mut self)
-        ensures heard { ⊤ }
-        ensures settles { ⊤ }
-    {}
-
-    fn has_enough(&self) -> bool
-        ensures { result ≡ false }
-    {
-        false
-    }
-}
+// Those six vectors.
+const SENT: [&[u8]; 6] = [&[1], &[2], &[3], &[4], &[5], &[6]];
 
 impl Wants {
     /// All six values were reported, or the first ones and then out of memory.
-    fn handed(&mut self, end: Option<End>, vectors: &Vectors) {
-        self.expect(vectors.are_right);
+    fn handed(&mut self, end: Option<End>, hearing: &Hearing) {
+        self.expect(hearing.has_first(hearing.heard));
         match end {
-            Some(end) => self.ended(end, vectors.next == 7),
+            Some(end) => self.ended(end, hearing.heard == 6),
             None => self.expect(false),
         }
     }
 }
 
-/// The same, each reported.
+/// The same, each reported. Byte by byte, where memory was wanting every frame that was read is reported but for the last one, which
+/// was lost.
 fn hand_on(alloc: Global, wants: &mut Wants, each: usize)
     requires { 0 < each }
 {
-    let mut vectors = Vectors::new();
+    let mut hearing = Hearing::new(&SENT);
     let mut line = In::new(&LINE, each, None);
     let mut receiver = Receiver::<8>::new();
-    let end = receiver.receive_each_with(alloc, &Ordinary(OfType), &mut line, &mut vectors);
-    wants.handed(end, &vectors);
+    let end = receiver.receive_each_with(alloc, &Ordinary(OfType), &mut line, &mut hearing);
+    if each == 1 && end == Some(End::NoMemory) {
+        wants.expect(hearing.heard.saturating_add(1) == line.moved() / 4);
+    }
+    wants.handed(end, &hearing);
 }
 
 /// The same, with a limit that is set at run time: where the receiver finds no memory, nothing is read.
 fn hand_on_owned(alloc: Global, wants: &mut Wants) {
-    let mut vectors = Vectors::new();
+    let mut hearing = Hearing::new(&SENT);
     let mut line = In::new(&LINE, 7, None);
     match OwnedReceiver::new(alloc, 8, 0) {
         Ok(mut receiver) => {
             let strict = Strict(OfType);
-            let end = receiver.receive_each_with(alloc, &strict, &mut line, &mut vectors);
-            wants.handed(end, &vectors);
+            let end = receiver.receive_each_with(alloc, &strict, &mut line, &mut hearing);
+            wants.handed(end, &hearing);
         }
         Err(NoMemory) => {
-            wants.expect(vectors.next == 1 && line.moved() == 0);
+            wants.expect(hearing.has_first(0) && line.moved() == 0);
             wants.add();
         }
-    }
-}
-
-/// Byte by byte: where memory was wanting, every frame that was read is reported but for the last one, which was lost.
-fn stand_handed(alloc: Global, wants: &mut Wants) {
-    let mut vectors = Vectors::new();
-    let mut line = In::new(&LINE, 1, None);
-    let mut receiver = Receiver::<8>::new();
-    let end = receiver.receive_each_with(alloc, &Ordinary(OfType), &mut line, &mut vectors);
-    if end == Some(End::NoMemory) {
-        wants.expect(usize::from(vectors.next) == line.moved() / 4);
-    }
-    wants.handed(end, &vectors);
-}
-
-/// Vectors of one byte that were received live, each greater than the one before it, since one may be lost.
-#[derive(Drop)]
-struct Rising {
-    last: u8,
-    heard: usize,
-    pauses: usize,
-    are_right: bool,
-}
-
-impl Rising {
-    fn new() -> Rising {
-        Rising {
-            last: 0,
-            heard: 0,
-            pauses: 0,
-            are_right: true,
-        }
-    }
-}
-
-impl Hearer<Vec<u8>> for Rising {
-    ghost hears = { HeardAnyhow };
-
-    ghost laws = { heard_anyhow };
-
-    ghost enough = { λ v. false };
-
-    ghost settled = { λ _. ⊤ };
-
-    fn hear(&mut self, answer: Answer<Vec<u8>>)
-        ensures { ⊤ }
-    {
-        match &answer {
-            Answer::Value(value) => match value.as_slice() {
-                [byte] if self.last < *byte && *byte <= 6 => self.last = *byte,
-                _ => self.are_right = false,
-            },
-            _ => self.are_right = false,
-        }
-        self.heard = self.heard.saturating_add(1);
-    }
-
-    fn pause(&mut self)
-        ensures heard { ⊤ }
-        ensures settles { ⊤ }
-    {
-        self.pauses = self.pauses.saturating_add(1);
-    }
-
-    fn has_enough(&self) -> bool
-        ensures { result ≡ false }
-    {
-        false
     }
 }
 
@@ -498,7 +419,7 @@ impl Hearer<Vec<u8>> for Rising {
 fn go_on(alloc: Global, wants: &mut Wants) {
     let mut receiver = Receiver::<8>::new();
     let mut line = In::new(&LINE, 10, None);
-    let mut heard = Rising::new();
+    let mut heard = Hearing::new(&SENT);
     let mut lost = 0usize;
     for _ in 0..3 {
         let room = &mut [0u8; 16];
@@ -511,19 +432,9 @@ fn go_on(alloc: Global, wants: &mut Wants) {
             }
         }
     }
-    wants.expect(heard.are_right && heard.pauses == 3);
+    wants.expect(heard.is_right && heard.pauses == 3);
     wants.expect(heard.heard.saturating_add(lost) == 6);
     wants.expect(receiver.is_between() && line.moved() == 24);
-}
-
-/// Receptions to the end, in chunks of this size.
-fn listen(alloc: Global, wants: &mut Wants, each: usize)
-    requires { 0 < each }
-{
-    wants.received(receive::<_, _, 8>(alloc, In::new(&LINE, each, None)));
-    wants.received(receive_strict::<_, _, 8>(alloc, In::new(&LINE, each, None)));
-    wants.gathered(receive_by_accumulator::<_, _, 8>(alloc, In::new(&LINE, each, None)));
-    hand_on(alloc, wants, each);
 }
 
 // The same six frames where the line's mark is FF.
@@ -531,6 +442,66 @@ const MARKED: [u8; 24] = [
     252, 254, 254, 255, 252, 254, 253, 255, 252, 254, 252, 255, 252, 254, 251, 255, 252, 254, 250,
     255, 252, 254, 249, 255,
 ];
+
+/// A call that receives to the end.
+#[derive(Clone, Copy, Drop)]
+enum Call {
+    Plain,
+    Strict,
+    /// Of a line whose mark is FF.
+    Marked,
+    MarkedStrict,
+    /// With this limit, set at run time, and this mark.
+    Limited(usize, u8),
+    LimitedStrict(usize, u8),
+}
+
+/// What a call answers. It is of any value and any reader, so that a caller carries what reads them once.
+fn receive_by<T: DeserializeOwned + Exact, R: Inlet + Drop>(
+    alloc: Global,
+    call: Call,
+    reader: R,
+) -> Received<T, R> {
+    match call {
+        Call::Plain => receive::<T, R, 8>(alloc, reader),
+        Call::Strict => receive_strict::<T, R, 8>(alloc, reader),
+        Call::Marked => receive_with_sentinel::<T, R, 8>(alloc, reader, 0xFF),
+        Call::MarkedStrict => receive_strict_with_sentinel::<T, R, 8>(alloc, reader, 0xFF),
+        Call::Limited(limit, mark) => receive_owned::<T, R>(alloc, reader, limit, mark),
+        Call::LimitedStrict(limit, mark) => {
+            receive_owned_strict::<T, R>(alloc, reader, limit, mark)
+        }
+    }
+}
+
+/// Receptions to the end, in chunks of this size.
+fn listen_by(alloc: Global, wants: &mut Wants, calls: &[Call], line: &[u8], each: usize)
+    requires { 0 < each }
+{
+    for call in calls {
+        wants.received(receive_by(alloc, *call, In::new(line, each, None)));
+    }
+}
+
+/// The same by an accumulator.
+fn gather(alloc: Global, wants: &mut Wants, is_marked: bool, each: usize)
+    requires { 0 < each }
+{
+    wants.gathered(if is_marked {
+        receive_by_accumulator_with_sentinel::<_, _, 8>(alloc, In::new(&MARKED, each, None), 0xFF)
+    } else {
+        receive_by_accumulator::<_, _, 8>(alloc, In::new(&LINE, each, None))
+    });
+}
+
+/// By each call for a line whose mark is zero.
+fn listen(alloc: Global, wants: &mut Wants, each: usize)
+    requires { 0 < each }
+{
+    listen_by(alloc, wants, &[Call::Plain, Call::Strict], &LINE, each);
+    gather(alloc, wants, false, each);
+    hand_on(alloc, wants, each);
+}
 
 // 5, 3, "Hi!", 0 for such a line
 const HI_MARKED: [u8; 6] = [0xFA, 0xFC, 0xB7, 0x96, 0xDE, 0xFF];
@@ -545,50 +516,10 @@ fn write_marked(alloc: Global, wants: &mut Wants) {
     wants.owned(decoder, &[0xFD, 0xF8, 0xFF]);
 }
 
-// 3, 1, 7, 0, and a byte more
-const SEVEN_MARKED: [u8; 5] = [0xFC, 0xFE, 0xF8, 0xFF, 9];
-
-/// A frame of such a line.
-fn read_marked(alloc: Global, wants: &mut Wants) {
-    let mut line = SEVEN_MARKED;
-    wants.written(from_bytes_cobs_with_sentinel(alloc, &mut line, 0xFF), &[7]);
-}
-
-/// As above, with the bytes after it.
-fn take_marked(alloc: Global, wants: &mut Wants) {
-    let mut line = SEVEN_MARKED;
-    let taken = take_from_bytes_cobs_with_sentinel::<Vec<u8>>(alloc, &mut line, 0xFF);
-    if let Some((bytes, rest)) = wants.value(taken, Error::OutOfMemory) {
-        wants.expect(rest.len() == 1 && are_bytes(&bytes, &[7]));
-    }
-}
-
-/// As above, by `link`.
-fn read_marked_in_place(alloc: Global, wants: &mut Wants) {
-    let mut line = SEVEN_MARKED;
-    match read_in_place_with_sentinel::<Vec<u8>>(alloc, &mut line, 0xFF) {
-        Some((answer, rest)) => {
-            wants.expect(rest.len() == 1);
-            wants.told(answer);
-        }
-        None => wants.expect(false),
-    }
-}
-
-/// Receptions of such a line.
-fn listen_for_mark(alloc: Global, wants: &mut Wants) {
-    let line = In::new(&MARKED, 7, None);
-    wants.received(receive_with_sentinel::<_, _, 8>(alloc, line, 0xFF));
-    let line = In::new(&MARKED, 7, None);
-    wants.received(receive_strict_with_sentinel::<_, _, 8>(alloc, line, 0xFF));
-    let line = In::new(&MARKED, 7, None);
-    wants.gathered(receive_by_accumulator_with_sentinel::<_, _, 8>(alloc, line, 0xFF));
-}
-
 /// Receptions with a limit that is set at run time.
 fn listen_owned(alloc: Global, wants: &mut Wants) {
-    wants.received(receive_owned(alloc, In::new(&MARKED, 7, None), 8, 0xFF));
-    wants.received(receive_owned_strict(alloc, In::new(&LINE, 7, None), 8, 0));
+    listen_by(alloc, wants, &[Call::Limited(8, 0xFF)], &MARKED, 7);
+    listen_by(alloc, wants, &[Call::LimitedStrict(8, 0)], &LINE, 7);
     hand_on_owned(alloc, wants);
 }
 
@@ -605,10 +536,10 @@ fn own_short(alloc: Global, wants: &mut Wants) {
     let line = [5u8, 1, 1, 1, 1, 0, 2, 1, 0];
     let got = receive_owned::<bool, _>(alloc, In::new(&line, 2, None), 3, 0);
     wants.heard(got, &[Answer::TooLong, Answer::Value(true)]);
-    let got = receive_owned::<(), _>(alloc, In::new(&[1, 0], 2, None), 0, 0);
-    wants.heard(got, &[Answer::TooLong]);
-    let got = receive_owned::<(), _>(alloc, In::new(&[1, 0], 2, None), 1, 0);
-    wants.heard(got, &[Answer::Value(())]);
+    for (limit, wanted) in &[(0, Answer::TooLong), (1, Answer::Value(()))] {
+        let got = receive_owned::<(), _>(alloc, In::new(&[1, 0], 2, None), *limit, 0);
+        wants.heard(got, slice::from_ref(wanted));
+    }
 }
 
 // 1018 letters, whose frame has 1025 bytes.
@@ -625,10 +556,10 @@ fn fills(room: &mut [u8; 1027]) -> bool {
 
 /// The line of that text, by a receiver with this limit, within which the text fits or not.
 fn own_long(alloc: Global, wants: &mut Wants, line: &[u8], limit: usize, fits: bool) {
-    let got = receive_owned(alloc, In::new(line, 500, None), limit, 0);
-    wants.text(got, fits);
-    let got = receive_owned_strict(alloc, In::new(line, 500, None), limit, 0);
-    wants.text(got, fits);
+    for call in &[Call::Limited(limit, 0), Call::LimitedStrict(limit, 0)] {
+        let got = receive_by(alloc, *call, In::new(line, 500, None));
+        wants.text(got, fits);
+    }
 }
 
 impl Wants {
@@ -682,17 +613,21 @@ fn receive_all(alloc: Global, wants: &mut Wants) {
     listen(alloc, wants, 1);
     listen(alloc, wants, 7);
     listen(alloc, wants, 24);
-    stand_handed(alloc, wants);
     go_on(alloc, wants);
 }
 
 /// All calls for a line whose mark is FF.
 fn mark_all(alloc: Global, wants: &mut Wants) {
     write_marked(alloc, wants);
-    read_marked(alloc, wants);
-    take_marked(alloc, wants);
-    read_marked_in_place(alloc, wants);
-    listen_for_mark(alloc, wants);
+    read_frames(alloc, wants, true);
+    listen_by(
+        alloc,
+        wants,
+        &[Call::Marked, Call::MarkedStrict],
+        &MARKED,
+        7,
+    );
+    gather(alloc, wants, true, 7);
 }
 
 #[test]
@@ -770,10 +705,11 @@ fn none_asked_by_sending(rt: HostRuntime) {
     let mut room = [0u8; 16];
     let mut sender = Sender::<_, 8>::new(Out::new(&mut room, 1, None));
     let sent = sender.send(&300u32);
-    check(&rt, sent.is_ok() && sender.into_inner().moved() == 5);
+    let is_sent = sent.is_ok() && sender.into_inner().moved() == 5;
     let mut fates = [Fate::Refused; 1];
     let out = send_each::<u32, _, 8>(Out::new(&mut room, 1, None), &[300], &mut fates);
-    check(&rt, out.moved() == 5 && are_fates(&fates, &[Fate::Done]));
+    let are_sent = out.moved() == 5 && are_fates(&fates, &[Fate::Done]);
+    check(&rt, is_sent && are_sent);
 }
 
 // Whether so many bytes were written.

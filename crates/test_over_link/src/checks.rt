@@ -1,5 +1,6 @@
 //! What ends a test, and what the tests compare: a call is cheaper to prove than the comparison itself.
-use postcard::{Serialize, to_slice};
+use postcard::experimental::max_size::MaxSize;
+use postcard::{AsShape, MatchesShape, Readable, Serialize, Shaped, to_slice};
 use std::process::Abort;
 
 /// Ends a test that isn't right.
@@ -24,4 +25,12 @@ pub(crate) fn writes<T: Serialize>(value: &T, bytes: &[u8]) -> bool {
         Ok(written) => are_equal(written, bytes),
         Err(_) => false,
     }
+}
+
+/// The maximum size of a message type, by its shape; what the call promises isn't carried into the tests.
+pub(crate) fn greatest<
+    S: MaxSize,
+    M: Shaped<Shape = S> + MatchesShape + Readable<Form = AsShape>,
+>() -> Option<usize> {
+    M::postcard_max_size()
 }

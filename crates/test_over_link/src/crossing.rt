@@ -1,12 +1,11 @@
 //! The types of `example_station::nested`, which hold one another, go over a line at three sentinels, and a pair that is lent. The
 //! bytes are as postcard's format has them.
-use crate::checks::{all_true, check, writes};
+use crate::checks::{all_true, check, greatest, writes};
 use example_station::nested::{
     Borrower, Deep, Drawing, Holders, Message, Point, Sample, Six, Text,
 };
 use line_io::memory::{In, Out};
 use link::{Answer, Sender, read_in_place_with_sentinel, receive_with_sentinel};
-use postcard::experimental::max_size::MaxSize;
 use postcard::fixint::{BE, LE};
 use postcard::{
     AsShape, Deserialize, DeserializeOwned, MatchesShape, Readable, Serialize, ShapeOf, Shaped,
@@ -48,8 +47,10 @@ fn crosses_at<T: Serialize + DeserializeOwned>(
     sentinel: u8,
 ) -> bool {
     let mut line = [0u8; 80];
-    let sent = send(value, &mut line, sentinel);
-    match sent.and_then(|count| line.get(..count)) {
+    let Some(count) = send(value, &mut line, sentinel) else {
+        return false;
+    };
+    match line.get(..count) {
         Some(frame) => hears::<T>(alloc, frame, sentinel, bytes),
         None => false,
     }
@@ -175,8 +176,8 @@ fn structs(rt: HostRuntime) {
         sample_crosses(alloc),
         crossed_by_six::<Six, Deep>(alloc, DEEP).is_some(),
     ];
-    check(&rt, all_true(are_crossing));
-    check(&rt, Drawing::postcard_max_size() == Some(12 + 5 + 41));
+    let size = greatest::<ShapeOf<Drawing>, Drawing>();
+    check(&rt, all_true(are_crossing) && size == Some(12 + 5 + 41));
 }
 
 /// A message of each variant.
@@ -224,7 +225,7 @@ fn is_the_message(message: &Message, variant: usize) -> bool {
         Message::Holders(holders) => variant == 2 && are_the_holders(holders),
         Message::Seen { by, at } => { variant == 3 && is_text(by.as_ref(), "x", 1) && *at == RIGHT }
         Message::Lost(number) => variant == 4 && *number == 300,
-        Message::Kept { parts, sum } => variant == 5 && *parts == Some(7) && *sum == 300,
+        Message::Kept { parts, sum } => variant == 5 && matches!(parts, Some(7)) && *sum == 300,
         Message::Numbers(word, long, whole) => {
             variant == 6 && *word == BE(0x0102_0304) && *long == LE(10) && *whole == 128
         }

@@ -1,6 +1,6 @@
 //! What is sent, and what is received of a damaged line, by `frames` and `frames_small`: bytes by hand, from the rules.
 
-use crate::checks::check;
+use crate::checks::{all_true, check};
 use frames::{
     FrameEvent, FramePush, FrameReceiver, FrameSender, WrongBuffer, encode, encode_with_sentinel,
     seal, unseal,
@@ -89,16 +89,16 @@ fn pieces(rt: HostRuntime) {
         start: 1,
         length: 2,
     };
-    check(&rt, brings(alloc, &LINE, 6, message, false));
     // a plain send of `pay`, zero, `me` that was interrupted after five bytes, and the next one's zero
     let pay = FrameEvent::Message {
         start: 0,
         length: 3,
     };
-    check(
-        &rt,
+    let are_brought = [
+        brings(alloc, &LINE, 6, message, false),
         brings(alloc, &[0, 4, b'p', b'a', b'y', 0], 6, pay, true),
-    );
+    ];
+    check(&rt, all_true(are_brought));
 }
 
 #[test]
@@ -165,23 +165,23 @@ fn sends(rt: HostRuntime) {
     );
 }
 
+// Whether four bytes are encoded so, by zero and by 0A.
+fn are_encoded() -> bool {
+    let mut room = [0u8; 6];
+    let is_plain = encode(&[10, 11, 0, 12], &mut room) == Ok(5) && room == [3, 10, 11, 2, 12, 0];
+    let masked = encode_with_sentinel(&[10, 11, 0, 12], &mut room, 10);
+    is_plain && masked == Ok(5) && room == [9, 0, 1, 8, 6, 0]
+}
+
+// Whether a message is sealed and unsealed, one that was changed isn't, and one that has no room isn't sealed.
+fn are_sealed() -> bool {
+    let mut message = [b'h', b'i', 0, 0, 0, 0];
+    let is_sealed = seal(&mut message, 2) == Ok(6) && unseal(&message) == Some(2);
+    message[0] = b'H';
+    is_sealed && unseal(&message).is_none() && seal(&mut message, 3).is_err()
+}
+
 #[test]
 fn frames_and_sums(rt: HostRuntime) {
-    let mut room = [0u8; 6];
-    check(
-        &rt,
-        encode(&[10, 11, 0, 12], &mut room) == Ok(5) && room == [3, 10, 11, 2, 12, 0],
-    );
-    let masked = encode_with_sentinel(&[10, 11, 0, 12], &mut room, 10);
-    check(&rt, masked == Ok(5) && room == [9, 0, 1, 8, 6, 0]);
-    let mut message = [b'h', b'i', 0, 0, 0, 0];
-    check(
-        &rt,
-        seal(&mut message, 2) == Ok(6) && unseal(&message) == Some(2),
-    );
-    message[0] = b'H';
-    check(
-        &rt,
-        unseal(&message).is_none() && seal(&mut message, 3).is_err(),
-    );
+    check(&rt, are_encoded() && are_sealed());
 }

@@ -1,10 +1,12 @@
 //! `example_station`: each message type is written as these bytes, and read back.
-use crate::checks::{all_true, check, writes};
+use crate::checks::{all_true, check, greatest, writes};
 use example_station::messages::{
     Address, Command, Config, Event, Level, LogRecord, Packet, Ping, Report, SensorReading,
 };
-use postcard::experimental::max_size::MaxSize;
-use postcard::{Deserialize, Serialize, from_bytes, from_bytes_owned};
+use postcard::{
+    AsShape, Deserialize, MatchesShape, Readable, Serialize, ShapeOf, Shaped, from_bytes,
+    from_bytes_owned,
+};
 use std::alloc::Global;
 
 const READING: SensorReading = SensorReading {
@@ -20,6 +22,15 @@ fn reread<'a, T: Serialize + Deserialize<&'a [u8]>>(alloc: Global, bytes: &'a [u
         Ok(value) if writes(&value, bytes) => Some(value),
         _ => None,
     }
+}
+
+// The same of a message type, by its shape: a caller carries what the shape is read by, once.
+fn reread_by_shape<
+    'a,
+    S: Deserialize<&'a [u8]>,
+    M: Shaped<Shape = S> + MatchesShape + Readable<Form = AsShape> + Serialize + Drop,
+>(alloc: Global, bytes: &'a [u8]) -> Option<M> {
+    reread::<M>(alloc, bytes)
 }
 
 // Whether each row's bytes are read as its value, which is written as they are.
@@ -45,17 +56,26 @@ fn are_all<'a, T: Serialize + Deserialize<&'a [u8]> + PartialEq + Drop>(
     are_reread(alloc, rows) && from_bytes::<T>(alloc, refused).is_err()
 }
 
+// The same of a message type, by its shape.
+fn are_all_by_shape<
+    'a,
+    S: Deserialize<&'a [u8]>,
+    M: Shaped<Shape = S> + MatchesShape + Readable<Form = AsShape> + Serialize + PartialEq + Drop,
+>(alloc: Global, rows: &[(&'a [u8], M)], refused: &'a [u8]) -> bool {
+    are_all::<M>(alloc, rows, refused)
+}
+
 const READINGS: [(&[u8], SensorReading); 1] = [(&[0xAC, 2, 1, 1, 1], READING)];
 
 fn is_the_record(record: &LogRecord) -> bool {
-    record.level == Level::Warning
+    matches!(record.level, Level::Warning)
         && record.at == 5
         && record.text.as_str() == "A"
-        && record.source == Some(7)
+        && matches!(record.source, Some(7))
 }
 
 fn record_is_reread(alloc: Global) -> bool {
-    match reread(alloc, &[1, 5, 1, 65, 1, 7]) {
+    match reread_by_shape::<ShapeOf<LogRecord>, LogRecord>(alloc, &[1, 5, 1, 65, 1, 7]) {
         Some(record) => is_the_record(&record),
         None => false,
     }
@@ -69,11 +89,11 @@ fn address_is_reread(alloc: Global) -> bool {
 }
 
 fn is_the_packet(packet: &Packet<'_>) -> bool {
-    packet.to == Address(7) && packet.text == "Hi" && packet.body == [9].as_slice()
+    packet.to == Address(7) && packet.text == "Hi" && matches!(packet.body, [9])
 }
 
 fn packet_is_reread(alloc: Global) -> bool {
-    match reread(alloc, &[7, 2, 72, 105, 1, 9]) {
+    match reread_by_shape::<ShapeOf<Packet<'_>>, Packet<'_>>(alloc, &[7, 2, 72, 105, 1, 9]) {
         Some(packet) => is_the_packet(&packet),
         None => false,
     }
@@ -82,11 +102,18 @@ fn packet_is_reread(alloc: Global) -> bool {
 const REPORT: [u8; 15] = [1, 2, 3, 4, 5, 6, 7, 8, 1, 1, 122, 1, 9, 10, 11];
 
 fn is_the_report(it: &Report) -> bool {
-    it.e == 5 && it.f == 3 && it.h == 4 && it.j == 'z' && it.k == Some(9) && it.l == (10, 11)
+    let (first, second) = it.l;
+    it.e == 5
+        && it.f == 3
+        && it.h == 4
+        && it.j == 'z'
+        && matches!(it.k, Some(9))
+        && first == 10
+        && second == 11
 }
 
 fn report_is_reread(alloc: Global) -> bool {
-    match reread(alloc, &REPORT) {
+    match reread_by_shape::<ShapeOf<Report>, Report>(alloc, &REPORT) {
         Some(report) => is_the_report(&report),
         None => false,
     }
@@ -105,10 +132,14 @@ const EVENTS: [(&[u8], Event); 4] = [
 fn rows(rt: HostRuntime) {
     let alloc = rt.alloc();
     let are_right = [
-        are_all(alloc, &READINGS, &[0xAC, 2, 1, 1, 2]),
+        are_all_by_shape::<ShapeOf<SensorReading>, SensorReading>(
+            alloc,
+            &READINGS,
+            &[0xAC, 2, 1, 1, 2],
+        ),
         are_reread(alloc, &PINGS),
-        are_all(alloc, &LEVELS, &[3]),
-        are_all(alloc, &EVENTS, &[12]),
+        are_all_by_shape::<ShapeOf<Level>, Level>(alloc, &LEVELS, &[3]),
+        are_all_by_shape::<ShapeOf<Event>, Event>(alloc, &EVENTS, &[12]),
     ];
     check(&rt, all_true(are_right));
 }
@@ -123,7 +154,7 @@ fn is_said(command: &Command, wanted: &str) -> bool {
 
 // The command of these bytes, if it is written as they are.
 fn command_of(alloc: Global, bytes: &[u8]) -> Option<Command> {
-    reread(alloc, bytes)
+    reread_by_shape::<ShapeOf<Command>, Command>(alloc, bytes)
 }
 
 fn saying_is_reread(alloc: Global) -> bool {
@@ -139,18 +170,26 @@ fn moving_is_reread(alloc: Global) -> bool {
 }
 
 fn is_the_config(it: &Config) -> bool {
-    it.name.as_str() == "A"
-        && it.readings[..] == [READING]
-        && it.fallback == Some(Level::Info)
+    let is_read = match it.readings.as_slice() {
+        [reading] => *reading == READING,
+        _ => false,
+    };
+    let is_labeled = match it.labels.get(&9) {
+        Some(label) => label.as_str() == "B",
+        None => false,
+    };
+    is_read
+        && is_labeled
+        && it.name.as_str() == "A"
+        && matches!(it.fallback, Some(Level::Info))
         && it.gains == [1, 2, 3, 4]
         && it.labels.len() == 1
-        && matches!(it.labels.get(&9), Some(label) if label.as_str() == "B")
 }
 
 const CONFIG: [u8; 18] = [1, 65, 1, 0xAC, 2, 1, 1, 1, 1, 2, 1, 2, 3, 4, 1, 9, 1, 66];
 
 fn config_is_reread(alloc: Global) -> bool {
-    match reread(alloc, &CONFIG) {
+    match reread_by_shape::<ShapeOf<Config>, Config>(alloc, &CONFIG) {
         Some(config) => is_the_config(&config),
         None => false,
     }
@@ -174,12 +213,12 @@ fn values(rt: HostRuntime) {
 #[test]
 fn greatest_sizes(rt: HostRuntime) {
     let sizes = [
-        SensorReading::postcard_max_size(),
-        Level::postcard_max_size(),
-        Address::postcard_max_size(),
-        Ping::postcard_max_size(),
-        Event::postcard_max_size(),
-        Report::postcard_max_size(),
+        greatest::<ShapeOf<SensorReading>, SensorReading>(),
+        greatest::<ShapeOf<Level>, Level>(),
+        greatest::<ShapeOf<Address>, Address>(),
+        greatest::<ShapeOf<Ping>, Ping>(),
+        greatest::<ShapeOf<Event>, Event>(),
+        greatest::<ShapeOf<Report>, Report>(),
     ];
     check(
         &rt,

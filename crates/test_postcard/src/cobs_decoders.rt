@@ -1,5 +1,7 @@
 //! `cobs`: decoders over a borrowed buffer, an array and a vector, also for any sentinel.
-use crate::checks::{all_true, are_equal, check, check_all, fails, gives, goes_on, takes};
+use crate::checks::{
+    all_true, are_equal, begin_with, check, check_all, fails, gives, goes_on, takes,
+};
 use arrayvec::ArrayVec;
 use cobs::{
     CobsDecoder, CobsDecoderHeapless, CobsDecoderOwned, DecodeError, decode_clear,
@@ -36,27 +38,6 @@ fn lent_buffers(rt: HostRuntime) {
             fails(decoder.push(&[3, 10, 11, 0]), small),
             fails(decoder.push(&[0]), small),
             are_equal(decoder.dest(), &[10]),
-        ],
-    );
-}
-
-// 254 ones and a 7 as a frame for the sentinel 1.
-#[test]
-fn full_block_of_another_sentinel(rt: HostRuntime) {
-    let mut frame = [0u8; 257];
-    frame[0] = 254;
-    frame[255] = 3;
-    frame[256] = 6;
-    let mut message = [1u8; 255];
-    message[254] = 7;
-    let mut room = [0u8; 255];
-    let mut decoder = CobsDecoder::new_with_sentinel(&mut room, 1);
-    check_all(
-        &rt,
-        [
-            goes_on(decoder.push(&frame)),
-            gives(decoder.feed(1), Some(255)),
-            are_equal(decoder.dest(), &message),
         ],
     );
 }
@@ -124,9 +105,10 @@ fn frames_without_sentinels(rt: HostRuntime) {
     );
 }
 
-// The same in place: of a sentinel, one that ends inside a block, one of 255 bytes and a longer one.
+// The same in place: of a zero and of another sentinel, one that ends inside a block, one of 255 bytes and a longer one.
 #[test]
 fn frames_without_sentinels_in_place(rt: HostRuntime) {
+    let mut plain = [3, 7, 8, 2, 9];
     let mut frame = [8, 8, 8, 15];
     let mut long = [2; 300];
     long[0] = 255;
@@ -134,6 +116,8 @@ fn frames_without_sentinels_in_place(rt: HostRuntime) {
     check_all(
         &rt,
         [
+            gives(decode_clear_in_place(&mut plain, 0), 4),
+            begin_with(&plain, &[7, 8, 0, 9]),
             gives(decode_clear_in_place(&mut frame, 10), 3),
             are_equal(&frame, &[2, 0, 5, 15]),
             fails(
@@ -148,15 +132,20 @@ fn frames_without_sentinels_in_place(rt: HostRuntime) {
     );
 }
 
-// A decoder of a sentinel, and after a reset.
+// Decoders of a sentinel: over a borrowed buffer, and over an array after a reset.
 #[test]
-fn array_of_another_sentinel(rt: HostRuntime) {
+fn another_sentinel(rt: HostRuntime) {
+    let mut room = [0u8; 4];
+    let mut lent = CobsDecoder::new_with_sentinel(&mut room, 10);
     let mut decoder = CobsDecoderHeapless::<4>::new_with_sentinel(10);
     let at_once = all_true([decoder.sentinel() == 10, goes_on(decoder.push(&[9, 0, 1]))]);
     decoder.reset();
     check_all(
         &rt,
         [
+            goes_on(lent.push(&FRAME)),
+            gives(lent.feed(10), Some(4)),
+            are_equal(lent.dest(), &[10, 11, 0, 12]),
             at_once,
             goes_on(decoder.push(&FRAME)),
             gives(decoder.feed(10), Some(4)),

@@ -1,6 +1,4 @@
 //! `cobs`, decoding: each row of the decoder's table, frames in place, and frames cut anywhere.
-ghost use Rattle.std.specs.Prelude.{◌<◌};
-
 use crate::checks::{are_equal, check, check_all, check_at, decodes, fails, gives};
 use cobs::DecodeResult::{DataComplete, DataContinue, DataStart, NoData};
 use cobs::DecoderState::{Grab, GrabChain, Idle};
@@ -141,27 +139,6 @@ fn either_frame_cut_anywhere(rt: HostRuntime) {
             _ => (2, 0),
         };
         check_at(&rt, cut, gives_messages(&stream, cut, before, behind));
-    }
-}
-
-// How many messages the stream gives in chunks of this size.
-fn messages_in_pieces(stream: &[u8], size: usize) -> usize
-    requires { 0 < size }
-{
-    let mut buffer = [0u8; 254];
-    let mut decoder = CobsDecoder::new(&mut buffer);
-    let mut messages = 0usize;
-    for piece in stream.chunks(size) {
-        messages = messages.saturating_add(taken(&mut decoder, piece).unwrap_or(9));
-    }
-    messages
-}
-
-#[test]
-fn either_frame_in_pieces(rt: HostRuntime) {
-    let stream = two_frames();
-    for size in 1..9 {
-        check_at(&rt, size, messages_in_pieces(&stream, size) == 2);
     }
 }
 

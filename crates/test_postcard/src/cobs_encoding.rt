@@ -1,5 +1,5 @@
 //! `cobs`, encoding: maximum lengths, chunks, errors, and any sentinel.
-use crate::checks::{are_equal, begin_with, check, check_all};
+use crate::checks::{all_true, are_equal, begin_with, check, check_all};
 use arrayvec::ArrayVec;
 use cobs::*;
 
@@ -83,8 +83,8 @@ fn stays(room: &[u8], len: usize) -> bool {
     !rest.is_empty()
 }
 
-// Whether a frame leaves what is behind it, made at once and by an encoder.
-fn leaves(message: &[u8], sentinel: u8) -> bool {
+// Whether a frame leaves what is behind it, made at once and by an encoder, of a message that is cut there.
+fn leaves(message: &[u8], cut: usize, sentinel: u8) -> bool {
     let mut dest = [9u8; 310];
     let at_once = match try_encode(message, &mut dest) {
         Ok(len) => stays(&dest, len),
@@ -92,7 +92,8 @@ fn leaves(message: &[u8], sentinel: u8) -> bool {
     };
     let mut room = [9u8; 310];
     let mut encoder = CobsEncoder::new_with_sentinel(&mut room, sentinel);
-    let is_taken = encoder.push(message).is_ok();
+    let (front, rest) = message.split_at(cut.min(message.len()));
+    let is_taken = encoder.push(front).is_ok() && encoder.push(rest).is_ok();
     let len = encoder.finalize();
     at_once && is_taken && stays(&room, len)
 }
@@ -103,123 +104,36 @@ fn what_is_behind_a_long_frame_stays(rt: HostRuntime) {
     for every in [1usize, 3, 60, 301] {
         for len in 0..300usize {
             let message = message(len, every);
-            check(&rt, leaves(&message, 0) && leaves(&message, 10));
+            let is_left = leaves(&message, len, 0) && leaves(&message, len, 10);
+            check(&rt, is_left && leaves(&message, len / 2, 0));
         }
     }
 }
 
-// A message in chunks, and what an encoder makes of it in so many bytes.
-struct Pieces {
-    sentinel: u8,
-    room: usize,
-    // each with whether it is taken
-    pieces: &'static [(&'static [u8], bool)],
-    length: usize,
-    // what the buffer begins with in the end
-    front: &'static [&'static [u8]],
-}
-
-const PIECES: [Pieces; 6] = [
-    // No byte after a frame is changed.
-    Pieces {
-        sentinel: 0,
-        room: 8,
-        pieces: &[(&[10, 11], true), (&[0, 12], true)],
-        length: 5,
-        front: &[&[3, 10, 11, 2, 12, 9, 9, 9]],
-    },
-    Pieces {
-        sentinel: 10,
-        room: 5,
-        pieces: &[(&[10, 11], true), (&[0, 12], true)],
-        length: 5,
-        front: &[&[9, 0, 1, 8, 6]],
-    },
-    // Ones over more than a block, in an exact buffer and in a byte less.
-    Pieces {
-        sentinel: 0,
-        room: 302,
-        pieces: &[
-            (&[1; 100], true),
-            (&[1; 154], true),
-            (&[], true),
-            (&[1; 46], true),
-        ],
-        length: 302,
-        front: &[&[0xFF], &[1; 254], &[0x2F], &[1; 46]],
-    },
-    Pieces {
-        sentinel: 0,
-        room: 301,
-        pieces: &[
-            (&[1; 100], true),
-            (&[1; 154], true),
-            (&[], true),
-            (&[1; 46], false),
-        ],
-        length: 0,
-        front: &[],
-    },
-    // A full block, and one byte more: after it not even an empty chunk is taken.
-    Pieces {
-        sentinel: 0,
-        room: 255,
-        pieces: &[(&[1; 254], true), (&[], true), (&[1], false), (&[], false)],
-        length: 0,
-        front: &[],
-    },
-    // A full block of ones and one byte more: the ones are masked as a run.
-    Pieces {
-        sentinel: 1,
-        room: 257,
-        pieces: &[(&[1; 254], true), (&[7], true)],
-        length: 257,
-        front: &[&[254], &[0; 254], &[3, 6]],
-    },
-];
-
-// Whether an encoder returns this for each chunk.
-fn answers(encoder: &mut CobsEncoder<'_>, pieces: &[(&[u8], bool)]) -> bool {
-    for (piece, is_taken) in pieces {
-        if encoder.push(piece).is_ok() != *is_taken {
-            return false;
-        }
-    }
-    true
-}
-
-// Whether bytes begin with these parts, one after another.
-fn begin_with_parts(bytes: &[u8], parts: &[&[u8]]) -> bool {
-    let mut rest = bytes;
-    for part in parts {
-        match rest.strip_prefix(*part) {
-            Some(behind) => rest = behind,
-            None => return false,
-        }
-    }
-    true
-}
-
-// Whether this is returned for a message's chunks, and they make that frame.
-fn is_framed(message: &Pieces) -> bool {
-    let mut whole = [9u8; 302];
-    let (room, _) = whole.split_at_mut(message.room.min(302));
+// Whether an encoder takes two chunks and an empty one, refuses a byte too many and then an empty chunk too, and has no frame.
+fn is_spent(room: &mut [u8], first: &[u8], second: &[u8], more: &[u8]) -> bool {
     if room.is_empty() {
         return false;
     }
-    let mut encoder = match message.sentinel {
-        0 => CobsEncoder::new(room),
-        sentinel => CobsEncoder::new_with_sentinel(room, sentinel),
-    };
-    answers(&mut encoder, message.pieces)
-        && encoder.frame_length() == message.length
-        && encoder.finalize() == message.length
-        && begin_with_parts(&whole, message.front)
+    let mut encoder = CobsEncoder::new(room);
+    all_true([
+        encoder.push(first).is_ok(),
+        encoder.push(second).is_ok(),
+        encoder.push(&[]).is_ok(),
+        encoder.push(more).is_err(),
+        encoder.push(&[]).is_err(),
+        encoder.frame_length() == 0,
+        encoder.finalize() == 0,
+    ])
 }
 
+// Ones over more than a block, in a buffer of a byte less; and a full block and one byte more, after which not even an empty
+// chunk is taken.
 #[test]
-fn in_pieces(rt: HostRuntime) {
-    for message in &PIECES {
-        check(&rt, is_framed(message));
-    }
+fn refused_in_pieces(rt: HostRuntime) {
+    check(
+        &rt,
+        is_spent(&mut [9; 301], &[1; 100], &[1; 154], &[1; 46])
+            && is_spent(&mut [9; 255], &[], &[1; 254], &[1]),
+    );
 }

@@ -178,22 +178,15 @@ fn read_broken(alloc: Global, count: usize, interrupted: bool) -> Result<bool> {
 
 #[test]
 fn a_reader_that_fails_or_is_interrupted_after_each_byte(rt: HostRuntime) {
-    for count in 0..9 {
+    for count in 0..10 {
         let failed = read_broken(rt.alloc(), count, false);
         let interrupted = read_broken(rt.alloc(), count, true);
-        check_at(
-            &rt,
-            count,
-            fails(failed, Error::DeserializeUnexpectedEnd) && gives(interrupted, true),
-        );
+        let is_right = match count {
+            9 => gives(failed, true),
+            _ => fails(failed, Error::DeserializeUnexpectedEnd),
+        };
+        check_at(&rt, count, is_right && gives(interrupted, true));
     }
-    check_all(
-        &rt,
-        [
-            gives(read_broken(rt.alloc(), 9, false), true),
-            gives(read_broken(rt.alloc(), 9, true), true),
-        ],
-    );
 }
 
 // Whether each call for a number reads the next of these, also in an option and inside others.
@@ -239,7 +232,8 @@ fn long_vector() -> [u8; 5002] {
     bytes
 }
 
-// More elements than get space before they are read, all of them and all but the last.
+// More elements than get space before they are read, all of them and all but the last; and a count of elements that don't
+// follow.
 #[test]
 fn a_long_vector(rt: HostRuntime) {
     let bytes = long_vector();
@@ -248,32 +242,10 @@ fn a_long_vector(rt: HostRuntime) {
         None => false,
     };
     let is_whole = is_vector(read::<Vec<u8>>(rt.alloc(), &bytes), &bytes[2..]);
-    check(&rt, is_whole && is_refused);
-}
-
-// Counts of elements that don't follow.
-#[test]
-fn counts_alone(rt: HostRuntime) {
-    let greatest = [0xFF, 0xFF, 0xFF, 0xFF, 0xFF, 0xFF, 0xFF, 0xFF, 0xFF, 1];
-    let too_great = [0xFF, 0xFF, 0xFF, 0xFF, 0xFF, 0xFF, 0xFF, 0xFF, 0xFF, 2];
-    // One element follows, and no allocator has memory for as many as the count says: so it isn't asked for them.
-    let one_of_the_greatest = [0xFF, 0xFF, 0xFF, 0xFF, 0xFF, 0xFF, 0xFF, 0xFF, 0xFF, 1, 7];
-    let end = Error::DeserializeUnexpectedEnd;
-    check_all(
+    let few = read::<Vec<u32>>(rt.alloc(), &[0xFF, 0x7F, 1, 2, 3, 4, 5, 6]);
+    check(
         &rt,
-        [
-            fails(read::<Vec<u8>>(rt.alloc(), &greatest), end),
-            fails(read::<Vec<u8>>(rt.alloc(), &one_of_the_greatest), end),
-            fails(read::<Vec<u16>>(rt.alloc(), &one_of_the_greatest), end),
-            fails(
-                read::<Vec<u32>>(rt.alloc(), &[0xFF, 0x7F, 1, 2, 3, 4, 5, 6]),
-                end,
-            ),
-            fails(
-                read::<Vec<u8>>(rt.alloc(), &too_great),
-                Error::DeserializeBadVarint,
-            ),
-        ],
+        is_whole && is_refused && fails(few, Error::DeserializeUnexpectedEnd),
     );
 }
 

@@ -3,7 +3,9 @@ ghost use Rattle.std.specs.Prelude.{◌≡◌, IfOk, take};
 ghost use Rattle.postcard_tree.specs.Spelling.{short};
 ghost use Rattle.postcard_tree.specs.Tree.{number};
 
-use crate::checks::{are_equal, check, check_all, is_array, is_full, is_slice, is_vector, succeed};
+use crate::checks::{
+    all_true, are_equal, check, check_all, fails, is_array, is_full, is_slice, is_vector, succeed,
+};
 use arrayvec::ArrayVec;
 use postcard_ser::ser_flavors::io::WriteFlavor;
 use postcard_ser::ser_flavors::{
@@ -11,6 +13,7 @@ use postcard_ser::ser_flavors::{
 };
 use postcard_ser::{Serialize, Serializer};
 use postcard_tree::{Error, Result as Answer};
+use std::alloc::Global;
 use std::io;
 use std::io::{ErrorKind, Write};
 
@@ -48,14 +51,18 @@ fn is_patched<B: IndexByte>(flavor: &mut B) -> bool {
     flavor.byte(held) == 9
 }
 
-// Whether a slice of four bytes takes three and no more than one besides, and lets one be changed.
-fn fills<B: IndexByte>(slice: &mut B) -> bool {
-    let is_extended = slice.try_extend(&[1, 2, 3]).is_ok();
-    if !is_extended || !is_full(slice.try_extend(&[4, 5])) || slice.held() != 3 {
+// Whether a flavor of four bytes takes three and no more than one besides, and lets one be changed.
+fn fills<B: IndexByte>(flavor: &mut B) -> bool {
+    let is_extended = flavor.try_extend(&[1, 2, 3]).is_ok();
+    if !is_extended || !is_full(flavor.try_extend(&[4, 5])) || flavor.held() != 3 {
         return false;
     }
-    slice.set_byte(0, 9);
-    slice.try_push(4).is_ok() && is_full(slice.try_push(5))
+    flavor.set_byte(0, 9);
+    all_true([
+        flavor.byte(0) == 9,
+        flavor.try_push(4).is_ok(),
+        is_full(flavor.try_push(5)),
+    ])
 }
 
 #[test]
@@ -85,19 +92,15 @@ fn slices_and_sizes(rt: HostRuntime) {
 
 #[test]
 fn arrays(rt: HostRuntime) {
-    let mut vec: HVec<2> = HVec::default();
+    let mut vec: HVec<4> = HVec::default();
     let mut full: ArrayVec<u8, 2> = ArrayVec::new();
     full.push(7);
     let mut extended = ExtendFlavor::new(full);
     check_all(
         &rt,
         [
-            vec.try_push(1).is_ok(),
-            is_full(vec.try_extend(&[2, 3])),
-            vec.held() == 1,
-            is_patched(&mut vec),
-            is_full(vec.try_push(3)),
-            is_array(vec.finalize(), &[1, 9]),
+            fills(&mut vec),
+            is_array(vec.finalize(), &[9, 2, 3, 4]),
             is_full(extended.try_extend(&[8, 9])),
             extended.try_push(8).is_ok(),
             is_array(extended.finalize(), &[7, 8]),
@@ -124,24 +127,32 @@ fn vectors(rt: HostRuntime) {
     );
 }
 
+// Whether a flavor takes forty bytes, or holds what it held if no memory is found.
+fn takes_forty<F: IndexByte>(flavor: &mut F, byte: u8) -> bool {
+    let held = flavor.held();
+    match flavor.try_extend(&[byte; 40]) {
+        Ok(()) => flavor.held().checked_sub(held) == Some(40),
+        Err(cause) => cause == Error::OutOfMemory && flavor.held() == held,
+    }
+}
+
+// Whether a flavor that extends a vector takes forty bytes, or holds none.
+fn is_extended(alloc: Global) -> bool {
+    let mut extended = ExtendFlavor::new(Vec::new(alloc));
+    match extended.try_extend(&[1; 40]) {
+        Ok(()) => is_vector(extended.finalize(), &[1; 40]),
+        Err(cause) => cause == Error::OutOfMemory && is_vector(extended.finalize(), &[]),
+    }
+}
+
 /// Where a growth is refused, the flavor holds what it held; so does one that extends a vector.
 #[test]
 fn out_of_memory(rt: HostRuntime) {
     let mut vec = AllocVec::new(rt.alloc());
     for round in 1..5 {
-        let held = vec.held();
-        let is_right = match vec.try_extend(&[round; 40]) {
-            Ok(()) => vec.held() == held + 40,
-            Err(cause) => cause == Error::OutOfMemory && vec.held() == held,
-        };
-        check(&rt, is_right);
+        check(&rt, takes_forty(&mut vec, round));
     }
-    let mut extended = ExtendFlavor::new(Vec::new(rt.alloc()));
-    let is_right = match extended.try_extend(&[1; 40]) {
-        Ok(()) => is_vector(extended.finalize(), &[1; 40]),
-        Err(cause) => cause == Error::OutOfMemory && is_vector(extended.finalize(), &[]),
-    };
-    check(&rt, is_right);
+    check(&rt, is_extended(rt.alloc()));
 }
 
 /// Takes so many bytes, one a call, and then fails.
@@ -183,6 +194,25 @@ fn writer_of_three(flushes: bool) -> Narrow {
     }
 }
 
+// Whether a number is written once, and then refused.
+fn is_written_once<F: Flavor>(serializer: &mut Serializer<F>) -> bool {
+    serializer.serialize_u32(300).is_ok() && is_full(serializer.serialize_u32(300))
+}
+
+// Whether three bytes are taken of two numbers, and bytes that can't be flushed are refused in the end.
+fn are_refused() -> bool {
+    let mut serializer = Serializer {
+        output: WriteFlavor::new(writer_of_three(true)),
+    };
+    let mut stuck = WriteFlavor::new(writer_of_three(false));
+    all_true([
+        is_written_once(&mut serializer),
+        matches!(&serializer.output.finalize(), Ok(open) if open.taken == 3),
+        stuck.try_push(5).is_ok(),
+        fails(stuck.finalize(), Error::SerializeBufferFull),
+    ])
+}
+
 #[test]
 fn writers_that_fail(rt: HostRuntime) {
     let mut serializer = Serializer {
@@ -193,19 +223,5 @@ fn writers_that_fail(rt: HostRuntime) {
         &rt,
         succeed(written) && is_vector(serializer.output.finalize(), &[0xAC, 0x02, 5]),
     );
-    let mut open = writer_of_three(true);
-    let mut serializer = Serializer {
-        output: WriteFlavor::new(&mut open),
-    };
-    let mut stuck = WriteFlavor::new(writer_of_three(false));
-    check_all(
-        &rt,
-        [
-            serializer.serialize_u32(300).is_ok(),
-            is_full(serializer.serialize_u32(300)),
-            matches!(&serializer.output.finalize(), Ok(open) if open.taken == 3),
-            stuck.try_push(5).is_ok(),
-            stuck.finalize().err() == Some(Error::SerializeBufferFull),
-        ],
-    );
+    check(&rt, are_refused());
 }

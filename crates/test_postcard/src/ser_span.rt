@@ -3,28 +3,36 @@ use crate::checks::{all_true, are_equal, check, check_all};
 use postcard_ser::memory::{Access, Memory, ReadOnly, Span, Start, Writable};
 use std::mem::size_of;
 
-#[test]
-fn bytes_are_written(rt: HostRuntime) {
+// Whether bytes are put before the cursor, and one of them is changed.
+fn are_written() -> bool {
     let mut buffer = [0u8; 4];
     let mut span = Span::new(&mut buffer);
     span.push(7);
     span.push_slice(&[1, 2]);
     span.set_byte(0, 9);
-    let is_written = all_true([
+    all_true([
         span.byte(0) == 9,
         span.count() == 3,
         span.remaining() == 1,
         are_equal(span.front(1), &[0]),
-    ]);
-    check(&rt, is_written && are_equal(span.into_behind(), &[9, 1, 2]));
-    // A front stays while the rest is written.
+        are_equal(span.into_behind(), &[9, 1, 2]),
+    ])
+}
+
+// Whether a front stays while the rest is written.
+fn is_front_kept() -> bool {
     let mut buffer = [1u8, 2, 3, 4];
     let (front, mut rest) = Span::new(&mut buffer).split_front(2);
     rest.push(8);
     front[0] = 9;
     rest.push(7);
     let are_right = are_equal(front, &[9, 2]) && are_equal(rest.into_behind(), &[8, 7]);
-    check(&rt, are_right && are_equal(&buffer, &[9, 2, 8, 7]));
+    are_right && are_equal(&buffer, &[9, 2, 8, 7])
+}
+
+#[test]
+fn bytes_are_written(rt: HostRuntime) {
+    check(&rt, are_written() && is_front_kept());
 }
 
 #[test]

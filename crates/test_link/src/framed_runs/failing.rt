@@ -82,7 +82,13 @@ const UNWRITTEN: Row<'static> = Row {
     ..PACK
 };
 
-const UNWRITTEN_ROWS: [Row<'static>; 4] = [
+const UNSAID: Row<'static> = Row {
+    saying_fault: Some(0),
+    status: 3,
+    ..PACK
+};
+
+const UNTAKEN_ROWS: [Row<'static>; 9] = [
     Row {
         text: b"hi",
         out: b"\x00\x04",
@@ -106,20 +112,6 @@ const UNWRITTEN_ROWS: [Row<'static>; 4] = [
         said: b"line 1: refused\nwrite failed\n",
         ..UNWRITTEN
     },
-];
-
-#[test]
-fn writer_fails(rt: HostRuntime) {
-    expect_at_each_fault(&rt, &UNWRITTEN_ROWS);
-}
-
-const UNSAID: Row<'static> = Row {
-    saying_fault: Some(0),
-    status: 3,
-    ..PACK
-};
-
-const UNSAID_ROWS: [Row<'static>; 5] = [
     Row {
         text: b"\xff",
         ..UNSAID
@@ -154,8 +146,8 @@ const UNSAID_ROWS: [Row<'static>; 5] = [
 ];
 
 #[test]
-fn standard_error_fails(rt: HostRuntime) {
-    expect_at_each_fault(&rt, &UNSAID_ROWS);
+fn writer_or_standard_error_fails(rt: HostRuntime) {
+    expect_at_each_fault(&rt, &UNTAKEN_ROWS);
 }
 
 /// Whether a run writes what the row has and nothing is said, or an allocation was refused: then it says so, and writes a

@@ -5,7 +5,8 @@ use crate::framed_runs::{
 };
 use framed_lib::arguments::Mode;
 
-const UNPACKED_HEX: [Row<'static>; 5] = [
+const ROWS: [Row<'static>; 17] = [
+    // Hexadecimal text: whole lines and none, both cases of digits, an escape, and a byte after a text.
     Row {
         text: FRAMED_HEX,
         out: VALUES,
@@ -31,14 +32,7 @@ const UNPACKED_HEX: [Row<'static>; 5] = [
         out: b"value b\n",
         ..UNPACK_HEX
     },
-];
-
-#[test]
-fn unpacks_hex(rt: HostRuntime) {
-    expect(&rt, &UNPACKED_HEX);
-}
-
-const UNPACKED_STRICTLY: [Row<'static>; 3] = [
+    // Strictly: a text that sending encodes otherwise, after a byte that is no part of it, and one that it encodes so.
     Row {
         text: b"0401626300",
         out: b"damaged\n",
@@ -56,15 +50,7 @@ const UNPACKED_STRICTLY: [Row<'static>; 3] = [
         status: 1,
         ..STRICT
     },
-];
-
-/// A text that sending encodes otherwise, after a byte that is no part of it, and one that it encodes so.
-#[test]
-fn unpacks_strictly(rt: HostRuntime) {
-    expect(&rt, &UNPACKED_STRICTLY);
-}
-
-const BAD_HEX_ROWS: [Row<'static>; 3] = [
+    // What is no hexadecimal text.
     Row {
         text: b"0g",
         ..BAD_HEX
@@ -78,14 +64,7 @@ const BAD_HEX_ROWS: [Row<'static>; 3] = [
         mode: Mode::Strict,
         ..BAD_HEX
     },
-];
-
-#[test]
-fn refuses_bad_hex(rt: HostRuntime) {
-    expect(&rt, &BAD_HEX_ROWS);
-}
-
-const BY_SENTINEL: [Row<'static>; 4] = [
+    // With another sentinel in place of zero.
     Row {
         sentinel: 0x0a,
         text: b"hi",
@@ -110,15 +89,8 @@ const BY_SENTINEL: [Row<'static>; 4] = [
         out: b"value ~\nvalue hi\n",
         ..UNPACK
     },
-];
-
-/// With another sentinel in place of zero.
-#[test]
-fn goes_by_the_sentinel(rt: HostRuntime) {
-    expect(&rt, &BY_SENTINEL);
-}
-
-const DAMAGED_BY_SENTINEL: [Row<'static>; 2] = [
+    // So too: a frame that lacks bytes, one after it, and one that nothing ends; a text with a byte after it that is no part
+    // of it, and one that sending encodes so.
     Row {
         sentinel: 0x0a,
         text: b"\n\x0f\x62\n\x0e\x08\x62\x63\n\x0e",
@@ -135,11 +107,9 @@ const DAMAGED_BY_SENTINEL: [Row<'static>; 2] = [
     },
 ];
 
-/// So too: a frame that lacks bytes, one after it, and one that nothing ends; a text with a byte after it that is no part
-/// of it, and one that sending encodes so.
 #[test]
-fn unpacks_damage_with_sentinel(rt: HostRuntime) {
-    expect(&rt, &DAMAGED_BY_SENTINEL);
+fn reads_frames_and_hex(rt: HostRuntime) {
+    expect(&rt, &ROWS);
 }
 
 const DAMAGED: Row<'static> = Row {

@@ -200,14 +200,29 @@ fn has_heard(waiting: &mut Asking) -> bool {
         && matches!(waiting.client.again(), Err(CallError::Idle))
 }
 
-#[test]
-fn a_call_is_replied(rt: HostRuntime) {
-    let alloc = rt.alloc();
+// Whether a call is replied; and the reply, which comes so many bytes at a time, isn't found after the next call, whose reply doesn't
+// come.
+fn is_taken_and_let_go(alloc: Global, each: usize) -> bool
+    requires { 0 < each }
+{
     let (is_called, mut waiting) = calling(alloc);
     let mut receiver = Receiver::<8>::new();
-    let mut reader = In::new(&CALL, 1, None);
+    let mut reader = In::new(&CALL, each, None);
     let end = wait_ordinarily(alloc, &mut receiver, &mut reader, &mut waiting);
-    check(&rt, is_called && end.is_none() && has_heard(&mut waiting));
+    let is_replied = end.is_none() && has_heard(&mut waiting);
+    let is_called_again = waiting.client.call(8).is_ok();
+    let end = wait_ordinarily(alloc, &mut receiver, &mut reader, &mut waiting);
+    is_called && is_replied && is_called_again && end.is_some() && waiting.said.is_none()
+}
+
+#[test]
+fn a_call_is_replied_and_an_old_reply_is_let_go(rt: HostRuntime) {
+    let alloc = rt.alloc();
+    let are_right = [
+        is_taken_and_let_go(alloc, 1),
+        is_taken_and_let_go(alloc, 100),
+    ];
+    check(&rt, all_true(are_right));
 }
 
 // A reply with a byte after it.
@@ -255,21 +270,6 @@ fn waiting_in_a_room(rt: HostRuntime) {
         check(&rt, end.is_none());
         check(&rt, is_reply(waiting.said.take(), said));
     }
-}
-
-// A reply to call 5 isn't found after call 6, whose reply doesn't come.
-#[test]
-fn an_old_reply_is_let_go(rt: HostRuntime) {
-    let alloc = rt.alloc();
-    let (is_called, mut waiting) = calling(alloc);
-    let mut receiver = Receiver::<8>::new();
-    let mut reader = In::new(&CALL, 100, None);
-    for is_last in [false, true] {
-        let end = wait_ordinarily(alloc, &mut receiver, &mut reader, &mut waiting);
-        let is_right = end.is_some() == is_last && waiting.said.is_none() == is_last;
-        check(&rt, is_right && (is_last || waiting.client.call(8).is_ok()));
-    }
-    check(&rt, is_called);
 }
 
 #[test]

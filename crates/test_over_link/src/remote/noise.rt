@@ -111,28 +111,14 @@ struct Sides {
 }
 
 impl Sides {
-    // Brings what the client wrote to the server.
-    fn ask(&mut self, alloc: Global) {
+    // Brings what the client wrote to the server, and what the server wrote then to the client.
+    fn turn(&mut self, alloc: Global) {
         let asked = self.console.hearer.client.replace_inner(line(alloc));
-        let came = self.noise.spoil(alloc, asked.into_inner().as_slice());
-        bring(
-            alloc,
-            &mut self.to_device,
-            came.as_slice(),
-            &mut self.device,
-        );
-    }
-
-    // Brings what the server wrote to the client.
-    fn tell(&mut self, alloc: Global) {
+        let came = self.noise.spoil(alloc, &asked.into_inner());
+        bring(alloc, &mut self.to_device, &came, &mut self.device);
         let told = self.device.hearer.server.replace_inner(line(alloc));
-        let came = self.noise.spoil(alloc, told.into_inner().as_slice());
-        bring(
-            alloc,
-            &mut self.to_console,
-            came.as_slice(),
-            &mut self.console,
-        );
+        let came = self.noise.spoil(alloc, &told.into_inner());
+        bring(alloc, &mut self.to_console, &came, &mut self.console);
     }
 
     // Calls by this value, up to eight times: the number inside and the value of the reply, if one was received.
@@ -140,8 +126,7 @@ impl Sides {
         let number = self.console.hearer.client.next();
         let _ = self.console.hearer.client.call(Keyed((number, value)));
         for _ in 0..8 {
-            self.ask(alloc);
-            self.tell(alloc);
+            self.turn(alloc);
             if let Some(Keyed(said)) = self.console.hearer.said.take() {
                 return Some(said);
             }
@@ -189,28 +174,29 @@ fn count_of(both: &Sides, value: u32) -> u8 {
     }
 }
 
+// Whether a value was executed once, and its reply says so by the number and the value that are right.
+fn is_right(both: &Sides, value: u32, number: u64, said: u32) -> bool {
+    number == u64::from(value) + 2 && said == value.wrapping_mul(3) && count_of(both, value) == 1
+}
+
 #[test]
 fn calls_over_noisy_lines(rt: HostRuntime) {
     let mut both = start(rt.alloc(), 0x1234_5678_9ABC_DEF1);
     let mut taken = 0u32;
     for value in 0..CALLS {
         if let Some((number, said)) = both.call(rt.alloc(), value) {
-            // the right reply, and it was executed
-            check(
-                &rt,
-                number == u64::from(value) + 2 && said == value.wrapping_mul(3),
-            );
-            check(&rt, count_of(&both, value) == 1);
+            check(&rt, is_right(&both, value, number, said));
             taken = taken.saturating_add(1);
         }
     }
-    // most are received in eight tries, and not all
-    check(&rt, taken > 9_000 && taken < CALLS);
     let mut most = 0u8;
     for value in 0..CALLS {
         most = most.max(count_of(&both, value));
     }
-    check(&rt, most == 1);
-    // nothing was executed that wasn't called
-    check(&rt, both.device.hearer.application.strangers == 0);
+    // most are received in eight tries, and not all; none is executed twice, and nothing that wasn't called
+    let strangers = both.device.hearer.application.strangers;
+    check(
+        &rt,
+        taken > 9_000 && taken < CALLS && most == 1 && strangers == 0,
+    );
 }

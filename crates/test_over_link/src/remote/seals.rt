@@ -6,7 +6,7 @@ use crate::remote::checks::{is_number, is_read};
 use crate::remote::served::{Adder, KEY, Line, line, sender};
 use calls::{Checked, Client, Numbered, Numbering, Replies, Server, Service, Waiting};
 use line_io::memory::In;
-use link::{End, OfType, Ordinary, Receiver};
+use link::{OfType, Ordinary, Receiver};
 use sealed::{Keyed, crc32};
 use std::alloc::Global;
 
@@ -23,13 +23,14 @@ const TWICE: [u8; 19] = [
     0, 8, 5, 6, 7, 0xA3, 0xBB, 0x4A, 0x59, 0, 8, 5, 6, 7, 0xA3, 0xBB, 0x4A, 0x59, 0,
 ];
 
-// A device of a new adder that has received all of these bytes.
-fn heard(alloc: Global, bytes: &[u8]) -> Device {
-    let mut device = Checked {
+// Whether a device of a new adder that is given these bytes executes so many calls, and replies this.
+fn replies(alloc: Global, bytes: &[u8], calls: u32, wanted: &[u8]) -> bool {
+    let application = Numbering {
+        application: Adder::new(),
+    };
+    let mut device: Device = Checked {
         hearer: Service {
-            application: Numbering {
-                application: Adder::new(),
-            },
+            application,
             server: Server::new(sender(alloc, 0)),
             unsent: false,
         },
@@ -42,14 +43,13 @@ fn heard(alloc: Global, bytes: &[u8]) -> Device {
         &mut reader,
         &mut device,
     );
-    device
-}
-
-// Whether a device that is given these bytes executes so many calls, and replies this.
-fn replies(alloc: Global, bytes: &[u8], calls: u32, wanted: &[u8]) -> bool {
-    let device = heard(alloc, bytes);
-    device.hearer.application.application.executed == calls
-        && are_equal(&device.hearer.server.into_inner().into_inner(), wanted)
+    let Service {
+        application,
+        server,
+        ..
+    } = device.hearer;
+    application.application.executed == calls
+        && are_equal(&server.into_inner().into_inner(), wanted)
 }
 
 // By the number 6 outside, and 5 inside.
@@ -110,31 +110,25 @@ fn calling(alloc: Global, number: u64) -> (Console, bool, Vec<u8>) {
     (Replies { hearer }, is_sent, asked)
 }
 
-// Waits for a reply; how the reading ended, where none was received.
-fn wait_for(alloc: Global, reader: &mut In<'_>, waiting: &mut Console) -> Option<End> {
-    let mut receiver = Receiver::<16>::new();
-    receiver.listen_until_with::<(u64, Numbered<u32, KEY>), _, _, _>(
-        alloc,
-        &Ordinary(OfType),
-        reader,
-        waiting,
-        &mut [0u8; 64],
-    )
-}
-
 // Whether a client that has called 7 by this number takes of these bytes, so many at a time, the reply to it, which is 7; or none.
 fn takes(alloc: Global, number: u64, bytes: &[u8], each: usize, is_reply: bool) -> bool
     requires { 0 < each }
 {
     let (mut waiting, is_sent, _) = calling(alloc, number);
-    let mut reader = In::new(bytes, each, None);
-    let end = wait_for(alloc, &mut reader, &mut waiting);
+    let mut receiver = Receiver::<16>::new();
+    let end = receiver.listen_until_with::<(u64, Numbered<u32, KEY>), _, _, _>(
+        alloc,
+        &Ordinary(OfType),
+        &mut In::new(bytes, each, None),
+        &mut waiting,
+        &mut [0u8; 64],
+    );
     let Waiting { client, said } = waiting.hearer;
-    is_sent
-        && match said {
-            Some(Keyed(said)) => is_reply && end.is_none() && said == (6, 7),
-            None => !is_reply && is_read(end) && is_number(client.pending(), number),
-        }
+    let is_right = match said {
+        Some(Keyed(said)) => is_reply && end.is_none() && said == (6, 7),
+        None => !is_reply && is_read(end) && is_number(client.pending(), number),
+    };
+    is_sent && is_right
 }
 
 // A line that gives back what was sent over it is damage, and a reply by another number isn't taken.

@@ -1,11 +1,13 @@
 //! Whole exchanges: a call, a server and the reply, over lines that break off.
 //!
 //! The call 5 of 7 is 00 03 05 07 00 on its line. Its reply, of the first sum, is the same message by another sentinel, as long.
+ghost use Rattle.std.specs.Prelude.{◌≡◌, [], ◌<◌, Some};
 
-use crate::checks::check;
+use crate::checks::{all_true, check};
 use crate::remote::served::Adder;
 use calls_laws::exchange::{Called, Kept, Way, call_once};
 use calls_laws::heard::SentReader;
+use line_io::Outlet;
 use line_io::memory::{Fault, OwnedOut};
 use link::{OfType, Ordinary, Strict};
 use std::alloc::Global;
@@ -18,13 +20,49 @@ fn fault(before: Option<usize>) -> Option<(usize, Fault)> {
     }
 }
 
-// What comes of a call of 7 that is sent so often again, over lines whose sends break off and whose reading stops after so many bytes.
-fn called(
+// What comes of the call by a reader of messages, if it is sent so often again over these lines.
+fn called_over<M: SentReader<(u64, u32)>>(
+    alloc: Global,
+    messages: &M,
+    there: Way<OwnedOut>,
+    back: Way<OwnedOut>,
+    again: usize,
+) -> Called<Adder, u32>
+    requires empty_there { (⟦<OwnedOut as Outlet>⟧.line there.writer).told ≡ Some [] }
+    requires empty_back { (⟦<OwnedOut as Outlet>⟧.line back.writer).told ≡ Some [] }
+    requires each_there { 0 < there.each }
+    requires each_back { 0 < back.each }
+{
+    let adder = Adder::new();
+    call_once::<u32, u32, Adder, M, M, OwnedOut, 16, 8>(
+        alloc, messages, messages, there, back, adder, 5, 7, again,
+    )
+}
+
+// Whether so many of 7 were executed, and the reply was received, or none was.
+fn comes_to(called: &Called<Adder, u32>, is_said: bool, executed: u32) -> bool {
+    let is_right = match called.said {
+        Some(said) => is_said && said == 7,
+        None => !is_said,
+    };
+    is_right
+        && called.application.executed == executed
+        && called.application.sum == executed.saturating_mul(7)
+}
+
+// Where neither of two lines does something.
+const NEITHER: [Option<usize>; 2] = [None, None];
+
+// Whether a call that is sent so often again comes to this, where the sends of the call and of its reply break off and their readings stop
+// after so many bytes.
+fn gives(
     alloc: Global,
     breaks: [Option<usize>; 2],
     stops: [Option<usize>; 2],
     again: usize,
-) -> Called<Adder, u32> {
+    is_said: bool,
+    executed: u32,
+) -> bool {
     let there = Way {
         writer: OwnedOut::new(Vec::new(alloc), 1, fault(breaks[0])),
         sentinel: 0,
@@ -37,116 +75,38 @@ fn called(
         each: 1,
         stops: stops[1],
     };
-    call_once::<u32, u32, Adder, Ordinary<OfType>, Ordinary<OfType>, OwnedOut, 16, 8>(
-        alloc,
-        &Ordinary(OfType),
-        &Ordinary(OfType),
-        there,
-        back,
-        Adder::new(),
-        5,
-        7,
-        again,
-    )
+    let called = called_over(alloc, &Ordinary(OfType), there, back, again);
+    comes_to(&called, is_said, executed)
 }
-
-// Where the sends of a call and of its reply break off and their readings stop, and how often the call is sent again; then whether the
-// reply is received, and how many calls are executed.
-#[derive(Clone, Copy)]
-struct Exchange {
-    breaks: [Option<usize>; 2],
-    stops: [Option<usize>; 2],
-    again: usize,
-    is_said: bool,
-    executed: u32,
-}
-
-impl Exchange {
-    // Whether so many of 7 were executed, and the reply was received, or none was.
-    fn is(&self, called: &Called<Adder, u32>) -> bool {
-        let is_said = match called.said {
-            Some(said) => self.is_said && said == 7,
-            None => !self.is_said,
-        };
-        is_said
-            && called.application.executed == self.executed
-            && called.application.sum == self.executed.saturating_mul(7)
-    }
-
-    fn comes_out(&self, alloc: Global) -> bool {
-        self.is(&called(alloc, self.breaks, self.stops, self.again))
-    }
-}
-
-// What reads and sends everything.
-const WHOLE: Exchange = Exchange {
-    breaks: [None, None],
-    stops: [None, None],
-    again: 0,
-    is_said: true,
-    executed: 1,
-};
 
 // Whole; the server's reading stops, and the client's; and a front with the whole call, and one with the whole reply, are enough.
-const READINGS: [Exchange; 4] = [
-    WHOLE,
-    Exchange {
-        stops: [Some(4), None],
-        is_said: false,
-        executed: 0,
-        ..WHOLE
-    },
-    Exchange {
-        stops: [None, Some(4)],
-        is_said: false,
-        ..WHOLE
-    },
-    Exchange {
-        stops: [Some(5), Some(5)],
-        again: 2,
-        ..WHOLE
-    },
-];
-
 #[test]
 fn a_reading_that_stops(rt: HostRuntime) {
-    for exchange in &READINGS {
-        check(&rt, exchange.comes_out(rt.alloc()));
-    }
+    let alloc = rt.alloc();
+    let are_right = [
+        gives(alloc, NEITHER, NEITHER, 0, true, 1),
+        gives(alloc, NEITHER, [Some(4), None], 0, false, 0),
+        gives(alloc, NEITHER, [None, Some(4)], 0, false, 1),
+        gives(alloc, NEITHER, [Some(5), Some(5)], 2, true, 1),
+    ];
+    check(&rt, all_true(are_right));
 }
 
 // A send that breaks off after so many bytes, that of the call or that of the reply: alone the call isn't replied, since a last zero
 // never goes out; sent again it is, and executed once.
-fn broken_behind(before: usize) -> [Exchange; 4] {
-    let call = Exchange {
-        breaks: [Some(before), None],
-        ..WHOLE
-    };
-    let reply = Exchange {
-        breaks: [None, Some(before)],
-        ..WHOLE
-    };
-    [
-        Exchange {
-            is_said: false,
-            executed: 0,
-            ..call
-        },
-        Exchange { again: 1, ..call },
-        Exchange {
-            is_said: false,
-            ..reply
-        },
-        Exchange { again: 1, ..reply },
-    ]
-}
-
 #[test]
 fn a_send_that_breaks_off(rt: HostRuntime) {
+    let alloc = rt.alloc();
     for before in 0..5usize {
-        for exchange in broken_behind(before) {
-            check(&rt, exchange.comes_out(rt.alloc()));
-        }
+        let call = [Some(before), None];
+        let reply = [None, Some(before)];
+        let are_right = [
+            gives(alloc, call, NEITHER, 0, false, 0),
+            gives(alloc, call, NEITHER, 1, true, 1),
+            gives(alloc, reply, NEITHER, 0, false, 1),
+            gives(alloc, reply, NEITHER, 1, true, 1),
+        ];
+        check(&rt, all_true(are_right));
     }
 }
 
@@ -164,22 +124,13 @@ fn called_by<M: SentReader<(u64, u32)>>(alloc: Global, messages: &M) -> Called<A
         each: 64,
         stops: None,
     };
-    call_once::<u32, u32, Adder, M, M, OwnedOut, 16, 8>(
-        alloc,
-        messages,
-        messages,
-        there,
-        back,
-        Adder::new(),
-        5,
-        7,
-        3,
-    )
+    called_over(alloc, messages, there, back, 3)
 }
 
 #[test]
 fn a_strict_call(rt: HostRuntime) {
-    check(&rt, WHOLE.is(&called_by(rt.alloc(), &Strict(OfType))));
+    let called = called_by(rt.alloc(), &Strict(OfType));
+    check(&rt, comes_to(&called, true, 1));
 }
 
 // What a writer has taken, whatever faults it met.
