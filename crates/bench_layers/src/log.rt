@@ -2,10 +2,10 @@
 ghost use Rattle.std.specs.Prelude.{⊤, OnOk, OnErr};
 
 use crate::answers::{Counted, Found, NONE_FOUND};
+use journal::stores::MemoryStore;
 use journal::{Halt, Journal, Visitor, frame_record, read_all};
 use link::{Answer, OfType, Strict};
 use std::alloc::Global;
-use stores::MemoryStore;
 
 /// How many bytes a record takes in the store at most.
 const MOST: usize = 64;

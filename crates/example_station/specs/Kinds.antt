@@ -1,6 +1,6 @@
 -- The values that the types are read as by their schemas, kind by kind.
-use Rattle.schemas.specs.declared.value.Value.{Value}
-use Rattle.schemas.specs.Schemas.{AtTop, OfBool, OfU8, OfU16, OfU32, OfU64, OfI8, OfI16, OfI32, OfI64, OfChar, OfText, OfBytes, OfOption, OfList, OfGroup, OfVariant, EachHas}
+use Rattle.schema_table.specs.declared.value.Value.{Value}
+use Rattle.schema_table.specs.Schemas.{AtTop, OfBool, OfU8, OfU16, OfU32, OfU64, OfI8, OfI16, OfI32, OfI64, OfChar, OfText, OfBytes, OfOption, OfList, OfGroup, OfVariant, EachHas}
 use Rattle.schemas.specs.TypeSchemas.{NoneHave, OneThenHave, LastHas, FirstHas}
 
 -- a group of a `u16`, a `u64`, an `i16` and a `bool`

@@ -8,7 +8,7 @@ use Rattle.postcard.specs.Written.{UnlessRefused}
 use Rattle.link.specs.Judged.{Judging}
 use Rattle.link.specs.Run.{Send, completed, refused, broken, written, IsSend}
 use Rattle.link.specs.declared.receiver.Answer.{Answer}
-use Rattle.stores.specs.Store.{Settles}
+use Rattle.journal.specs.Store.{Settles}
 use Rattle.journal.specs.Records.{numbered, record_of}
 use Rattle.journal.specs.Reading.{IsHanded}
 use Rattle.journal.specs.declared.log.AppendError.{AppendError}

@@ -1,3 +1,6 @@
+pub mod Store
+pub mod Memory
+pub mod Files
 pub mod Records
 pub mod Visits
 pub mod Places

@@ -24,6 +24,7 @@ mod framing;
 mod log;
 mod numbers;
 mod reading;
+pub mod stores;
 mod visitors;
 
 pub use framing::frame_record;

@@ -2,17 +2,17 @@
 ghost use Rattle.std.specs.Prelude.{◌≡◌, ◌⊎◌, ℕ, ◌+◌, ◌-◌, ◌^◌, ◌<◌, ◌≤◌, max, [], true, false, IfOk, IfErr, IfSome, OnOk, OnErr};
 ghost use Rattle.line_io.specs.Transfers.{Failed};
 ghost use Rattle.link.specs.Listening.{ReceiverFitsInMemory};
-ghost use Rattle.stores.specs.Store.{Settles};
+ghost use Rattle.journal.specs.Store.{Settles};
 ghost use Rattle.journal.specs.Reading.{HaltsBehind, OpenCause};
 ghost use Rattle.journal.specs.Appending.{Appended, next_after, spent_after, OnStore, OnTried, Unless, IsOpened};
 
 use crate::framing::frame_record;
 use crate::reading::{ReadError, read_all};
+use crate::stores::{Store, SyncFault, put};
 use crate::visitors::Visitor;
 use link::MessageReader;
 use postcard::Serialize;
 use std::alloc::Global;
-use stores::{Store, SyncFault, put};
 use thiserror::Error;
 
 /// Why a value wasn't appended.

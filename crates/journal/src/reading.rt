@@ -6,10 +6,10 @@ ghost use Rattle.link.specs.declared.receiver.Answer.{Answer};
 ghost use Rattle.journal.specs.Reading.{HandsOnBelieved, HearsLog, HearsMore, HasHanded, HaltsBehind, ReadCause, IsHanded, IsHandedTo, OnFault, numbering_of};
 
 use crate::numbers::{Count, believe, count_on};
+use crate::stores::Store;
 use crate::visitors::Visitor;
 use link::{Answer, MessageReader, NoMemory, Pushed, Receiver};
 use std::alloc::Global;
-use stores::Store;
 use thiserror::Error;
 
 // How many bytes are asked for in one read.

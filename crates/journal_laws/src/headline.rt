@@ -9,13 +9,13 @@ ghost use Rattle.journal_laws.specs.Numbers.{CountsOn};
 ghost use Rattle.journal_laws.specs.Together.{OpensHistory, JudgesAnyHistory, GoesOnCounted};
 ghost use Rattle.journal_laws.specs.Sessions.{AppendsAll, GoesOnFrom};
 
+use journal::stores::Store;
 use journal::{AppendError, Journal, Unopened, Visitor};
 use journal_scan::{Report, Watcher, open_by};
 use link::{MessageReader, OfType, Ordinary, Strict};
 use postcard::{DeserializeOwned, Exact, Lawful};
 use postcard_tree::Readable;
 use std::alloc::Global;
-use stores::Store;
 
 /// A way of judging stretches for which the laws of logs hold: `Strict(OfType)` and `Ordinary(OfType)`.
 ///

@@ -1,5 +1,5 @@
 -- A map whose entries are ranges in order, and what looking, inserting and removing make of it.
-use Rattle.std.proofs.Common.{◌≡◌, ℕ, min, ◌^◌, ◌+◌, ◌-◌, ◌<◌, ◌≤◌, Result, Ok, Err, OnOk, OnErr, Bool, true, false, not, List, [], ◌∷◌, ◌++◌, Some, None, refl, sym, ap, ◌∙◌, subst, inl, inr, append_assoc, append-nil, arith}
+use Rattle.std.proofs.Common.{◌≡◌, ℕ, min, ◌^◌, ◌+◌, ◌-◌, ◌<◌, ◌≤◌, Bool, true, false, not, List, [], ◌∷◌, ◌++◌, Some, None, refl, sym, ap, ◌∙◌, subst, inl, inr, append_assoc, append-nil, arith}
 use Rattle.std.specs.Cmp.{nat_cmp_is}
 use Rattle.std.specs.Ordering.{nat_cmp, is_lt}
 use Rattle.std.specs.declared.cmp.Ordering.TheVariants.{Less, Equal, Greater}
@@ -187,15 +187,6 @@ pub passed_to : (next n : ℕ) (old new : List (ℕ × ℕ)) → AreApart 0 (gap
 passed_to next n old new a b l is =
     ap gaps_of (is ∙ ap (λ z. insert_entry nat_cmp z next (n - 1)) (sym (append-nil old)) ∙ inserted next (n - 1) old [] (keys_below 0 next old a (omega (arith, b))) tt) ∙ gaps_joined old ((next, n - 1) ∷ [])
     ∙ ap (λ z. gaps_of old ++ z) (sym (gap_is next n l))
-
--- a fact of an answer, made into another
-pub on_ok : {A E P Q : Type 0} (r : Result A E) → (P → Q) → OnOk r P → OnOk r Q
-on_ok (Ok a) f h = f h
-on_ok (Err e) f h = tt
-
-pub on_err : {A E P Q : Type 0} (r : Result A E) → (P → Q) → OnErr r P → OnErr r Q
-on_err (Ok a) f h = tt
-on_err (Err e) f h = f h
 
 -- a number that one of the ranges has
 module _ {ns : List ℕ} {next : ℕ} {entries : List (ℕ × ℕ)} {count : ℕ} (t : Tallies ns next (gaps_of entries) count) (g : ℕ × ℕ) (n : ℕ) (at : IsGapAt entries g n) where

@@ -2,7 +2,7 @@
 use Rattle.std.specs.Prelude.{◌≡◌, ℕ, Bool, false, List, [], ◌∷◌}
 use Rattle.line_io.specs.Device.{LineState, Wrote}
 use Rattle.postcard_tree.specs.Tree.{Tree}
-use Rattle.stores.specs.Store.{Settles}
+use Rattle.journal.specs.Store.{Settles}
 use Rattle.journal_scan.specs.Checks.{IsChecked}
 use Rattle.journal_scan.specs.Tallies.{IsTally, behind_greatest}
 use Rattle.journal_scan.specs.declared.scanning.Stretch.{Stretch}

@@ -9,10 +9,10 @@ use crate::closing::ClosedScan;
 use crate::scanning::{ScanError, Stretch};
 use crate::tallies::Tally;
 use crate::watching::Watcher;
+use journal::stores::Store;
 use link::{Answer, NoMemory};
 use postcard::{DeserializeOwned, Exact};
 use std::alloc::Global;
-use stores::Store;
 use thiserror::Error;
 
 /// Why a log wasn't checked to its end.

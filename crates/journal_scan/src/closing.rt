@@ -3,9 +3,9 @@ ghost use Rattle.std.specs.Prelude.{◌≡◌, ◌<◌, ◌≤◌, ℕ, List, Er
 ghost use Rattle.line_io.specs.Transfers.{Failed};
 
 use crate::scanning::{Scan, ScanError, Stretch};
+use journal::stores::Store;
 use postcard::{DeserializeOwned, Exact};
 use std::alloc::Global;
-use stores::Store;
 
 /// Scans a log and one more zero, so that what follows its last zero is a stretch as any other.
 #[derive(Drop)]

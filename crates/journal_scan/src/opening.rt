@@ -9,10 +9,10 @@ ghost use Rattle.journal_scan.specs.Opening.{IsOpenedBy, IsReadErrorOf};
 use crate::checking::{CheckError, Report, check};
 use crate::scanning::ScanError;
 use crate::watching::Watcher;
+use journal::stores::{Store, put};
 use journal::{Journal, OpenError, ReadError, Unopened};
 use postcard::{DeserializeOwned, Exact};
 use std::alloc::Global;
-use stores::{Store, put};
 
 // The same cause, as an error of reading a log.
 fn read_error(e: CheckError) -> ReadError

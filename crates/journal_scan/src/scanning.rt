@@ -3,13 +3,13 @@ ghost use Rattle.std.specs.Prelude.{◌≡◌, ◌+◌, ◌-◌, ◌<◌, ◌≤
 ghost use Rattle.line_io.specs.Transfers.{Failed};
 ghost use Rattle.link.specs.Laws.{EndsBetween};
 ghost use Rattle.link.specs.Stream.{ended};
-ghost use Rattle.stores.specs.Store.{EndsBefore};
+ghost use Rattle.journal.specs.Store.{EndsBefore};
 ghost use Rattle.journal_scan.specs.Stretches.{is_past, ended_stretch};
 
+use journal::stores::Store;
 use link::{Answer, OwnedReceiver, Pushed};
 use postcard::{DeserializeOwned, Exact};
 use std::alloc::Global;
-use stores::Store;
 use thiserror::Error;
 
 // How many bytes are asked for in one read.

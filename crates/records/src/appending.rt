@@ -7,6 +7,7 @@ use crate::entries::{
 };
 use crate::naming::{Identity, MOVED};
 use crate::settling::{Group, Settled};
+use journal::stores::Stored;
 use journal::{AppendError, Journal, OpenError, ReadError, Unopened};
 use journal_scan::open_by;
 use memchr::memchr;
@@ -14,7 +15,6 @@ use sealed::Sealed;
 use std::alloc::Global;
 use std::fs::{File, TryLockError};
 use std::io::{self, BufRead, BufReader, BufWriter, ErrorKind, Write};
-use stores::Stored;
 
 type Log = Stored<File>;
 

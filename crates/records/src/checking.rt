@@ -6,12 +6,12 @@ use crate::entries::{
 };
 use help::{Progress, wants_colour};
 use journal::Halt;
+use journal::stores::{MemoryStore, Store, Stored};
 use journal_scan::{CheckError, Judge, RepairError, Report, Stretch, Tally, Watcher};
 use line_io::{Writes, write_all};
 use link::Answer;
 use sealed::Sealed;
 use std::io;
-use stores::{MemoryStore, Store, Stored};
 
 // The number of a record that counts.
 fn number_of(answer: &Answer<(u64, Entry)>) -> Option<u64> {

@@ -1,12 +1,12 @@
 //! What a record is, how logs are opened, and messages about files.
 
+use journal::stores::MemoryStore;
 use journal_scan::ScanError;
 use line_io::{End, Reads, read_to_end};
 use sealed::Sealed;
 use std::fmt::Display;
 use std::fs::{self, File, OpenOptions};
 use std::io::{self, ErrorKind};
-use stores::MemoryStore;
 
 /// The greatest length of a record, with its zero.
 pub const MOST: usize = 1024;

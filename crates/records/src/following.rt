@@ -1,17 +1,17 @@
 //! Following a log: printing it, and then what is appended to it.
 ghost use Rattle.std.specs.Prelude.{◌-◌, IsTrue};
-ghost use Rattle.stores.specs.Store.{EndsBefore};
+ghost use Rattle.journal.specs.Store.{EndsBefore};
 
 use crate::entries::{MOST, OUTPUT, open_file, say_error, say_failed, say_no_memory, status_of};
 use crate::naming::{Identity, MOVED};
 use crate::showing::write_rest;
 use crate::words::Wanted;
 use help::Progress;
+use journal::stores::{Store, Stored};
 use journal_scan::Scan;
 use std::io::{self, BufWriter, Write};
 use std::thread::sleep;
 use std::time::Duration;
-use stores::{Store, Stored};
 
 // How many milliseconds pass between two looks at a log.
 const PAUSE: u64 = 250;

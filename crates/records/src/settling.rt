@@ -3,14 +3,14 @@ ghost use Rattle.std.specs.Prelude.{◌≡◌, ◌↔◌, ◌+◌, ◌^◌, ◌�
 ghost use Rattle.line_io.specs.Device.{LineState};
 ghost use Rattle.line_io.specs.Transfers.{Failed};
 ghost use Rattle.postcard_tree.specs.Tree.{Tree};
-ghost use Rattle.stores.specs.Store.{Settles};
+ghost use Rattle.journal.specs.Store.{Settles};
 ghost use Rattle.journal.specs.Logs.{store_of, next_of, spent_of};
 ghost use Rattle.journal.specs.Appending.{Appended};
 
+use journal::stores::{Store, SyncFault};
 use journal::{AppendError, Journal};
 use postcard::Serialize;
 use std::ops::Range;
-use stores::{Store, SyncFault};
 
 /// The numbers of records that survive any crash. Only a `Group` makes one.
 #[derive(Drop)]

@@ -3,12 +3,12 @@
 use crate::entries::{Entry, INPUT, MOST, OUTPUT, open_file, read_input, say_no_memory, status_of};
 use crate::words::Wanted;
 use help::Progress;
+use journal::stores::{Store, Stored};
 use journal_scan::{Scan, ScanError};
 use link::Answer;
 use sealed::Sealed;
 use std::alloc::Global;
 use std::io::{self, BufWriter, ErrorKind, Write};
-use stores::{Store, Stored};
 
 // Writes a text as it is, or with its control characters but tabs escaped, as Rust or JSON writes them: so that no text moves a
 // terminal's cursor, sets its colours or writes over a line.

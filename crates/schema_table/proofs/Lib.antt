@@ -1,1 +1,2 @@
-pub mod DifferLemmas
+mod DifferLemmas
+mod PushedLemmas

@@ -5,8 +5,8 @@ use Rattle.std.proofs.lemmas.List.{append_cancel_left}
 use Rattle.postcard_tree.specs.declared.error.Error.{Error}
 use Rattle.postcard_tree.specs.Tree.{Tree}
 use Rattle.postcard_tree.specs.ReadingLaws.{ReadingLaws}
-use Rattle.schemas.specs.declared.value.Value.{Value}
-use Rattle.schemas.specs.Values.{tree_of}
+use Rattle.schema_table.specs.declared.value.Value.{Value}
+use Rattle.schema_table.specs.Values.{tree_of}
 use Rattle.schemas.specs.TypeSchemas.{AgreesWithItsSchemas}
 use Rattle.schemas.proofs.TablesLemmas.{begins_itself}
 

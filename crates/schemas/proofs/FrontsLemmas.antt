@@ -7,8 +7,8 @@ use Rattle.postcard_tree.specs.Reading.{Spelled}
 use Rattle.postcard_de.specs.Source.{slice_source, Reads, Outcome}
 use Rattle.postcard_de.specs.Answer.{ReadsFront, AnswersFronts, read_front, answers_fronts}
 use Rattle.schema_table.specs.declared.node.Node.{Node}
-use Rattle.schemas.specs.declared.value.Value.{Value}
-use Rattle.schemas.specs.Schemas.{SchemaTakes, SchemaReads, SchemaRefuses}
+use Rattle.schema_table.specs.declared.value.Value.{Value}
+use Rattle.schema_table.specs.Schemas.{SchemaTakes, SchemaReads, SchemaRefuses}
 use Rattle.schemas.specs.SchemaLaws.{schema_laws}
 
 pub fronts_by : (depth : ℕ) (nodes : List Node) (i : ℕ) (s old new : List ℕ) (r : Result Value Error) → old ≡ s

@@ -1,8 +1,8 @@
 -- Who has the same values inside has the same values as a whole.
 use Rattle.std.specs.Prelude.{ℕ, zero, suc, List, [], ◌∷◌}
-use Rattle.schemas.specs.declared.value.Value.{Value, out-Value}
-use Rattle.schemas.specs.declared.value.Value.TheOpen.{Value-F}
-use Rattle.schemas.specs.Schemas.{AtTop, OfOption, OfList, OfGroup, OfVariant, EachHas, FieldsHave, PayloadHas}
+use Rattle.schema_table.specs.declared.value.Value.{Value, out-Value}
+use Rattle.schema_table.specs.declared.value.Value.TheOpen.{Value-F}
+use Rattle.schema_table.specs.Schemas.{AtTop, OfOption, OfList, OfGroup, OfVariant, EachHas, FieldsHave, PayloadHas}
 use Rattle.schemas.specs.TypeSchemas.{HaveTheSame, NoneHave, OneThenHave, LastHas, FirstHas}
 
 abbrev Same : {A : Type 0} → (A → Type 0) → (A → Type 0) → Type 0

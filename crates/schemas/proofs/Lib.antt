@@ -1,7 +1,6 @@
 mod TopsLemmas
 mod TakingLemmas
 mod FrontsLemmas
-mod PushedLemmas
 mod MapsLemmas
 mod KindsLemmas
 mod TablesLemmas

@@ -13,9 +13,9 @@ use Rattle.postcard_tree.specs.Fixed.{TakesFixed}
 use Rattle.schema_table.specs.declared.integer.IntegerType.{IntegerType}
 use Rattle.schema_table.specs.declared.node.Node.{Node}
 use Rattle.schema_table.specs.declared.node.Node.TheVariants as node
-use Rattle.schemas.specs.Integers.{width_of}
-use Rattle.schemas.specs.declared.value.Value.{Value}
-use Rattle.schemas.specs.Schemas.{AtTop, OfBytes, OfOption, OfList, OfGroup, OfVariant, EachHas, TakesNode, RefusesNode, TakesPlace, RefusesPlace, TakesPayload, RefusesPayload, NodeHas, PlaceHas, SchemaTakes, SchemaRefuses, SchemaHas}
+use Rattle.schema_table.specs.Integers.{width_of}
+use Rattle.schema_table.specs.declared.value.Value.{Value}
+use Rattle.schema_table.specs.Schemas.{AtTop, OfBytes, OfOption, OfList, OfGroup, OfVariant, EachHas, TakesNode, RefusesNode, TakesPlace, RefusesPlace, TakesPayload, RefusesPayload, NodeHas, PlaceHas, SchemaTakes, SchemaRefuses, SchemaHas}
 use Rattle.schemas.specs.TypeSchemas.{BeginsWith, TakeTheSame, HaveTheSame, IsSchemaOf, AreSchemasOf, ArePayloadsOf, PayloadsAdded, IsAdded, IsStructOf, IsStructAdded, IsLeaf, LeafTakes, LeafRefuses, LeafHas, NoneHave, OneThenHave, LastHas, FirstHas}
 use Rattle.schemas.proofs.MapsLemmas.{same_option, same_sequence, same_up_to, same_array, same_parts, same_group, same_variant, same_itself}
 use Rattle.schemas.proofs.KindsLemmas.{kinds_option, kinds_list, kinds_array, kinds_group, kinds_variant, kinds_none, kinds_then, kinds_last, kinds_first, kinds_itself}

@@ -14,12 +14,13 @@ use Rattle.postcard_de.specs.Source.{SourceState, SourceGave, Reads, Fails, Outc
 use Rattle.postcard_de.specs.Steps.{gave_none, gave_more, no_memory, refused_here}
 use Rattle.postcard_de.specs.Values.{variant_read, variant_fails, variant_unknown, ReadsParts, no_fields, field_then, group_read, field_fails, rest_fails}
 use Rattle.postcard_de.specs.Parts.{PartsRead, parts_start}
-use Rattle.schemas.specs.declared.value.Value.{Value, Absent, Present, List as Listed, Group, Variant}
+use Rattle.schema_table.specs.declared.value.Value.{Value, Absent, Present, List as Listed, Group, Variant}
 use Rattle.schema_table.specs.declared.node.Node.{Node}
 use Rattle.schema_table.specs.declared.node.Node.TheVariants.{Enum}
-use Rattle.schemas.specs.Values.{tree_of, trees_in}
-use Rattle.schemas.specs.Schemas.{ReadsBy, AtTop, OfOption, OfList, OfGroup, OfVariant, EachHas, FieldsHave, PayloadHas, TakesFields, TakesPayload, RefusesFields, RefusesPayload, TakesPlace, PlaceHas, RefusesPlace, SchemaTakes, SchemaHas, SchemaReads, SchemaRefuses}
-use Rattle.schemas.proofs.TopsLemmas.{read_as, tree-Absent, tree-Present, tree-Listed, tree-Group, tree-Variant, top-Absent, top-Present, top-Listed, top-Group, top-Variant}
+use Rattle.schema_table.specs.Values.{tree_of, trees_in}
+use Rattle.schema_table.specs.Schemas.{ReadsBy, AtTop, OfOption, OfList, OfGroup, OfVariant, EachHas, FieldsHave, PayloadHas, TakesFields, TakesPayload, RefusesFields, RefusesPayload, TakesPlace, PlaceHas, RefusesPlace, SchemaTakes, SchemaHas, SchemaReads, SchemaRefuses}
+use Rattle.schemas.proofs.TopsLemmas.{read_as}
+use Rattle.schema_table.specs.ValueLaws.{tree-Absent, tree-Present, tree-Listed, tree-Group, tree-Variant, top-Absent, top-Present, top-Listed, top-Group, top-Variant}
 
 -- Parts of one kind
 

@@ -6,8 +6,8 @@ use Rattle.postcard_de.specs.declared.deserializer.Deserializer.{Deserializer}
 use Rattle.postcard_de.specs.Source.{SourceState}
 use Rattle.postcard_de.specs.Deserializer.{OutcomeOf}
 use Rattle.schema_table.specs.declared.node.Node.{Node}
-use Rattle.schemas.specs.declared.value.Value.{Value}
-use Rattle.schemas.specs.Schemas.{ReadsBy, AtTop, OfGroup, OfVariant, TakesFields, TakesPayload, TakesNode, RefusesFields, RefusesPayload, RefusesNode, FieldsHave, PayloadHas, NodeHas, SchemaTakes, SchemaHas, SchemaRefuses}
+use Rattle.schema_table.specs.declared.value.Value.{Value}
+use Rattle.schema_table.specs.Schemas.{ReadsBy, AtTop, OfGroup, OfVariant, TakesFields, TakesPayload, TakesNode, RefusesFields, RefusesPayload, RefusesNode, FieldsHave, PayloadHas, NodeHas, SchemaTakes, SchemaHas, SchemaRefuses}
 
 -- A value of this node's kind was read from a tree that the node's type accepts, or bytes were refused as that type refuses
 -- them, or memory was out. The nodes inside are those of this table, and nest at most so deep.

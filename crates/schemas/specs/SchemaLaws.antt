@@ -15,10 +15,10 @@ use Rattle.schema_table.specs.declared.integer.IntegerType.{IntegerType}
 use Rattle.schema_table.specs.declared.integer.IntegerType.TheVariants as types
 use Rattle.schema_table.specs.declared.node.Node.{Node}
 use Rattle.schema_table.specs.declared.node.Node.TheVariants as node
-use Rattle.schemas.specs.declared.value.Value.{Value}
-use Rattle.schemas.specs.Integers.{width_of}
-use Rattle.schemas.specs.Values.{AreOneTree}
-use Rattle.schemas.specs.Schemas.{ReadsBy, TakesFields, RefusesFields, TakesPayload, RefusesPayload, TakesNode, RefusesNode, TakesPlace, RefusesPlace, SchemaTakes, SchemaRefuses, SchemaReads}
+use Rattle.schema_table.specs.declared.value.Value.{Value}
+use Rattle.schema_table.specs.Integers.{width_of}
+use Rattle.schema_table.specs.Values.{AreOneTree}
+use Rattle.schema_table.specs.Schemas.{ReadsBy, TakesFields, RefusesFields, TakesPayload, RefusesPayload, TakesNode, RefusesNode, TakesPlace, RefusesPlace, SchemaTakes, SchemaRefuses, SchemaReads}
 
 -- the laws of a type by its trees alone
 abbrev pub LawsBy : (Tree → Type 0) → (List ℕ → Error → Type 0) → Type 0

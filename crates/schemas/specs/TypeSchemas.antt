@@ -6,9 +6,9 @@ use Rattle.postcard_tree.specs.Tree.{Tree, Trees}
 use Rattle.postcard_de.specs.Answer.{ReadsFront}
 use Rattle.schema_table.specs.declared.node.Node.{Node}
 use Rattle.schema_table.specs.declared.node.Node.TheVariants as node
-use Rattle.schemas.specs.declared.value.Value.{Value}
-use Rattle.schemas.specs.Values.{tree_of}
-use Rattle.schemas.specs.Schemas.{TakesFields, TakesPayload, TakesNode, RefusesFields, RefusesPayload, RefusesNode, AtTop, FieldsHave, PayloadHas, NodeHas, SchemaTakes, SchemaHas, SchemaReads, SchemaRefuses}
+use Rattle.schema_table.specs.declared.value.Value.{Value}
+use Rattle.schema_table.specs.Values.{tree_of}
+use Rattle.schema_table.specs.Schemas.{TakesFields, TakesPayload, TakesNode, RefusesFields, RefusesPayload, RefusesNode, AtTop, FieldsHave, PayloadHas, NodeHas, SchemaTakes, SchemaHas, SchemaReads, SchemaRefuses}
 
 -- a table that begins with these nodes
 pub record BeginsWith (nodes table : List Node) : Type 0 where

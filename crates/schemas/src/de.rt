@@ -2,7 +2,7 @@
 ghost use Rattle.std.specs.Prelude.{◌≡◌, ◌⊎◌, ℕ, List, true, IfOk, IfErr};
 ghost use Rattle.postcard_tree.specs.declared.error.Error.TheVariants.{OutOfMemory};
 ghost use Rattle.postcard_de.specs.Answer.{ReadsFront, AnswersFronts, first_of};
-ghost use Rattle.schemas.specs.Schemas.{SchemaTakes, SchemaReads, SchemaRefuses};
+ghost use Rattle.schema_table.specs.Schemas.{SchemaTakes, SchemaReads, SchemaRefuses};
 
 use crate::{Node, Value, read_value};
 use postcard_de::Deserializer;

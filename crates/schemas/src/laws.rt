@@ -1,8 +1,8 @@
 //! Laws of every table of types: functions without a body. Call one where a proof needs its contract.
 ghost use Rattle.std.specs.Prelude.{ℕ, List};
 ghost use Rattle.postcard_tree.specs.ReadingLaws.{ReadingLaws};
-ghost use Rattle.schemas.specs.Values.{AreOneTree};
-ghost use Rattle.schemas.specs.Schemas.{SchemaTakes, SchemaReads, SchemaRefuses};
+ghost use Rattle.schema_table.specs.Values.{AreOneTree};
+ghost use Rattle.schema_table.specs.Schemas.{SchemaTakes, SchemaReads, SchemaRefuses};
 ghost use Rattle.schemas.specs.TypeSchemas.{AgreesWithItsSchemas};
 ghost use Rattle.schema_table.specs.declared.node.Node.{Node as Nodes};
 

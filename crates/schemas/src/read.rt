@@ -3,7 +3,7 @@ ghost use Rattle.std.specs.Prelude.{◌≡◌, ◌<◌, [], ◌∷◌, ◌++◌,
 ghost use Rattle.postcard_tree.specs.Reading.{Spelled};
 ghost use Rattle.postcard_de.specs.Deserializer.{OutcomeOf};
 ghost use Rattle.schema_table.specs.declared.node.Node.TheVariants as kind;
-ghost use Rattle.schemas.specs.Schemas.{SchemaReads, SchemaRefuses};
+ghost use Rattle.schema_table.specs.Schemas.{SchemaReads, SchemaRefuses};
 ghost use Rattle.schemas.specs.Reading.{ReadsNode, ReadsLeaf, ReadsStructOf, ReadsEnumOf};
 
 use crate::{HasIntegerType, IntegerType, Node, Value};

@@ -6,7 +6,7 @@ mod tuples;
 mod variants;
 
 ghost use Rattle.std.specs.Prelude.{ℕ, IfOk};
-ghost use Rattle.schemas.specs.declared.value.Value.{Value};
+ghost use Rattle.schema_table.specs.declared.value.Value.{Value};
 ghost use Rattle.schemas.specs.TypeSchemas.{BeginsWith, TakeTheSame, IsSchemaOf, PayloadsAdded, IsAdded, IsLeaf, LeafTakes, LeafRefuses, LeafHas};
 
 use crate::Node;

@@ -1,11 +1,11 @@
 //! What the tests share: a check, bytes that are compared and changed, stores that hold them, and places of stretches. A comparison
 //! that is called costs a test's proof less than one that is written in it.
 
+use journal::stores::MemoryStore;
 use journal_scan::Stretch;
 use link::Answer;
 use std::alloc::Global;
 use std::process::Abort;
-use stores::MemoryStore;
 
 /// Ends a test that isn't right.
 pub fn check(rt: &impl Abort, is_right: bool) {

@@ -4,9 +4,9 @@ ghost use Rattle.std.specs.Prelude.{true, ⊤, OnOk, OnErr};
 use crate::bytes::{Place, check, holding, is_last, is_place};
 use crate::tallies::are_missing;
 use journal::Halt;
+use journal::stores::MemoryStore;
 use journal_scan::{CheckError, Judge, Report, Stretch, Tally, Watcher};
 use std::alloc::Global;
-use stores::MemoryStore;
 
 // Record 1, a damaged stretch, record 3, a stretch of more than twelve bytes, record 3 again, the record 2^64 - 1, and record 4
 // without its zero.

@@ -2,11 +2,11 @@
 
 use crate::bytes::{check, with};
 use crate::logs::{N, write};
+use journal::stores::MemoryStore;
 use journal::{Listed, read_all};
 use link::{Answer, OfType, Strict};
 use sealed::Sealed;
 use std::alloc::Global;
-use stores::MemoryStore;
 
 // A value with its record's number, and both sealed.
 type Entry = Sealed<(u64, u32)>;

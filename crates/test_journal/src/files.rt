@@ -2,13 +2,13 @@
 
 use crate::bytes::check;
 use crate::logs::N;
+use journal::stores::Stored;
 use journal::{Journal, Listed, Unheard};
 use link::{OfType, Strict};
 use std::alloc::Global;
 use std::cell::Cell;
 use std::fs::{Metadata, OpenFile};
 use std::io::{self, ErrorKind, Read, Seek, SeekFrom, Write};
-use stores::Stored;
 
 // How many bytes a file got, and how many of them were synced.
 #[derive(Drop)]

@@ -2,10 +2,10 @@
 
 use crate::bytes::check;
 use journal::Unheard;
+use journal::stores::MemoryStore;
 use journal_laws::headline::{LogReader, session};
 use link::{OfType, Ordinary, Strict};
 use std::alloc::Global;
-use stores::MemoryStore;
 
 // Opens a log and appends these values; the number of the next record, and the store.
 fn go_on<M: LogReader<u32>>(

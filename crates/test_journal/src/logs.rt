@@ -1,11 +1,11 @@
 //! Logs whose store fails or crashes.
 
 use crate::bytes::{are_bytes, check};
+use journal::stores::{MemoryStore, Store, SyncFault, put};
 use journal::{Journal, Listed, Unheard};
 use link::{Answer, OfType, Strict};
 use postcard::{DeserializeOwned, Exact, Serialize};
 use std::alloc::Global;
-use stores::{MemoryStore, Store, SyncFault, put};
 
 /// The most bytes that a record takes.
 pub const N: usize = 24;

@@ -1,10 +1,10 @@
 //! The positions of the stretches of a log.
 
 use crate::bytes::{Place, check, holding, is_last, is_place};
+use journal::stores::{MemoryStore, put};
 use journal_scan::Scan;
 use link::Answer;
 use std::alloc::Global;
-use stores::{MemoryStore, put};
 
 // Two records, a damaged stretch, one of more than five bytes, and one that no zero ends.
 const BYTES: [u8; 23] = [

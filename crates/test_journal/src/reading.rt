@@ -2,13 +2,13 @@
 ghost use Rattle.std.specs.Prelude.{⊤, OnOk, OnErr};
 
 use crate::bytes::{check, holding};
+use journal::stores::MemoryStore;
 use journal::{
     AppendError, Halt, Journal, OpenError, ReadError, Unheard, Unopened, Visitor, read_all,
 };
 use link::{Answer, OfType, Strict};
 use sealed::Sealed;
 use std::alloc::Global;
-use stores::MemoryStore;
 
 // A value with its record's number, and the sum of both.
 type Entry = Sealed<(u64, u32)>;

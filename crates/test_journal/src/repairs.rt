@@ -1,10 +1,10 @@
 //! Logs whose records are appended anew.
 
 use crate::bytes::{are_bytes, check, holding, with};
+use journal::stores::{MemoryStore, Store};
 use journal_scan::{RepairError, Repaired, Scan, ScanError, Stretch, repair};
 use link::Answer;
 use std::alloc::Global;
-use stores::{MemoryStore, Store};
 
 const LIMIT: usize = 12;
 

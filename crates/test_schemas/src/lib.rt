@@ -1,5 +1,5 @@
-//! Tests of `schemas`, `declarations`, `wire_lib` and `wire_c_lib`, by their public calls alone: outside vectors of every kind of node, tables of
-//! declarations, values as JSON and back, and errors.
+//! Tests of `schemas`, `declarations`, `wire_json` and `wire_lib`, by their public calls alone: outside vectors of every kind of node,
+//! tables of declarations, values as JSON and back, and errors.
 #![tactic(auto)]
 
 #[cfg(test)]
@@ -26,5 +26,3 @@ mod schemas_of;
 mod sizes;
 #[cfg(test)]
 mod table;
-#[cfg(test)]
-mod typed_calls;

@@ -2,10 +2,10 @@
 use crate::devices::{ROOM, read_some, read_whole, say, say_wrongs};
 use crate::failure::{Failure, of_read, wrong};
 use std::io::BufRead;
+use wire_json::wrong::{ParseError, put_wrong};
 use wire_lib::raw::message_of;
 use wire_lib::send::{FramesOfLines, Sending};
 use wire_lib::words::Options;
-use wire_lib::wrong::{ParseError, put_wrong};
 
 /// Writes bytes, unchanged or as hexadecimal text, and clears them.
 fn put(rt: &HostRuntime, hex: bool, bytes: &mut Vec<u8>) -> Result<(), Failure> {

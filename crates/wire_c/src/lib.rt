@@ -9,6 +9,8 @@
 mod answers;
 mod calls;
 mod status;
+#[cfg(test)]
+mod typed_calls;
 
 pub use crate::answers::WireSaid;
 pub use crate::calls::{wire_c_read, wire_c_write};

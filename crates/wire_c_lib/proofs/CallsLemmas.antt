@@ -1,6 +1,6 @@
 -- The records of a call's contract, from the clauses of `wire_lib`.
 use Rattle.std.proofs.Common.{◌≡◌, ℕ, Bool, true, false, List, [], drop, sym, subst, ap, ◌∙◌}
-use Rattle.schemas.specs.declared.value.Value.{Value}
+use Rattle.schema_table.specs.declared.value.Value.{Value}
 use Rattle.link.specs.Listening.{HasGiven}
 use Rattle.link.specs.declared.receiver.Answer.{Answer}
 use Rattle.wire_lib.specs.declared.receive.Reading.{Reading}

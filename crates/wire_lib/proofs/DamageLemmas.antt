@@ -4,7 +4,7 @@ use Rattle.std.proofs.lemmas.List.{drop-drop, drop-append-le, length-take-le, le
 use Rattle.std.proofs.Math.Seq.{drop-append_seam}
 use Rattle.cobs.specs.Frames.{NoZero}
 use Rattle.cobs.specs.Sentinel.{masked}
-use Rattle.schemas.specs.declared.value.Value.{Value}
+use Rattle.schema_table.specs.declared.value.Value.{Value}
 use Rattle.link.specs.Stream.{Begun, kept, over, begun, unfinished}
 use Rattle.link.specs.Pushes.{begun_length}
 use Rattle.link.specs.Listening.{HasGiven}

@@ -8,7 +8,7 @@ use Rattle.std.proofs.lemmas.Grind.{flat_map-append}
 use Rattle.cobs.specs.InPlace.{stretch}
 use Rattle.cobs.specs.Sentinel.{masked}
 use Rattle.postcard_tree.specs.Tree.{Tree}
-use Rattle.schemas.specs.declared.value.Value.{Value}
+use Rattle.schema_table.specs.declared.value.Value.{Value}
 use Rattle.link.specs.Stream.{Begun, kept, over, begun, unfinished, Given, Verdict}
 use Rattle.link.specs.Pushes.{Answered, finished, begun_length}
 use Rattle.link.specs.Listening.{HasGiven}
@@ -22,12 +22,12 @@ use Rattle.json.specs.Lex.{tokens}
 use Rattle.json.specs.Print.{print}
 use Rattle.json.specs.Token.{Token}
 use Rattle.json.specs.Tree.{json_tokens}
-use Rattle.wire_lib.specs.Printed.{Shows}
+use Rattle.wire_json.specs.Printed.{Shows}
 use Rattle.wire_lib.specs.Sent.{LacksFeed}
 use Rattle.wire_lib.specs.Said.{IsLineOf, IsTextFor, SaysLine, known_to, end_said, value_line}
 use Rattle.wire_lib.proofs.FeedLemmas.{text_lacks}
-use Rattle.wire_lib.proofs.PrintedLemmas.{text_shown, text_read, text_utf8}
-use Rattle.wire_lib.proofs.ToldLemmas.{on_ok_as}
+use Rattle.wire_json.specs.TokenLaws.{text_shown, text_read, text_utf8}
+use Rattle.std.proofs.lemmas.Result.{on_ok_weaker}
 use Rattle.wire_lib.specs.Received.{held_by, read_by, as_list, place_to, IsLineAt, AreSaid, TellsEach, TellsEnd}
 
 -- the parts of a value's line, one after another
@@ -43,7 +43,7 @@ value_appended lines first second third text part e f g h =
 -- what a writer that began with nothing leaves, is the text of the value that was printed
 pub text_written : {E : Type 0} (r : Result (Unit {0}) E) (reading : Reading) (v : Value) (text before : List ℕ) (old new : List Token) → before ≡ [] → old ≡ [] → text ≡ before ++ print new → tokens (print new) ≡ new → IsUtf8 (print new)
     → OnOk r ((j : Json) × (new ≡ old ++ json_tokens j) × Shows reading.hex reading.schema.now reading.depth reading.place v j) → OnOk r (IsTextFor reading v text)
-text_written r reading v text before old new none empty whole back utf8 h = on_ok_as r
+text_written r reading v text before old new none empty whole back utf8 h = on_ok_weaker r
     (λ k.
     let shown = text_shown text before old new (json_tokens k.0) whole none empty k.1 in
     let read = text_read text old new (json_tokens k.0) back empty k.1 shown in

@@ -3,7 +3,7 @@ use Rattle.std.proofs.Common.{◌≡◌, ◌≢◌, ◌⊎◌, inl, inr, ◌<◌
 use Rattle.std.proofs.lemmas.List.{get_or-set_same, get_or-set_other}
 use Rattle.std.proofs.lemmas.Bool.{ne_eqb}
 use Rattle.std.proofs.lemmas.Bool.Decides.{eqb_tells, leb_tells, nat_tests}
-use Rattle.schemas.specs.declared.value.Value.{Value}
+use Rattle.schema_table.specs.declared.value.Value.{Value}
 use Rattle.link.specs.Stream.{Begun, kept, over}
 use Rattle.link.specs.Pushes.{finished, begun_length}
 use Rattle.link.specs.declared.receiver.Answer.{Answer}

@@ -5,7 +5,8 @@ use Rattle.std.specs.Prelude.{slice_index}
 use Rattle.std.proofs.lemmas.List.{append-nil, get_or-take, length-append, length-take-le}
 use Rattle.std.proofs.lemmas.List.Elements.{All-append}
 use Rattle.std.proofs.lemmas.Grind.{flat_map-append}
-use Rattle.wire_lib.specs.Sent.{LineMade, framed, refused, IsTextMade, IsUnsendable, IsLineWith, IsLineMade, last_line, is_framed, framed_bytes, refused_bytes, are_all_framed, number_behind, AreLinesMade, LacksFeed, with_feed, IsTextOf, HasMadeBy, AppendedApart, IsFrameToSend, refusal_text}
+use Rattle.wire_lib.specs.Sent.{LineMade, framed, refused, IsTextMade, IsUnsendable, IsLineWith, IsLineMade, last_line, is_framed, framed_bytes, refused_bytes, are_all_framed, number_behind, AreLinesMade, LacksFeed, with_feed, IsTextOf, HasMadeBy, AppendedApart, IsFrameToSend}
+use Rattle.wire_json.specs.Refused.{refusal_text}
 use Rattle.wire_lib.specs.declared.send.Sending.{Sending}
 
 -- one line more

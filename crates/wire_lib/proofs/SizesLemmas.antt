@@ -12,8 +12,8 @@ use Rattle.postcard_tree.specs.Fixed.{TakesFixed}
 use Rattle.postcard.specs.Greatest.{greater_of, byte_within, within_16, within_32, within_64, within_128, character_within}
 use Rattle.schema_table.specs.declared.node.Node.{Node}
 use Rattle.schema_table.specs.declared.node.Node.TheVariants as node
-use Rattle.schemas.specs.Integers.{width_of}
-use Rattle.schemas.specs.Schemas.{TakesFields, TakesPayload, TakesNode, TakesPlace, SchemaTakes}
+use Rattle.schema_table.specs.Integers.{width_of}
+use Rattle.schema_table.specs.Schemas.{TakesFields, TakesPayload, TakesNode, TakesPlace, SchemaTakes}
 use Rattle.wire_lib.specs.Sizes.{IsAtMost, known_size, KnowsSizes, AreSizesOf, both, so_many, sum_size, variant_size, counted_size, node_size, node_bounded}
 
 -- Sizes

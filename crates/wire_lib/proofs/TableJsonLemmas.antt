@@ -8,10 +8,10 @@ use Rattle.json.specs.Tree.{json_tokens, items_tokens, members_tokens}
 use Rattle.json.specs.Value.{items_of}
 use Rattle.schema_table.specs.declared.node.Node.{Node}
 use Rattle.schema_table.specs.declared.schema.Names.{Names}
-use Rattle.wire_lib.specs.Printed.{member_tokens, members_by}
+use Rattle.wire_json.specs.Printed.{member_tokens, members_by}
 use Rattle.wire_lib.specs.TableJson.{parts_json, nodes_json}
-use Rattle.wire_lib.proofs.PrintedLemmas.{array_tokens, object_tokens}
-use Rattle.wire_lib.proofs.ToldLemmas.{on_ok_as}
+use Rattle.wire_json.specs.TokenLaws.{array_tokens, object_tokens}
+use Rattle.std.proofs.lemmas.Result.{on_ok_weaker}
 
 -- members behind others
 pub members_then : (a b c : List Token) (xs ys : List (List ℕ × Json)) → b ≡ a ++ flat_map member_tokens xs → c ≡ b ++ flat_map member_tokens ys → c ≡ a ++ flat_map member_tokens (xs ++ ys)
@@ -24,7 +24,7 @@ array_member r old named begun mid ended k js left n b m l h =
     let opened = key k ∷ begin_array ∷ [] in
     let start : begun ≡ old ++ opened = b ∙ ap (λ t. t ++ begin_array ∷ []) n ∙ append_assoc old (key k ∷ []) (begin_array ∷ []) in
     let all : mid ≡ begun ++ flat_map json_tokens js = sym (append-nil mid) ∙ ap (λ js. mid ++ flat_map json_tokens js) (sym l) ∙ m in
-    on_ok_as r
+    on_ok_weaker r
     (λ e.
     e ∙ ap (λ t. t ++ end_array ∷ []) (all ∙ ap (λ t. t ++ flat_map json_tokens js) start)
     ∙ append_assoc (old ++ opened) (flat_map json_tokens js) (end_array ∷ [])
@@ -36,7 +36,7 @@ array_member r old named begun mid ended k js left n b m l h =
 pub object_shown : {E : Type 0} (r : Result (Unit {0}) E) (old begun mid ended : List Token) (ms : List (List ℕ × Json)) → begun ≡ old ++ begin_object ∷ [] → mid ≡ begun ++ flat_map member_tokens ms
     → OnOk r (ended ≡ mid ++ end_object ∷ []) → OnOk r (ended ≡ old ++ json_tokens (object (members_by ms)))
 object_shown r old begun mid ended ms b m h =
-    on_ok_as r
+    on_ok_weaker r
     (λ e.
     e ∙ ap (λ t. t ++ end_object ∷ []) (m ∙ ap (λ t. t ++ flat_map member_tokens ms) b)
     ∙ append_assoc (old ++ begin_object ∷ []) (flat_map member_tokens ms) (end_object ∷ [])

@@ -1,7 +1,7 @@
 -- What a receiver tells, answer by answer.
-use Rattle.std.proofs.Common.{◌≡◌, ℕ, true, false, ◌&&◌, List, [], ◌∷◌, ◌++◌, take, drop, Result, Ok, Err, OnOk, is_some, refl, sym, ap, ◌∙◌, subst, append_assoc}
+use Rattle.std.proofs.Common.{◌≡◌, ℕ, true, false, ◌&&◌, List, [], ◌∷◌, ◌++◌, take, drop, is_some, refl, sym, ap, ◌∙◌, subst, append_assoc}
 use Rattle.std.proofs.lemmas.List.{append-nil, take-append-drop}
-use Rattle.schemas.specs.declared.value.Value.{Value}
+use Rattle.schema_table.specs.declared.value.Value.{Value}
 use Rattle.link.specs.Stream.{Begun, kept, over}
 use Rattle.link.specs.Pushes.{finished}
 use Rattle.link.specs.declared.receiver.Answer.{Answer}
@@ -31,11 +31,6 @@ told_then r passed stream x y xs ys zs h = subst (λ z. HasTold r passed z (xs +
 -- a piece in one part more
 pub parts_on : (piece done rest : List ℕ) (used : ℕ) → piece ≡ done ++ rest → piece ≡ (done ++ take used rest) ++ drop used rest
 parts_on piece done rest used e = e ∙ sym (append_assoc done (take used rest) (drop used rest) ∙ ap (λ x. done ++ x) (take-append-drop used rest))
-
--- what holds of a success holds of it by what follows from it
-pub on_ok_as : {A E : Type 0} {P Q : Type 0} (r : Result A E) → (P → Q) → OnOk r P → OnOk r Q
-on_ok_as (Ok x) f h = f h
-on_ok_as (Err e) f h = tt
 
 -- an end in a stretch is no value
 pub not_all : (xs : List (Answer Value)) → are_all_values (xs ++ answer.Cut ∷ []) ≡ false

@@ -1,7 +1,7 @@
 -- The texts of the damages of a stream, each with the position and the first bytes of its stretch.
 use Rattle.std.specs.Prelude.{◌≡◌, ◌<◌, ◌⊎◌, ℕ, ◌+◌, ◌-◌, ◌^◌, min, List, [], ◌∷◌, ◌++◌, length, take, drop, map, codes, string_bytes}
 use Rattle.std.specs.List.{AllZip}
-use Rattle.schemas.specs.declared.value.Value.{Value}
+use Rattle.schema_table.specs.declared.value.Value.{Value}
 use Rattle.link.specs.Stream.{unfinished}
 use Rattle.link.specs.Listening.{HasGiven}
 use Rattle.link.specs.declared.receiver.Answer.{Answer}

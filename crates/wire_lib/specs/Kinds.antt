@@ -1,7 +1,7 @@
 -- The kind of messages that a value belongs to.
 use Rattle.std.specs.Prelude.{ℕ}
-use Rattle.schemas.specs.declared.value.Value.{Value, out-Value}
-use Rattle.schemas.specs.declared.value.Value.TheOpen.{Value-F}
+use Rattle.schema_table.specs.declared.value.Value.{Value, out-Value}
+use Rattle.schema_table.specs.declared.value.Value.TheOpen.{Value-F}
 
 -- the index of a variant; else 0, the only kind
 abbrev pub kind_of_level : Value-F Value → ℕ

@@ -9,5 +9,5 @@ abbrev pub FitsInColumns : ℕ → Vec ℕ Global → Type 0
 FitsInColumns columns line = ArePrintable line.items × (length line.items ≤ columns)
 
 -- all lines are
-abbrev pub Fits : ℕ → List (Vec ℕ Global) → Type 0
-Fits columns lines = All (FitsInColumns columns) lines
+abbrev pub FitInColumns : ℕ → List (Vec ℕ Global) → Type 0
+FitInColumns columns lines = All (FitsInColumns columns) lines

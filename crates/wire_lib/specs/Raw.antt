@@ -3,12 +3,12 @@ use Rattle.std.specs.Prelude.{◌≡◌, ℕ, List, [], ◌++◌}
 use Rattle.postcard_tree.specs.Tree.{IsTree}
 use Rattle.postcard_tree.specs.Spelling.{short}
 use Rattle.postcard_de.specs.Answer.{ReadsFront}
-use Rattle.schemas.specs.declared.value.Value.{Value}
-use Rattle.schemas.specs.Values.{tree_of}
+use Rattle.schema_table.specs.declared.value.Value.{Value}
+use Rattle.schema_table.specs.Values.{tree_of}
 use Rattle.wire_lib.specs.declared.receive.Reading.{Reading}
 use Rattle.wire_lib.specs.declared.send.Sending.{Sending}
-use Rattle.wire_lib.specs.Meant.{MeansText}
-use Rattle.wire_lib.specs.Parsed.{IsOfType}
+use Rattle.wire_json.specs.Meant.{MeansText}
+use Rattle.wire_json.specs.Parsed.{IsOfType}
 use Rattle.wire_lib.specs.Received.{read_by}
 use Rattle.wire_lib.specs.Said.{IsTextFor, value_line}
 use Rattle.wire_lib.specs.Summed.{message_with}

@@ -4,8 +4,8 @@ use Rattle.std.specs.List.{AllZip, flat_map}
 use Rattle.cobs.specs.InPlace.{stretch}
 use Rattle.cobs.specs.Sentinel.{masked}
 use Rattle.postcard_tree.specs.Tree.{Tree}
-use Rattle.schemas.specs.Schemas.{SchemaTakes, SchemaReads}
-use Rattle.schemas.specs.declared.value.Value.{Value}
+use Rattle.schema_table.specs.Schemas.{SchemaTakes, SchemaReads}
+use Rattle.schema_table.specs.declared.value.Value.{Value}
 use Rattle.link.specs.Stream.{begun, unfinished}
 use Rattle.link.specs.Judged.{HoldsBy}
 use Rattle.link.specs.Pushes.{finished}

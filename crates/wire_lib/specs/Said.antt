@@ -2,10 +2,10 @@
 use Rattle.std.specs.Prelude.{◌≡◌, ℕ, ◌+◌, ◌-◌, ◌^◌, ◌⊎◌, min, List, ◌++◌, length, codes, decimal}
 use Rattle.cobs.specs.InPlace.{stretch}
 use Rattle.cobs.specs.Sentinel.{masked}
-use Rattle.schemas.specs.declared.value.Value.{Value}
+use Rattle.schema_table.specs.declared.value.Value.{Value}
 use Rattle.link.specs.declared.receiver.Answer.{Answer}
 use Rattle.link.specs.declared.receiver.Answer.TheVariants as answer
-use Rattle.wire_lib.specs.Printed.{Prints}
+use Rattle.wire_json.specs.Printed.{Prints}
 use Rattle.wire_lib.specs.Sent.{LacksFeed}
 use Rattle.wire_lib.specs.declared.receive.Reading.{Reading}
 

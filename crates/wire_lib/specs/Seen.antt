@@ -1,7 +1,7 @@
 -- What a viewer has seen of a stream: each result is counted once.
 use Rattle.std.specs.Prelude.{◌≡◌, ◌==◌, ◌<◌, ℕ, ◌+◌, List, [], ◌∷◌, ◌++◌, length, slice_index_or, String, string_bytes, if◌then◌else◌}
 use Rattle.std.specs.Global.{Global}
-use Rattle.schemas.specs.declared.value.Value.{Value}
+use Rattle.schema_table.specs.declared.value.Value.{Value}
 use Rattle.link.specs.Stream.{begun}
 use Rattle.link.specs.Pushes.{finished}
 use Rattle.link.specs.Decoding.{in_owner}

@@ -1,14 +1,14 @@
 -- What the lines of a text became: each a frame or a refusal.
-use Rattle.std.specs.Prelude.{◌≡◌, ◌≢◌, ◌⊎◌, ℕ, ◌+◌, ◌-◌, ◌^◌, ◌<◌, ◌≤◌, ◌&&◌, Bool, true, false, min, List, [], ◌∷◌, ◌++◌, length, slice_index, All, flat_map, codes, decimal}
+use Rattle.std.specs.Prelude.{◌≡◌, ◌≢◌, ◌⊎◌, ℕ, ◌+◌, ◌-◌, ◌^◌, ◌<◌, ◌≤◌, ◌&&◌, Bool, true, false, min, List, [], ◌∷◌, ◌++◌, length, slice_index, All, flat_map}
 use Rattle.cobs.specs.Sentinel.{frame_for}
 use Rattle.postcard_tree.specs.Tree.{IsTree}
 use Rattle.postcard_tree.specs.Spelling.{short}
-use Rattle.schemas.specs.declared.value.Value.{Value}
-use Rattle.schemas.specs.Values.{tree_of}
-use Rattle.wire_lib.specs.InRange.{Fits}
-use Rattle.wire_lib.specs.Meant.{MeansText}
-use Rattle.wire_lib.specs.Parsed.{IsOfType}
-use Rattle.wire_lib.specs.Refused.{NoneOf}
+use Rattle.schema_table.specs.declared.value.Value.{Value}
+use Rattle.schema_table.specs.Values.{tree_of}
+use Rattle.wire_json.specs.InRange.{Fits}
+use Rattle.wire_json.specs.Meant.{MeansText}
+use Rattle.wire_json.specs.Parsed.{IsOfType}
+use Rattle.wire_json.specs.Refused.{NoneOf, refusal_text}
 use Rattle.wire_lib.specs.Summed.{message_with}
 use Rattle.wire_lib.specs.declared.send.Sending.{Sending}
 use Rattle.wire_lib.specs.declared.send.FramesOfLines.{FramesOfLines}
@@ -33,11 +33,6 @@ pub record IsFrameToSend (s : Sending) (line frame : List ℕ) : Type 0 where
 pub data LineMade : Type 0 where
   framed : List ℕ → LineMade
   refused : List ℕ → LineMade
-
--- the line that refuses the line of that number, with what is wrong
-abbrev pub refusal_text : ℕ → List ℕ → List ℕ
-refusal_text number why =
-    codes "line " ++ (decimal number ++ (codes ": " ++ (why ++ 10 ∷ [])))
 
 -- a line means nothing of the type
 abbrev pub MeansNothing : Sending → List ℕ → Type 0

@@ -6,8 +6,8 @@ use Rattle.postcard_tree.specs.Spelling.{varint, short}
 use Rattle.postcard.specs.Greatest.{greater_of}
 use Rattle.schema_table.specs.declared.node.Node.{Node}
 use Rattle.schema_table.specs.declared.node.Node.TheVariants as node
-use Rattle.schemas.specs.Integers.{width_of}
-use Rattle.schemas.specs.Schemas.{SchemaTakes}
+use Rattle.schema_table.specs.Integers.{width_of}
+use Rattle.schema_table.specs.Schemas.{SchemaTakes}
 
 -- each tree that is accepted has a shortest encoding of at most n bytes
 abbrev pub IsAtMost : (Tree → Type 0) → ℕ → Type 0

@@ -1,12 +1,8 @@
-//! The library of the program `wire`: messages of any device as lines of JSON. Values as JSON by their schema and back, frames as
-//! lines, lines as frames, a live view of a stream, and the program's arguments.
+//! The library of the program `wire`: messages of any device as lines of JSON. Frames as lines, lines as frames, a live view of a
+//! stream, tables as JSON, and the program's arguments. `wire_json` makes JSON of values, and values of JSON.
 #![tactic(auto)]
 
-mod floats;
 pub mod laws;
-mod looks;
-pub mod parse;
-pub mod print;
 pub mod raw;
 pub mod receive;
 pub mod send;
@@ -17,7 +13,6 @@ pub mod table;
 pub mod table_json;
 pub mod watching;
 pub mod words;
-pub mod wrong;
 
 /// The default limit of nested nodes of a value; `depth=N` sets another.
 pub const DEPTH: u32 = 60;

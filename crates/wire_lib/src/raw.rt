@@ -3,19 +3,19 @@ ghost use Rattle.std.specs.Prelude.{◌≡◌, true, IfOk, OnOk};
 ghost use Rattle.postcard_de.specs.Answer.{ReadsFront};
 ghost use Rattle.wire_lib.specs.Received.{read_by};
 ghost use Rattle.wire_lib.specs.Raw.{ShowsWhole, IsMessageToSend};
-ghost use Rattle.wire_lib.specs.Refused.{IfWrong};
+ghost use Rattle.wire_json.specs.Refused.{IfWrong};
 ghost use Rattle.wire_lib.specs.Sent.{MeansNothing};
 
-use crate::parse::parse;
 use crate::receive::{Reading, put_stretch_line, put_value_line};
 use crate::send::Sending;
 use crate::summed::{kept, put_sum};
 use crate::table::TableReader;
-use crate::wrong::ParseError;
 use postcard::{Error, to_allocvec};
 use schemas::{Value, take_from_bytes};
 use std::alloc::AllocError;
 use std::cell::Cell;
+use wire_json::parse::parse;
+use wire_json::wrong::ParseError;
 
 /// Whether a message is the encoding of a value.
 fn is_written(reading: Reading<'_>, value: &Value, message: &[u8]) -> Result<bool, AllocError> {
@@ -123,7 +123,7 @@ pub fn put_message(
 /// Returns the encoding of the value that a line of JSON contains, without a frame; with its checksum if there is one.
 ///
 /// # Errors
-/// Those of [`parse`](crate::parse::parse).
+/// Those of [`parse`](wire_json::parse::parse).
 ///
 /// # Allocates
 /// The encoding. The value is freed; of a fault its path is allocated.

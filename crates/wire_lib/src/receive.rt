@@ -4,11 +4,10 @@ ghost use Rattle.link.specs.Decoding.{in_owner};
 ghost use Rattle.link.specs.Receivers.{IsBehind, SameTerms};
 ghost use Rattle.link.specs.Pushes.{Answered, IsStretchOf};
 ghost use Rattle.link.specs.declared.receiver.Answer.{Answer as Answers};
-ghost use Rattle.schemas.specs.declared.value.Value.{Value as Values};
+ghost use Rattle.schema_table.specs.declared.value.Value.{Value as Values};
 ghost use Rattle.wire_lib.specs.Said.{IsTextFor, value_line, stretch_line, known_to, end_said, SaysLine};
 ghost use Rattle.wire_lib.specs.Received.{HasTold, held_by, read_by, reading_of, skip_of, is_a_value, are_all_values, added_at_end, TellsEach, TellsEnd};
 
-use crate::print::{Look, print_into};
 use crate::table::TableReader;
 use cobs::before_sentinel;
 use json::Writer;
@@ -18,6 +17,7 @@ use schemas::Value;
 use std::alloc::{AllocError, Global};
 use std::cell::Cell;
 use std::mem;
+use wire_json::print::{Look, print_into};
 
 /// The most bytes between two sentinels; more are too long.
 pub const LIMIT: usize = 65536;

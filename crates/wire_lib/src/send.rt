@@ -1,15 +1,15 @@
 //! Lines of JSON as a stream of frames.
 ghost use Rattle.std.specs.Prelude.{◌≡◌, ℕ, ◌<◌, ◌≤◌, ◌&&◌, false, List, [], ◌∷◌, ◌++◌, length, take, string_bytes, IfOk, OnOk};
-ghost use Rattle.wire_lib.specs.Refused.{IfWrong};
-ghost use Rattle.wire_lib.specs.Sent.{IsFrameToSend, IsUnsendable, LineMade, refusal_text, IsTextMade, IsLineMade, IsLineWith, AreLinesMade, last_line, is_framed, are_all_framed, number_behind, sending_of, begun_line, HasMade, AppendedApart};
+ghost use Rattle.wire_json.specs.Refused.{IfWrong, refusal_text};
+ghost use Rattle.wire_lib.specs.Sent.{IsFrameToSend, IsUnsendable, LineMade, IsTextMade, IsLineMade, IsLineWith, AreLinesMade, last_line, is_framed, are_all_framed, number_behind, sending_of, begun_line, HasMade, AppendedApart};
 
 use crate::raw::message_of;
 use crate::receive::LIMIT;
-use crate::wrong::{ParseError, Wrong, put_wrong, refusal};
 use cobs::{before_sentinel, encode_vec_with_sentinel};
 use schema_table::Schema;
 use std::alloc::{AllocError, Global};
 use std::mem;
+use wire_json::wrong::{ParseError, Wrong, put_wrong, refusal};
 
 /// How lines are sent: the type, the limits, the delimiter.
 #[derive(Clone, Copy, Drop)]
@@ -40,7 +40,7 @@ fn append(to: &mut Vec<u8>, bytes: &[u8]) -> Sent
 /// Returns the shortest frame of the value that a line of JSON contains, followed by its sentinel.
 ///
 /// # Errors
-/// Those of [`parse`](crate::parse::parse); `Wrong` too if the frame has more than [`LIMIT`] bytes.
+/// Those of [`parse`](wire_json::parse::parse); `Wrong` too if the frame has more than [`LIMIT`] bytes.
 ///
 /// # Allocates
 /// The frame. The value and its encoding are freed; of a fault its path is allocated.

@@ -1,7 +1,7 @@
 //! The maximum sizes of types, in bytes.
 ghost use Rattle.std.specs.Prelude.{◌≡◌, ℕ, length, None, Some, IfSome, IfOk, IsErr, IsTrue, ◌↔◌, MatchOption};
 ghost use Rattle.postcard_tree.specs.Spelling.{varint};
-ghost use Rattle.schemas.specs.Integers.{width_of as width_in_tree};
+ghost use Rattle.schema_table.specs.Integers.{width_of as width_in_tree};
 ghost use Rattle.wire_lib.specs.Sizes.{known_size, sum_size, variant_size, counted_size, node_size, node_bounded, AreSizesOf, AreListsBounded};
 
 use postcard_tree::varint::varint_u64;

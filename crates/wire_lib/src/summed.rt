@@ -1,7 +1,7 @@
 //! Messages that are followed by their CRC-32.
 ghost use Rattle.std.specs.Prelude.{◌≡◌, ◌⊎◌, OnOk, Decides, IfOk, IfErr};
 ghost use Rattle.postcard_tree.specs.declared.error.Error.TheVariants.{OutOfMemory, DeserializeBadCrc};
-ghost use Rattle.schemas.specs.Values.{tree_of};
+ghost use Rattle.schema_table.specs.Values.{tree_of};
 ghost use Rattle.wire_lib.specs.Summed.{EndsInSum, IsSummed, with_sum};
 
 use postcard::fixint::LE;

@@ -1,7 +1,7 @@
 //! Decoding messages by a table of types, for `link`'s receivers.
 ghost use Rattle.std.specs.Prelude.{true, Some};
 ghost use Rattle.std.proofs.Common.{ap};
-ghost use Rattle.schemas.specs.Schemas.{SchemaTakes, SchemaReads};
+ghost use Rattle.schema_table.specs.Schemas.{SchemaTakes, SchemaReads};
 ghost use Rattle.schemas.specs.SchemaLaws.{schema_laws};
 ghost use Rattle.link.specs.Judged.{front_laws};
 ghost use Rattle.wire_lib.specs.Summed.{TakesSummed, ReadsSummed, summed_laws};

@@ -1,5 +1,5 @@
 //! Schemas of unit, options, results, boxes, sequences, arrays and maps.
-ghost use Rattle.schemas.specs.Schemas.{AtTop, OfOption, OfList, OfGroup, OfVariant, EachHas};
+ghost use Rattle.schema_table.specs.Schemas.{AtTop, OfOption, OfList, OfGroup, OfVariant, EachHas};
 ghost use Rattle.schemas.specs.TypeSchemas.{NoneHave, OneThenHave, LastHas, FirstHas};
 
 use super::{HasSchema, SchemaForm, add_node};

@@ -1,5 +1,5 @@
 //! Schemas of truth values and numbers.
-ghost use Rattle.schemas.specs.Schemas.{AtTop, OfBool, OfU8, OfI8, OfU16, OfU32, OfU64, OfU128, OfI16, OfI32, OfI64, OfI128, OfLE, OfBE};
+ghost use Rattle.schema_table.specs.Schemas.{AtTop, OfBool, OfU8, OfI8, OfU16, OfU32, OfU64, OfU128, OfI16, OfI32, OfI64, OfI128, OfLE, OfBE};
 
 use super::{SchemaForm, add_leaf};
 use crate::{HasIntegerType, Node};

@@ -1,7 +1,7 @@
 //! Schemas of characters, texts and byte strings.
 ghost use Rattle.std.specs.Prelude.{IfOk};
 ghost use Rattle.postcard_tree.specs.Reading.{TakesByte, TakesSequence, RefusesByte, RefusesSequence, TakesText, RefusesText};
-ghost use Rattle.schemas.specs.Schemas.{AtTop, OfChar, OfText, OfBytes};
+ghost use Rattle.schema_table.specs.Schemas.{AtTop, OfChar, OfText, OfBytes};
 ghost use Rattle.schemas.specs.TypeSchemas.{BeginsWith, IsSchemaOf};
 
 use super::{SchemaForm, add_leaf};

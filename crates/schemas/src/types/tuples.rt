@@ -1,6 +1,6 @@
 //! Schemas of tuples of one to six parts.
 ghost use Rattle.std.specs.Prelude.{IfOk};
-ghost use Rattle.schemas.specs.Schemas.{AtTop, OfGroup};
+ghost use Rattle.schema_table.specs.Schemas.{AtTop, OfGroup};
 ghost use Rattle.schemas.specs.TypeSchemas.{BeginsWith, IsStructAdded, NoneHave, OneThenHave};
 
 use super::{HasSchema, SchemaForm, add_node};

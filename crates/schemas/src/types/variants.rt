@@ -1,5 +1,5 @@
 //! Schemas of the variants of an enum, which are the shapes of message types.
-ghost use Rattle.schemas.specs.Schemas.{AtTop, OfVariant};
+ghost use Rattle.schema_table.specs.Schemas.{AtTop, OfVariant};
 ghost use Rattle.schemas.specs.TypeSchemas.{LastHas, FirstHas};
 
 use super::{HasPayloadSchemas, HasSchema, SchemaForm, add_node};

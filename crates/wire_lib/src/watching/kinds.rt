@@ -3,12 +3,12 @@ ghost use Rattle.std.specs.Prelude.{◌≡◌, ℕ, IfOk};
 ghost use Rattle.std.specs.List.{All};
 ghost use Rattle.wire_lib.specs.Kinds.{kind_in};
 
-use crate::print::{Look, print};
 use crate::receive::Reading;
 use crate::watching::table::Row;
 use schema_table::{Names, Schema};
 use schemas::{Node, Value};
 use std::alloc::{AllocError, Global};
+use wire_json::print::{Look, print};
 
 /// How many bytes are kept of a message's text.
 pub const LONGEST: usize = 1024;

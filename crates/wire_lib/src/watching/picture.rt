@@ -1,6 +1,6 @@
 //! A table of messages as printable lines.
 ghost use Rattle.std.specs.Prelude.{◌≡◌, ℕ, ◌≤◌, List, length, IfOk, OnOk};
-ghost use Rattle.wire_lib.specs.Pictures.{Fits};
+ghost use Rattle.wire_lib.specs.Pictures.{FitInColumns};
 
 use crate::watching::printable::printable;
 use crate::watching::table::{Row, Table};
@@ -24,8 +24,8 @@ fn put_line(
     columns: usize,
     text: &str,
 ) -> Result<(), AllocError>
-    requires { Fits columns lines.old.items }
-    ensures { OnOk result (Fits columns lines.new.items) }
+    requires { FitInColumns columns lines.old.items }
+    ensures { OnOk result (FitInColumns columns lines.new.items) }
 {
     Ok(lines.push(printable(alloc, text.trim_end(), columns)?)?)
 }
@@ -64,8 +64,8 @@ fn put_rows(
     rows: &[Row],
     view: View,
 ) -> Result<(), AllocError>
-    requires { Fits view.columns lines.old.items }
-    ensures { OnOk result (Fits view.columns lines.new.items) }
+    requires { FitInColumns view.columns lines.old.items }
+    ensures { OnOk result (FitInColumns view.columns lines.new.items) }
 {
     let mut left = view.kinds;
     for row in rows {
@@ -89,8 +89,8 @@ fn put_damages(
     table: &Table,
     view: View,
 ) -> Result<(), AllocError>
-    requires { Fits view.columns lines.old.items }
-    ensures { OnOk result (Fits view.columns lines.new.items) }
+    requires { FitInColumns view.columns lines.old.items }
+    ensures { OnOk result (FitInColumns view.columns lines.new.items) }
 {
     if table.damaged == 0 {
         return Ok(());
@@ -121,7 +121,7 @@ pub fn damage_lines(table: &Table) -> usize {
 /// # Allocates
 /// The lines. A text at a time is freed.
 pub fn picture(alloc: Global, table: &Table, view: View) -> Result<Vec<Vec<u8>>, AllocError>
-    ensures { IfOk result (λ lines. Fits view.columns lines.items) }
+    ensures { IfOk result (λ lines. FitInColumns view.columns lines.items) }
 {
     let mut lines = Vec::new(alloc);
     put_line(alloc, &mut lines, view.columns, head(view))?;

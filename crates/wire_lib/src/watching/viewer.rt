@@ -4,7 +4,7 @@ ghost use Rattle.link.specs.Decoding.{in_owner};
 ghost use Rattle.link.specs.Receivers.{IsBehind};
 ghost use Rattle.link.specs.Pushes.{Answered};
 ghost use Rattle.link.specs.declared.receiver.Answer.{Answer as Answers};
-ghost use Rattle.schemas.specs.declared.value.Value.{Value as Values};
+ghost use Rattle.schema_table.specs.declared.value.Value.{Value as Values};
 ghost use Rattle.wire_lib.specs.Damages.{IsDamageWord};
 ghost use Rattle.wire_lib.specs.Fronts.{dots_after, damage_said};
 ghost use Rattle.wire_lib.specs.Received.{held_by, read_by, are_all_values};

@@ -1,6 +1,6 @@
 use Rattle.std.proofs.Common.{◌≡◌, [], ◌∷◌, take, ap, sym, ◌∙◌, subst, arith}
 use Rattle.line_io.specs.Device.{Wrote}
-use Rattle.stores.specs.Store.{Settles}
+use Rattle.journal.specs.Store.{Settles}
 use Rattle.journal.specs.Logs.{store_of}
 use Rattle.journal_scan.specs.Checks.{IsChecked}
 use Rattle.journal_scan.proofs.AnewLemmas.{wrote_still}

@@ -1,7 +1,7 @@
 use Rattle.std.proofs.Common.{Ok, Err}
 use Rattle.std.proofs.lemmas.Result.{err_from_is_err_and}
 use Rattle.postcard_de.specs.Deserializer.{bytes_of}
-use Rattle.schemas.specs.Schemas.{SchemaReads}
+use Rattle.schema_table.specs.Schemas.{SchemaReads}
 use Rattle.schemas.proofs.FrontsLemmas.{fronts_by, front_by}
 use Rattle.schemas.proofs.de.take_from_bytes.Goals as goal
 

@@ -5,7 +5,7 @@ use Rattle.postcard_de.specs.Values.{none_read, some_read, some_fails}
 use Rattle.postcard_de.specs.Steps.{gave_more, no_memory}
 use Rattle.postcard_de.specs.Parts.{parts_more, parts_at, parts_last, sequence_read, sequence_fails, sequence_no_memory, parts_as, most_parts, upto_read, upto_fails, upto_past, array_read, array_fails}
 use Rattle.std.proofs.lemmas.Option.{slice_get_past, slice_get_read}
-use Rattle.schemas.specs.Schemas.{SchemaTakes, SchemaHas, SchemaRefuses}
+use Rattle.schema_table.specs.Schemas.{SchemaTakes, SchemaHas, SchemaRefuses}
 use Rattle.schemas.proofs.TakingLemmas.{list_by, list_up_to_by, array_by, none_by, parts_none_yet, fields_none_yet, fields_more, field_refused, fields_by, fields_no_memory, fields_at, fields_last, some_by, variant_by, payload_fails, no_payload, no_memory_behind, too_deep, no_place, enum_at, at_place}
 use Rattle.schemas.proofs.read.+read.Goals as goal
 

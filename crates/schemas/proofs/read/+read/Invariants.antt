@@ -1,7 +1,7 @@
 use Rattle.std.proofs.Common.{◌+◌, ◌-◌, ◌*◌, ◌≤◌, min, drop}
 use Rattle.postcard_de.specs.Parts.{PartsRead}
 use Rattle.postcard_de.specs.Deserializer.{flavor_of}
-use Rattle.schemas.specs.Schemas.{SchemaTakes, SchemaHas, SchemaReads, SchemaRefuses}
+use Rattle.schema_table.specs.Schemas.{SchemaTakes, SchemaHas, SchemaReads, SchemaRefuses}
 use Rattle.schemas.proofs.TakingLemmas.{FieldsRead}
 use Rattle.schemas.proofs.read.+read.Given as goal
 

@@ -1,5 +1,6 @@
 use Rattle.std.proofs.Common.{rules}
-use Rattle.schemas.proofs.TopsLemmas.{signed_by, tree-I16, top-I16}
+use Rattle.schemas.proofs.TopsLemmas.{signed_by}
+use Rattle.schema_table.specs.ValueLaws.{tree-I16, top-I16}
 use Rattle.schemas.proofs.read.read_i16.Goals as goal
 
 pub returns : goal.returns

@@ -1,5 +1,6 @@
 use Rattle.std.proofs.Common.{rules}
-use Rattle.schemas.proofs.TopsLemmas.{signed_by, tree-I64, top-I64}
+use Rattle.schemas.proofs.TopsLemmas.{signed_by}
+use Rattle.schema_table.specs.ValueLaws.{tree-I64, top-I64}
 use Rattle.schemas.proofs.read.read_i64.Goals as goal
 
 pub returns : goal.returns

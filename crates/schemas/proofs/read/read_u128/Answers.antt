@@ -1,4 +1,5 @@
-use Rattle.schemas.proofs.TopsLemmas.{number_by, tree-U128, top-U128}
+use Rattle.schemas.proofs.TopsLemmas.{number_by}
+use Rattle.schema_table.specs.ValueLaws.{tree-U128, top-U128}
 use Rattle.schemas.proofs.read.read_u128.Goals as goal
 
 pub returns : goal.returns

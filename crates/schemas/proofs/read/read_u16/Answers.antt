@@ -1,4 +1,5 @@
-use Rattle.schemas.proofs.TopsLemmas.{number_by, tree-U16, top-U16}
+use Rattle.schemas.proofs.TopsLemmas.{number_by}
+use Rattle.schema_table.specs.ValueLaws.{tree-U16, top-U16}
 use Rattle.schemas.proofs.read.read_u16.Goals as goal
 
 pub returns : goal.returns

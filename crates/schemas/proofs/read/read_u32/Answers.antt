@@ -1,4 +1,5 @@
-use Rattle.schemas.proofs.TopsLemmas.{number_by, tree-U32, top-U32}
+use Rattle.schemas.proofs.TopsLemmas.{number_by}
+use Rattle.schema_table.specs.ValueLaws.{tree-U32, top-U32}
 use Rattle.schemas.proofs.read.read_u32.Goals as goal
 
 pub returns : goal.returns

@@ -1,4 +1,5 @@
-use Rattle.schemas.proofs.TopsLemmas.{number_by, tree-U64, top-U64}
+use Rattle.schemas.proofs.TopsLemmas.{number_by}
+use Rattle.schema_table.specs.ValueLaws.{tree-U64, top-U64}
 use Rattle.schemas.proofs.read.read_u64.Goals as goal
 
 pub returns : goal.returns

@@ -1,11 +1,11 @@
-use Rattle.wire_lib.proofs.ToldLemmas.{on_ok_as}
+use Rattle.std.proofs.lemmas.Result.{on_ok_weaker}
 use Rattle.wire_lib.proofs.LineLemmas.{value_appended, on_appended}
 use Rattle.wire_lib.proofs.receive.put_value_line.Goals as goal
 
 pub returns : goal.returns
 returns c =
     let text = c.write_value.new.text.items in
-    on_ok_as c.extend_from_slice-3.result (λ third. (
+    on_ok_weaker c.extend_from_slice-3.result (λ third. (
       text,
       c.in_ok-write_value.ensures,
       value_appended c.args.lines.now.items c.extend_from_slice.new.self.items

@@ -1,7 +1,7 @@
 use Rattle.std.proofs.Common.{◌≡◌, ◌≤◌, None, length, take, false, sym, ap, subst, ◌∙◌, arith, rules}
 use Rattle.std.proofs.lemmas.List.{take_all}
 use Rattle.link.specs.Stream.{ended}
-use Rattle.stores.specs.Store.{EndsBefore}
+use Rattle.journal.specs.Store.{EndsBefore}
 use Rattle.journal_scan.proofs.StandingLemmas.{found_from}
 use Rattle.journal_scan.proofs.scanning.Scan.next_ended.Goals as goal
 

@@ -1,11 +1,11 @@
 use Rattle.std.proofs.Common.{◌++◌, drop, subst}
 use Rattle.wire_lib.specs.Received.{HasTold, reading_of, skip_of}
-use Rattle.wire_lib.proofs.ToldLemmas.{on_ok_as}
+use Rattle.std.proofs.lemmas.Result.{on_ok_weaker}
 use Rattle.wire_lib.proofs.LineLemmas.{tells_as}
 use Rattle.wire_lib.proofs.receive.LinesOfFrames.push.Goals as goal
 
 pub returns-clause-told : goal.returns-clause-told
-returns-clause-told c = on_ok_as c.push_all.result (λ told passed stream answers h.
+returns-clause-told c = on_ok_weaker c.push_all.result (λ told passed stream answers h.
     let b = c.behind_skipped-rest in
     let next = told passed stream answers (b.ensures.told passed stream answers h) in (
       next.0,

@@ -1,6 +1,6 @@
 use Rattle.std.proofs.Common.{◌≡◌, ℕ, List, ◌++◌, length}
 use Rattle.link.specs.declared.receiver.Answer.{Answer}
-use Rattle.schemas.specs.declared.value.Value.{Value}
+use Rattle.schema_table.specs.declared.value.Value.{Value}
 use Rattle.wire_lib.specs.Received.{HasTold, TellsEach, reading_of, skip_of}
 use Rattle.wire_lib.proofs.receive.LinesOfFrames.push_all.Given as goal
 

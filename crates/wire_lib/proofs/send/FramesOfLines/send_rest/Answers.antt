@@ -1,7 +1,7 @@
 use Rattle.std.proofs.Common.{◌≡◌, ◌<◌, [], ◌∷◌, length, ap, subst, rules, arith}
 use Rattle.wire_lib.specs.Sent.{IsTextMade}
 use Rattle.wire_lib.proofs.SentLemmas.{last_made}
-use Rattle.wire_lib.proofs.ToldLemmas.{on_ok_as}
+use Rattle.std.proofs.lemmas.Result.{on_ok_weaker}
 use Rattle.wire_lib.proofs.send.FramesOfLines.send_rest.Goals as goal
 
 pub returns : goal.returns
@@ -9,7 +9,7 @@ returns c =
     let self = c.args.self.now in
     let some : 0 < length self.line.items = search rules in
     let same : c.deref.result.now ≡ self.line.items = search rules in
-    on_ok_as c.send.result
+    on_ok_weaker c.send.result
     (λ sent text made h.
     let last = last_made self.sending self.line.items self.number c.send.new.self.number self.is_good c.send.new.self.is_good text made sent.0 (λ e. omega (arith, some, ap length e)) h (subst (λ x. IsTextMade self.sending c.send.new.self.number x sent.0) same sent.1) c.send.ensures.number sent.3 in
     (sent.0 ∷ [], last.0, sent.2, last.1))

@@ -1,4 +1,4 @@
-use Rattle.schemas.specs.Schemas.{AtTop, OfBE}
+use Rattle.schema_table.specs.Schemas.{AtTop, OfBE}
 use Rattle.schemas.proofs.TablesLemmas.{as_wide}
 use Rattle.schemas.proofs.types.numbers.OwnSchemaFormBE.add_form_schema.Goals as goal
 

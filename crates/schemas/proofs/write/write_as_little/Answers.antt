@@ -1,5 +1,0 @@
-use Rattle.schemas.proofs.PushedLemmas.{little_written}
-use Rattle.schemas.proofs.write.write_as_little.Goals as goal
-
-pub returns-clause-writes : goal.returns-clause-writes
-returns-clause-writes g c = rw (little_written g.T.FixInt.size (g.T.FixInt.bits c.args.n)) at c.serialize.ensures.writes

@@ -1,0 +1,5 @@
+use Rattle.wire_json.proofs.LeafRefusals.{no_text}
+use Rattle.wire_json.proofs.parse.text.Goals as goal
+
+pub returns-in_default-clause-refused : goal.returns-in_default-clause-refused
+returns-in_default-clause-refused c wrong = no_text c.args.json.now c.in_default.not-String

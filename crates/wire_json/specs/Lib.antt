@@ -1,0 +1,9 @@
+pub mod Floats
+pub mod InRange
+pub mod Looks
+pub mod Meant
+pub mod Parsed
+pub mod Printed
+pub mod Refused
+pub mod RoundTrip
+pub mod TokenLaws

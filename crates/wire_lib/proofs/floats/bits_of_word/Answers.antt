@@ -1,7 +1,0 @@
-use Rattle.wire_lib.proofs.WordLemmas.{no_single, none_as}
-use Rattle.wire_lib.proofs.floats.bits_of_word.Goals as goal
-
-pub returns-in_default-clause-none : goal.returns-in_default-clause-none
-returns-in_default-clause-none c =
-    let n = c.in_default in
-    none_as c.bits_of_nan.result (no_single c.args.word.now n.not-Infinity n.not-text n.not-NaN) c.bits_of_nan.ensures.none

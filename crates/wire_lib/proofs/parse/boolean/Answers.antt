@@ -1,5 +1,0 @@
-use Rattle.wire_lib.proofs.LeafRefusals.{no_bool}
-use Rattle.wire_lib.proofs.parse.boolean.Goals as goal
-
-pub returns-in_default-clause-refused : goal.returns-in_default-clause-refused
-returns-in_default-clause-refused c wrong = no_bool c.args.json.now c.in_default.not-Bool

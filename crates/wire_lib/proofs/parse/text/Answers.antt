@@ -1,5 +1,0 @@
-use Rattle.wire_lib.proofs.LeafRefusals.{no_text}
-use Rattle.wire_lib.proofs.parse.text.Goals as goal
-
-pub returns-in_default-clause-refused : goal.returns-in_default-clause-refused
-returns-in_default-clause-refused c wrong = no_text c.args.json.now c.in_default.not-String
