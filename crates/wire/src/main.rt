@@ -67,16 +67,18 @@ fn list_types(rt: &HostRuntime, files: &str) -> Ran {
 
 /// Does `check`: lists the types of files, or prints them as JSON.
 fn check(rt: &HostRuntime, files: &str, words: &[String]) -> Ran {
-    match words {
-        [] => list_types(rt, files),
-        [word] if word.as_str() == "json" => {
-            let mut line = table_json(rt.alloc(), &schema_of(rt, files)?)?;
-            line.push(b'\n')?;
-            say(rt, &line)?;
-            Ok(true)
+    for word in words {
+        if word.as_str() != "json" {
+            return Err(wrong_word(rt, word.as_str(), "isn't an argument of `check`"));
         }
-        [word, ..] => Err(wrong_word(rt, word.as_str(), "isn't an argument of `check`")),
     }
+    if words.is_empty() {
+        return list_types(rt, files);
+    }
+    let mut line = table_json(rt.alloc(), &schema_of(rt, files)?)?;
+    line.push(b'\n')?;
+    say(rt, &line)?;
+    Ok(true)
 }
 
 /// The failure for a wrong argument, with the usage.

@@ -2,7 +2,7 @@
 use crate::devices::{Digits, ROOM, read_some, read_whole, say};
 use crate::failure::{CLOCK_FAULT, Failure, of_read};
 use help::{Progress, wants_colour};
-use std::io::BufRead;
+use std::io::{BufRead, BufReader};
 use std::time::Instant;
 use wire_lib::raw::put_message;
 use wire_lib::receive::{LinesOfFrames, Reading};
@@ -144,7 +144,7 @@ fn read_frames(
 
 /// Writes a line for each message as it comes; each line of hexadecimal text is one.
 fn read_lines(rt: &HostRuntime, reading: Reading<'_>, lines: &mut Lines) -> Result<bool, Failure> {
-    let mut input = rt.reader();
+    let mut input = BufReader::with_capacity(rt.alloc(), ROOM, rt.reader()).map_err(of_read)?;
     let mut digits = Digits::new(rt);
     let mut line = Vec::new(rt.alloc());
     let mut value = Vec::new(rt.alloc());

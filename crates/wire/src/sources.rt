@@ -31,13 +31,15 @@ fn is_made(name: &str) -> bool {
     name.starts_with('.') || name == "target"
 }
 
-/// Why a folder can't be listed.
-fn why_unlisted(error: &io::Error) -> &'static str {
-    match error.kind() {
+/// The failure for a folder that can't be listed, and why it can't.
+fn unlisted(rt: &HostRuntime, folder: &str, error: &io::Error) -> Failure {
+    let why = match error.kind() {
+        ErrorKind::OutOfMemory => return Failure::NoMemory,
         ErrorKind::PermissionDenied => "can't be listed: permission denied",
         ErrorKind::InvalidFilename => "can't be listed: a name in it isn't UTF-8",
         _ => "can't be listed",
-    }
+    };
+    no_file(rt, folder, why)
 }
 
 /// Adds a folder's own files to `files`, and its folders to `folders`.
@@ -49,12 +51,12 @@ fn add_entries(
 ) -> Result<(), Failure> {
     let entries = match fs::read_dir(rt, folder) {
         Ok(entries) => entries,
-        Err(error) => return Err(no_file(rt, folder, why_unlisted(&error))),
+        Err(error) => return Err(unlisted(rt, folder, &error)),
     };
     for entry in entries {
         let entry = match entry {
             Ok(entry) => entry,
-            Err(error) => return Err(no_file(rt, folder, why_unlisted(&error))),
+            Err(error) => return Err(unlisted(rt, folder, &error)),
         };
         let path = String::from_str(rt.alloc(), entry.path().path_text())?;
         if is_made(entry.file_name()) {
@@ -64,7 +66,7 @@ fn add_entries(
             Ok(kind) => kind.is_dir(),
             // it was removed meanwhile
             Err(error) if error.kind() == ErrorKind::NotFound => false,
-            Err(error) => return Err(no_file(rt, path.as_str(), why_not(&error))),
+            Err(error) => return Err(unread(rt, path.as_str(), &error)),
         };
         if is_folder {
             folders.push(path)?;
@@ -106,11 +108,19 @@ fn why_not(error: &io::Error) -> &'static str {
     }
 }
 
+/// The failure for a file that can't be read, or that memory doesn't hold.
+fn unread(rt: &HostRuntime, file: &str, error: &io::Error) -> Failure {
+    match error.kind() {
+        ErrorKind::OutOfMemory => Failure::NoMemory,
+        _ => no_file(rt, file, why_not(error)),
+    }
+}
+
 /// Reads a file.
 fn read(rt: &HostRuntime, file: String) -> Result<Source, Failure> {
     match fs::read_to_string(rt, file.as_str()) {
         Ok(text) => Ok(Source { file, text }),
-        Err(error) => Err(no_file(rt, file.as_str(), why_not(&error))),
+        Err(error) => Err(unread(rt, file.as_str(), &error)),
     }
 }
 

@@ -1,7 +1,7 @@
 //! The mode `write`: lines as frames or messages.
 use crate::devices::{ROOM, read_some, read_whole, say, say_wrongs};
 use crate::failure::{Failure, of_read, wrong};
-use std::io::BufRead;
+use std::io::{BufRead, BufReader};
 use wire_json::wrong::{ParseError, put_wrong};
 use wire_lib::raw::message_of;
 use wire_lib::send::{FramesOfLines, Sending};
@@ -102,7 +102,7 @@ fn without_return(line: &[u8]) -> &[u8] {
 
 /// Writes a line of digits for the message of each line as it comes, and returns whether all were values.
 fn write_lines(rt: &HostRuntime, sending: Sending<'_>) -> Result<bool, Failure> {
-    let mut input = rt.reader();
+    let mut input = BufReader::with_capacity(rt.alloc(), ROOM, rt.reader()).map_err(of_read)?;
     let mut line = Vec::new(rt.alloc());
     let mut is_good = true;
     let mut number: u64 = 0;
