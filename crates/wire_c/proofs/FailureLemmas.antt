@@ -1,9 +1,9 @@
 -- What a failure says.
 use Rattle.std.proofs.Common.{ℕ, List, sym, subst, string_bytes}
-use Rattle.wire_c_lib.specs.declared.terms.WireTerms.{WireTerms}
-use Rattle.wire_c_lib.specs.declared.types.WireFailure.{WireFailure}
-use Rattle.wire_c_lib.specs.declared.types.WireFailure.TheVariants as failure
-use Rattle.wire_c_lib.specs.Texts.{RefusesLines, IsTextOfRefusal, IsUnrefused, IsOfLines}
+use Rattle.wire_c.specs.declared.terms.WireTerms.{WireTerms}
+use Rattle.wire_c.specs.declared.types.WireFailure.{WireFailure}
+use Rattle.wire_c.specs.declared.types.WireFailure.TheVariants as failure
+use Rattle.wire_c.specs.Texts.{RefusesLines, IsTextOfRefusal, IsUnrefused, IsOfLines}
 
 -- the text of a refusal says what is wrong with the lines
 pub refuses_lines : (terms : WireTerms) (lines text : List ℕ) (e : WireFailure) → IsOfLines terms lines e → IsTextOfRefusal e text

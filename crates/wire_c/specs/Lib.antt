@@ -1,1 +1,4 @@
+pub mod Flags
 pub mod Status
+pub mod Streams
+pub mod Texts

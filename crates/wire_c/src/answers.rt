@@ -1,11 +1,11 @@
 //! Results by numbers, and a text in front of the caller's room.
 ghost use Rattle.std.specs.Prelude.{◌≡◌, ◌≢◌, ◌<◌, ◌≤◌, length, take};
-ghost use Rattle.wire_c_lib.specs.Flags.{is_set};
-ghost use Rattle.wire_c_lib.specs.Texts.{IsTextOfRefusal};
+ghost use Rattle.wire_c.specs.Flags.{is_set};
+ghost use Rattle.wire_c.specs.Texts.{IsTextOfRefusal};
 ghost use Rattle.wire_c.specs.Status.{done, no_room, refused};
 
 use crate::status::{NO_MEMORY, NO_ROOM, REFUSED, WRONG};
-use wire_c_lib::WireFailure;
+use crate::types::WireFailure;
 
 /// The result of a call.
 #[repr(C)]

@@ -1,14 +1,16 @@
 //! The exports.
 ghost use Rattle.std.specs.Prelude.{◌≡◌, ◌≢◌, ◌<◌, ◌≤◌, length, take, true, false};
-ghost use Rattle.wire_c_lib.specs.Flags.{is_set};
-ghost use Rattle.wire_c_lib.specs.Streams.{ReadsStream, IsDoneWith};
-ghost use Rattle.wire_c_lib.specs.Texts.{WritesFrames, RefusesLines};
+ghost use Rattle.wire_c.specs.Flags.{is_set};
+ghost use Rattle.wire_c.specs.Streams.{ReadsStream, IsDoneWith};
+ghost use Rattle.wire_c.specs.Texts.{WritesFrames, RefusesLines};
 ghost use Rattle.wire_c.specs.Status.{done, no_room, refused};
 
 use crate::answers::{WireSaid, failed, said};
+use crate::reading::read;
 use crate::status::DONE;
+use crate::terms::{Told, WireTerms};
+use crate::writing::write;
 use std::alloc::Global;
-use wire_c_lib::{Told, WireTerms, read, write};
 
 /// Puts a line of JSON for each answer to a stream in front of the room, and returns how long the lines are and how many bytes of the
 /// stream are done with. C passes nothing for `alloc`.

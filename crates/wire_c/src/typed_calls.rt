@@ -1,7 +1,10 @@
-//! Tests of `wire_c_lib`: streams in chunks and lines, by calls that each stand alone. Bytes are by hand.
+//! Tests of what the exports call: streams in chunks and lines, by calls that each stand alone. Bytes are by hand.
+use crate::reading::{ReadLines, read};
+use crate::terms::{Told, WireTerms};
+use crate::types::WireFailure;
+use crate::writing::write;
 use std::alloc::Global;
 use std::process::Abort;
-use wire_c_lib::{ReadLines, Told, WireFailure, WireTerms, read, write};
 
 const DECLARATIONS: &[u8] =
     b"#[derive(Serialize, Deserialize)] pub struct Reading { pub level: i16, pub light: Light }

@@ -1,5 +1,5 @@
 use Rattle.std.proofs.Common.{arith, sym, subst, ◌∙◌}
-use Rattle.wire_c_lib.specs.Streams.{ReadsStream}
+use Rattle.wire_c.specs.Streams.{ReadsStream}
 use Rattle.wire_c.proofs.FailureLemmas.{none_refused}
 use Rattle.wire_c.proofs.calls.wire_c_read.Goals as goal
 

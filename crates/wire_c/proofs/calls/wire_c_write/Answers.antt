@@ -1,5 +1,5 @@
 use Rattle.std.proofs.Common.{arith, sym, subst, ◌∙◌}
-use Rattle.wire_c_lib.specs.Texts.{WritesFrames}
+use Rattle.wire_c.specs.Texts.{WritesFrames}
 use Rattle.wire_c.proofs.FailureLemmas.{refuses_lines}
 use Rattle.wire_c.proofs.calls.wire_c_write.Goals as goal
 

@@ -7,10 +7,10 @@ use Rattle.wire_lib.specs.declared.receive.Reading.{Reading}
 use Rattle.wire_lib.specs.declared.receive.LinesOfFrames.{LinesOfFrames}
 use Rattle.wire_lib.specs.declared.send.Sending.{Sending}
 use Rattle.wire_lib.specs.Received.{HasTold, held_by, read_by, reading_of, added_at_end, TellsEach, TellsEnd}
-use Rattle.wire_c_lib.specs.declared.terms.WireTerms.{WireTerms}
-use Rattle.wire_c_lib.specs.Flags.{is_set}
-use Rattle.wire_c_lib.specs.Streams.{skipped_in, TellsLast, TellsStream, ReadsStream}
-use Rattle.wire_c_lib.specs.Texts.{MakesFrames, WritesFrames, RefusesLines}
+use Rattle.wire_c.specs.declared.terms.WireTerms.{WireTerms}
+use Rattle.wire_c.specs.Flags.{is_set}
+use Rattle.wire_c.specs.Streams.{skipped_in, TellsLast, TellsStream, ReadsStream}
+use Rattle.wire_c.specs.Texts.{MakesFrames, WritesFrames, RefusesLines}
 
 -- a stream's lines, by what a receiver that was pushed all of it has told
 pub stream_told : (r old : Reading) (new : LinesOfFrames) (ends : Bool) (passed skip : ℕ)

@@ -1,12 +1,12 @@
 //! What a call is told.
 ghost use Rattle.std.specs.Prelude.{◌≡◌};
-ghost use Rattle.wire_c_lib.specs.Flags.{is_set};
+ghost use Rattle.wire_c.specs.Flags.{is_set};
 
 use std::alloc::Global;
 
 /// How frames are read or written: numbers only, so it can be a struct of C. A flag is set if it isn't 0.
 ///
-/// Example: see [`write`](crate::write).
+/// Example: see [`write`](crate::writing::write).
 #[repr(C)]
 #[derive(Clone, Copy)]
 pub struct WireTerms {
@@ -26,7 +26,7 @@ pub struct WireTerms {
 
 /// The declarations of types, the words of one, and how its messages are read or written.
 ///
-/// Example: see [`write`](crate::write).
+/// Example: see [`write`](crate::writing::write).
 #[derive(Clone, Copy, Drop)]
 pub struct Told<'a> {
     /// Where memory is taken.

@@ -1,6 +1,6 @@
 use Rattle.std.proofs.Common.{[], string_bytes, length, subst, ◌∙◌}
 use Rattle.wire_lib.specs.Sent.{AreLinesMade, AppendedApart, HasMadeBy, last_line}
-use Rattle.wire_c_lib.proofs.writing.made_of.Goals as goal
+use Rattle.wire_c.proofs.writing.made_of.Goals as goal
 
 pub returns : goal.returns
 returns c =

@@ -9,8 +9,8 @@ use Rattle.link.specs.Listening.{HasGiven}
 use Rattle.link.specs.declared.receiver.Answer.{Answer}
 use Rattle.wire_lib.specs.declared.receive.Reading.{Reading}
 use Rattle.wire_lib.specs.Received.{held_by, read_by, as_list, TellsEach, TellsEnd}
-use Rattle.wire_c_lib.specs.declared.terms.WireTerms.{WireTerms}
-use Rattle.wire_c_lib.specs.Flags.{is_set}
+use Rattle.wire_c.specs.declared.terms.WireTerms.{WireTerms}
+use Rattle.wire_c.specs.Flags.{is_set}
 
 -- behind so many bytes, and the sentinel after them, if there is one
 abbrev pub behind_sentinel : ℕ → ℕ → ℕ

@@ -1,6 +1,6 @@
 //! Lines of JSON as frames.
 ghost use Rattle.std.specs.Prelude.{◌≡◌, string_bytes, IfOk, IfErr};
-ghost use Rattle.wire_c_lib.specs.Texts.{MakesFrames, WritesFrames, IsOfLines};
+ghost use Rattle.wire_c.specs.Texts.{MakesFrames, WritesFrames, IsOfLines};
 
 use crate::terms::{Told, is_flag};
 use crate::types::{TypeAt, WireFailure, written_type};

@@ -1,6 +1,6 @@
 use Rattle.std.proofs.Common.{refl}
-use Rattle.wire_c_lib.proofs.CallsLemmas.{reads_by}
-use Rattle.wire_c_lib.proofs.reading.read.Goals as goal
+use Rattle.wire_c.proofs.CallsLemmas.{reads_by}
+use Rattle.wire_c.proofs.reading.read.Goals as goal
 
 pub returns-clause-lines : goal.returns-clause-lines
 returns-clause-lines c = reads_by c.args.told.terms _ c.args.stream.now _ _ _ _ c.in-Ok-lines_of.ensures refl

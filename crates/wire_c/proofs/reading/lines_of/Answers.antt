@@ -1,8 +1,8 @@
 use Rattle.std.proofs.Common.{[], drop, ap, sym, subst, ◌∙◌}
 use Rattle.wire_lib.specs.Received.{reading_of, skip_of, added_at_end, TellsEnd}
-use Rattle.wire_c_lib.proofs.CallsLemmas.{stream_told, last_told, none_told}
-use Rattle.wire_c_lib.proofs.reading.lines_of.Goals.{then-ends+in_ok-finish, else-ends}
-use Rattle.wire_c_lib.proofs.reading.lines_of.Goals as goal
+use Rattle.wire_c.proofs.CallsLemmas.{stream_told, last_told, none_told}
+use Rattle.wire_c.proofs.reading.lines_of.Goals.{then-ends+in_ok-finish, else-ends}
+use Rattle.wire_c.proofs.reading.lines_of.Goals as goal
 
 pub returns : goal.returns
 returns c =

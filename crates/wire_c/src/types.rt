@@ -1,6 +1,6 @@
 //! From declarations to the type of the messages.
 ghost use Rattle.std.specs.Prelude.{IfErr};
-ghost use Rattle.wire_c_lib.specs.Texts.{IsUnrefused};
+ghost use Rattle.wire_c.specs.Texts.{IsUnrefused};
 
 use crate::terms::{Told, is_flag};
 use declarations::{Error, Schema, Source, read_type};
@@ -13,7 +13,7 @@ use wire_lib::words::EMPTY;
 
 /// Why a call has no result.
 ///
-/// Example: see [`write`](crate::write).
+/// Example: see [`write`](crate::writing::write).
 #[derive(Debug, Drop)]
 pub enum WireFailure {
     /// The declarations or the words of the type can't be taken: lines that say why.

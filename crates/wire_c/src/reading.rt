@@ -1,8 +1,8 @@
 //! A stream of frames as lines of JSON, chunk by chunk.
 ghost use Rattle.std.specs.Prelude.{◌≡◌, ◌≤◌, true, false, length, IfOk, IfErr};
-ghost use Rattle.wire_c_lib.specs.Flags.{is_set};
-ghost use Rattle.wire_c_lib.specs.Streams.{skipped_in, IsThroughLast, IsDoneWith, TellsStream, ReadsStream};
-ghost use Rattle.wire_c_lib.specs.Texts.{IsUnrefused};
+ghost use Rattle.wire_c.specs.Flags.{is_set};
+ghost use Rattle.wire_c.specs.Streams.{skipped_in, IsThroughLast, IsDoneWith, TellsStream, ReadsStream};
+ghost use Rattle.wire_c.specs.Texts.{IsUnrefused};
 
 use crate::terms::{Told, WireTerms, is_flag};
 use crate::types::{TypeAt, WireFailure, read_type_of};

@@ -2,10 +2,10 @@
 use Rattle.std.specs.Prelude.{◌≡◌, ℕ, Bool, true, false, List, [], ◌++◌, length, string_bytes}
 use Rattle.wire_lib.specs.declared.send.Sending.{Sending}
 use Rattle.wire_lib.specs.Sent.{LineMade, AreLinesMade, last_line, HasMadeBy, AppendedApart, are_all_framed}
-use Rattle.wire_c_lib.specs.declared.terms.WireTerms.{WireTerms}
-use Rattle.wire_c_lib.specs.declared.types.WireFailure.{WireFailure}
-use Rattle.wire_c_lib.specs.declared.types.WireFailure.TheVariants as failure
-use Rattle.wire_c_lib.specs.Flags.{is_set}
+use Rattle.wire_c.specs.declared.terms.WireTerms.{WireTerms}
+use Rattle.wire_c.specs.declared.types.WireFailure.{WireFailure}
+use Rattle.wire_c.specs.declared.types.WireFailure.TheVariants as failure
+use Rattle.wire_c.specs.Flags.{is_set}
 
 -- What was made of a text: of each line that a line feed ends, and of what follows the last one.
 pub record MakesFrames (s : Sending) (text frames wrongs : List ℕ) (good : Bool) : Type 0 where
