@@ -256,6 +256,8 @@ def _line(value: Any) -> str:
         pass
     try:
         return json.dumps(value, allow_nan=False) + "\n"
+    except RecursionError:
+        raise ValueError("the value is nested too deeply") from None
     except ValueError as error:
         if "JSON compliant" not in str(error):
             raise

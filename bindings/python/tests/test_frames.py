@@ -607,9 +607,9 @@ def test_value_field(folder, wire):
     else:
         raise AssertionError("not refused")
     assert written("f32", "NaN") == written("f32", {"value": "NaN"})
-    loop = []
+    loop, deep = [], functools.reduce(lambda held, _: [held], range(100000), 7)  # the latter deeper than json goes
     loop.append(loop)
-    assert refuses(ValueError, written, "u8", loop)
+    assert refuses(ValueError, written, "u8", loop) and refuses(ValueError, written, "u8", deep)
     try:  # no option of the program is named that a call doesn't take
         written("[Node; 1]", [functools.reduce(lambda held, _: {"value": held}, range(90), None)])
     except ValueError as error:
