@@ -139,7 +139,7 @@ class _Stream:
         self._lock, self._is_pushing = threading.RLock(), False
         self.push(b"")  # what the declarations are refused for
 
-    def push(self, piece: bytes, ends: bool = False) -> List[Dict[str, Any]]:
+    def push(self, piece: bytes, ends: bool = False, begins: bool = False) -> List[Dict[str, Any]]:
         """The answers that these bytes bring. Threads push one after another: the room and what is left over are one receiver's."""
         piece = bytes(memoryview(piece))
         with self._lock:
@@ -147,12 +147,17 @@ class _Stream:
                 raise RuntimeError("a call of a receiver inside another one")
             try:
                 self._is_pushing = True
+                if begins:  # what a `listen` left over is no part of this stream
+                    self._begin()
                 self._left += piece  # which is read again, if memory ends before it is answered
                 return self._answered(ends)
             finally:
                 self._is_pushing = False
                 if ends:
-                    self._left, self._before, self._terms.inside = b"", 0, 0
+                    self._begin()
+
+    def _begin(self) -> None:
+        self._left, self._before, self._terms.inside = b"", 0, 0
 
     def _answered(self, ends: bool) -> List[Dict[str, Any]]:
         self._terms.ends = ends
@@ -172,7 +177,7 @@ class _Stream:
             yield from self.push(b"", ends=True)
 
     def answers(self, stream: bytes) -> List[Dict[str, Any]]:
-        return self.push(stream, ends=True)
+        return self.push(stream, ends=True, begins=True)
 
     def close(self) -> None:
         self._is_closed = True

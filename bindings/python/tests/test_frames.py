@@ -219,6 +219,9 @@ def test_raised(folder):
             typed._answer = loads
         assert receiver.answers(b"\1" * 70000) == [{"too_long": {"from": 0, "to": 70000}}]
         assert receiver.answers(stream[1:]) == heard
+        left = receiver.listen(io.BytesIO(stream[1:-1]))  # nor is one that was left inside a frame
+        assert next(left) == heard[0] and left.close() is None
+        assert receiver.answers(b"\7\0") == [{"damaged": {"from": 0, "to": 1}}]
 
 
 def test_lengths():
