@@ -307,6 +307,8 @@ class _Process:
             if not line.endswith(b"\n"):  # it was ended inside of it
                 break
             yield _answer(line)
+            if self._process.stdout.closed:  # by `close`, in the loop
+                return
         self._process.wait()
         self._feeder.join(timeout=1)  # where the program stopped by itself, a read of the source may still be waiting
         self.close()

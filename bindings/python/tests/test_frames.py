@@ -640,6 +640,7 @@ def test_typed(folder, wire):
     heard = receiver.listen(io.BytesIO(stream))
     assert next(heard) == answers[0]
     receiver.close(), receiver.close()
+    list(heard)  # ends, and raises nothing
     assert refuses(ValueError, receiver.answers, stream) and refuses(ValueError, receiver.listen, io.BytesIO(stream))
     receiver = typed.TypedReceiver(path.encode(), "Reading", strict=256, wire=wire)  # what is true is strict
     assert refuses(TypeError, receiver.answers, 5) and refuses(TypeError, receiver.answers, "ab")  # which takes nothing
