@@ -205,6 +205,12 @@ def _wire(wire: Optional[str]) -> str:
     return found
 
 
+def _command(wire: Optional[str], mode: str, declarations: str, type_name: str, sentinel: int) -> List[str]:
+    """A call of the program. It would take `--help` for an option, but not if `./` or a space precedes it."""
+    words = [front + word if word.startswith("-") else word for front, word in (("./", declarations), (" ", type_name))]
+    return [_wire(wire), mode, *words, f"sentinel={sentinel:02x}"]
+
+
 def _closed(pipe: IO[bytes]) -> None:
     try:
         pipe.close()
@@ -274,8 +280,7 @@ def _written(declarations: str, type_name: str, values: Iterable[Any], sentinel:
     by_library = _of_library(declarations, type_name, wire)
     if by_library is not None:
         return by_library[0].write(lines.encode(), sentinel)
-    command = [_wire(wire), "write", declarations, type_name, f"sentinel={sentinel:02x}"]
-    done = subprocess.run(command, input=lines.encode(), capture_output=True)
+    done = subprocess.run(_command(wire, "write", declarations, type_name, sentinel), input=lines.encode(), capture_output=True)
     if done.returncode != 0:
         said = _told(done.stderr) or f"wire ended with status {done.returncode}"
         raise ValueError(said) if done.returncode == 1 else OSError(said)
@@ -286,7 +291,7 @@ class _Process:
     """A stream of frames of a type, by the program."""
 
     def __init__(self, declarations: str, type_name: str, sentinel: int, strict: bool, wire: Optional[str]) -> None:
-        words = [_wire(wire), "read", declarations, type_name] + (["strict"] if strict else []) + [f"sentinel={sentinel:02x}"]
+        words = _command(wire, "read", declarations, type_name, sentinel) + (["strict"] if strict else [])
         self._said = tempfile.TemporaryFile()
         self._feeder: Optional[threading.Thread] = None
         self._failure: Optional[BaseException] = None

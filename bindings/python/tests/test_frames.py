@@ -711,6 +711,8 @@ def test_typed(folder, wire):
         (ValueError, lambda: typed.write(path, "Reading", [{"level": 1}], wire=wire)),
         (OSError, lambda: typed.write(path, "No", [], wire=wire)),
         (OSError, lambda: typed.write(os.path.join(folder, "none.rs"), "Reading", [], wire=wire)),
+        (OSError, lambda: typed.write(path, "--help", [], wire=wire)),
+        (OSError, lambda: typed.write("--help", "u8", [], wire=wire)),
     ):
         try:
             call()
