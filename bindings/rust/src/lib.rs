@@ -131,6 +131,7 @@ pub fn encode(message: &[u8], dest: &mut [u8], sentinel: u8) -> Result<usize, No
 }
 
 /// Decodes the first frame of a source, after any zeros, to the start of `dest`. Returns how many bytes were used, and the message's length.
+/// Errors: `Empty`, `Invalid`, `NoRoom`; `dest` may have changed then.
 pub fn decode(source: &[u8], dest: &mut [u8]) -> Result<(usize, usize), DecodeError> {
     read(unsafe {
         raw::frames_c_decode(source.as_ptr(), source.len(), dest.as_mut_ptr(), dest.len())
@@ -138,7 +139,7 @@ pub fn decode(source: &[u8], dest: &mut [u8]) -> Result<(usize, usize), DecodeEr
 }
 
 /// Decodes the bytes before the first sentinel, or all if there is none, to the start of `dest`, and returns the message's length. If there
-/// are no bytes before the sentinel, the message has none: that is no error.
+/// are no bytes before the sentinel, the message has none: that is no error. Errors: `Invalid`, `NoRoom`; `dest` may have changed then.
 ///
 /// ```
 /// let mut message = [0u8; 4];
@@ -168,7 +169,7 @@ pub fn decode_with_sentinel(
 }
 
 /// The same within one buffer. Returns how many bytes there were before the sentinel, and the length of the message, which is then at the
-/// buffer's start.
+/// buffer's start. Errors: `Invalid`; the buffer may have changed then.
 pub fn decode_in_place(buffer: &mut [u8], sentinel: u8) -> Result<(usize, usize), DecodeError> {
     read(unsafe { raw::frames_c_decode_in_place(buffer.as_mut_ptr(), buffer.len(), sentinel) })
 }
@@ -179,6 +180,7 @@ pub fn crc32(bytes: &[u8]) -> u32 {
 }
 
 /// Writes the CRC-32 of the first `length` bytes of a buffer after them, as four bytes, the lowest first, and returns how many are to be sent.
+/// Errors: `NoRoom`, and the buffer is unchanged.
 ///
 /// ```
 /// let mut message = *b"hi____";
@@ -610,7 +612,8 @@ impl Sender {
         unsafe { raw::frames_c_sent(&mut self.state) }
     }
 
-    /// Sends a message over a line. `room` holds its frame meanwhile.
+    /// Sends a message over a line. `room` holds its frame meanwhile. Errors: `NoRoom`, if the frame doesn't fit, and nothing was written;
+    /// `Line`, what the line failed with, and the next send begins with a sentinel.
     pub fn send_over<S: Sink>(
         &mut self,
         message: &[u8],
