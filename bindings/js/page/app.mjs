@@ -2,12 +2,12 @@
 import { load } from "../frames.mjs";
 import { Table, Wrong } from "../table.mjs";
 import { exampleBytes, exampleTable } from "./example.mjs";
-import { Files, hexOf, Lines, logLine, Writing } from "./lines.mjs";
+import { Files, hexOf, Kept, Lines, logLine, Writing } from "./lines.mjs";
 
 const it = (id) => document.getElementById(id);
 const SHOWN = 500, KEPT = 100000, KEPT_BYTES = 1 << 26, WINDOW = 2000;
 let table, lines, writing, port, reader;
-let began = performance.now(), entries = [], dropped = 0, kept = [], keptBytes = 0, kinds = new Map(), recent = [], fresh = [], paused = false;
+let began = performance.now(), entries = [], dropped = 0, kept = new Kept(KEPT_BYTES), kinds = new Map(), recent = [], fresh = [], paused = false;
 
 const form = () => it("form").value;
 const settings = () => ({ form: form(), table, type: it("type").value, sentinel: parseInt(it("sentinel").value || "0", 16), hex: it("hex").checked });
@@ -47,7 +47,7 @@ function begin() {
   writing = new Writing(chosen);
 }
 function clear() {
-  [entries, kept, recent, fresh, dropped, keptBytes] = [[], [], [], [], 0, 0];
+  [entries, kept, recent, fresh, dropped] = [[], new Kept(KEPT_BYTES), [], [], 0];
   kinds = new Map();
   began = performance.now();
   it("rows").replaceChildren();
@@ -62,8 +62,6 @@ export function take(bytes) {
 }
 function keep(bytes) {
   kept.push(bytes);
-  keptBytes += bytes.length;
-  while (keptBytes > KEPT_BYTES && kept.length > 1) keptBytes -= kept.shift().length;
   recent.push([performance.now(), bytes.length]);
 }
 function note(found, now = performance.now()) {
@@ -238,7 +236,7 @@ it("pause").onclick = pause;
 it("clear").onclick = clear;
 it("filter").oninput = redraw;
 it("save").onclick = () => save("messages.jsonl", "application/json", entries.map((entry) => `${logLine(entry)}\n`));
-it("saveBytes").onclick = () => save("line.bin", "application/octet-stream", kept);
+it("saveBytes").onclick = () => save("line.bin", "application/octet-stream", kept.parts);
 it("example").onclick = () => {
   if (isBusy()) return;
   it("form").value = "value";

@@ -72,6 +72,27 @@ export class Lines {
   }
 }
 
+const BLOCK = 65536;
+/** The last bytes of a line, so many or up to a block more; in blocks, since a chunk of few bytes takes far more memory than they do. */
+export class Kept {
+  #most; #blocks = []; #space = 0; // the space that the last block has
+  constructor(most) { this.#most = most; }
+  push(bytes) {
+    for (let at = 0; at < bytes.length; ) {
+      if (this.#space === 0) {
+        this.#blocks.push(new Uint8Array(this.#space = BLOCK));
+        if (this.#blocks.length > this.#most / BLOCK + 1) this.#blocks.shift();
+      }
+      const part = bytes.subarray(at, at + this.#space);
+      this.#blocks.at(-1).set(part, BLOCK - this.#space);
+      at += part.length;
+      this.#space -= part.length;
+    }
+  }
+  /** All of them, as the parts of a Blob. */
+  get parts() { return this.#blocks.map((it, i) => (i === this.#blocks.length - 1 ? it.subarray(0, BLOCK - this.#space) : it)); }
+}
+
 const isTable = (file) => file.name.endsWith(".json");
 /**
  * Files one after another, whenever they are dropped, tables before captures. Of its owner it calls `table(text)`; `begin(isFirst)`, which

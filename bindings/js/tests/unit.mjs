@@ -7,7 +7,7 @@ import { readFileSync } from "node:fs";
 import { PassThrough, Readable, Writable } from "node:stream";
 import { runInNewContext } from "node:vm";
 import * as frames from "../frames.mjs";
-import { Files, Lines, logLine, Writing } from "../page/lines.mjs";
+import { Files, Kept, Lines, logLine, Writing } from "../page/lines.mjs";
 import { Table, Wrong } from "../table.mjs";
 import * as oracle from "./oracle.mjs";
 
@@ -250,6 +250,16 @@ async function dropped() {
   assert.deepEqual(said, ["begin", "gone: it isn't there", "begin", "next message 1", "next: 6 bytes, messages 1, damaged 0"]);
   assert.equal(JSON.parse(logLine({ seconds: 1, file: 'a"b', kind: "cut", bad: true, from: 0, to: 1, bytes: HI })).file, 'a"b');
 }
+/** What the page keeps of a line: its last bytes, whose cost doesn't depend on the chunks that they came in. */
+async function keeps() {
+  const kept = new Kept(1 << 20), all = Uint8Array.from({ length: 3000000 }, () => some(256));
+  for (let at = 0; at < all.length; ) kept.push(all.subarray(at, at += some(3) ? some(9) : some(200000)));
+  const last = new Uint8Array(await new Blob(kept.parts).arrayBuffer());
+  assert.ok(last.length >= 1 << 20 && last.length <= (1 << 20) + 65536 && kept.parts.length <= 17);
+  assert.deepEqual(Buffer.compare(last, all.subarray(-last.length)), 0);
+  kept.push(new Uint8Array(0));
+  assert.deepEqual(new Kept(9).parts, []);
+}
 /** What the page shows: entries with the bytes at their places, whatever the chunks are; texts from which the same bytes are made. */
 function lines() {
   for (let k = 0; k < 100; k++) {
@@ -338,6 +348,7 @@ many();
 await large();
 noMemory();
 await dropped();
+await keeps();
 lines();
 let rounds = 0;
 for (; isTimed ? Date.now() < until : rounds < Number(told); rounds++) { whole(); stream(); }
