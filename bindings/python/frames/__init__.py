@@ -27,7 +27,7 @@ import os
 import select
 import stat
 import time
-from ctypes import POINTER, Structure, addressof, byref, c_bool, c_char_p, c_size_t, c_uint8, c_uint32, c_void_p, cast, string_at
+from ctypes import POINTER, Structure, addressof, byref, c_bool, c_char_p, c_size_t, c_uint8, c_uint32, c_void_p, cast
 from dataclasses import dataclass
 from operator import index
 from threading import RLock
@@ -146,12 +146,12 @@ class _Room:
     """A buffer that the library writes to. It makes no type for each length, which `c_uint8 * length` does."""
 
     def __init__(self, length: int) -> None:
-        self._held = bytearray(max(length, 1))
+        self._held = memoryview(bytearray(max(length, 1)))
         self._first = c_uint8.from_buffer(self._held)  # while this exists the bytes stay at their address
         self.address = addressof(self._first)
 
-    def front(self, length: int) -> bytes:
-        return string_at(self.address, length)
+    def front(self, length: int, start: int = 0) -> bytes:
+        return bytes(self._held[start : start + length])  # `string_at` takes a length for one of 32 bits
 
 
 def _bytes(message: Any) -> bytes:
@@ -330,7 +330,7 @@ class Receiver(_Single):
             at += event.used
             kind = event.kind
             if kind == _MESSAGE:
-                events.append(string_at(room + event.start, event.length))
+                events.append(self._buffer.front(event.length, event.start))
             elif kind == _DAMAGED:
                 events.append(Damaged(event.stretch))
             elif kind == _TOO_LONG:

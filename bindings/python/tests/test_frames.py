@@ -235,6 +235,7 @@ def test_lengths():
         receiver.push(sender.send(bytes(length))), frames.decode(frames.encode(bytes(length)))
     assert len(ctypes.Array.__subclasses__()) == before
     gc.enable()
+    assert len(frames._Room(9).front((1 << 32) + 5)) == 9  # no length is taken modulo 2^32, as of a frame of 4 GB
 
 
 def test_threads():
