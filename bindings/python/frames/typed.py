@@ -296,7 +296,8 @@ class _Process:
         self._feeder: Optional[threading.Thread] = None
         self._failure: Optional[BaseException] = None
         self._is_used = False
-        self._process = subprocess.Popen(words, stdin=subprocess.PIPE, stdout=subprocess.PIPE, stderr=self._said)
+        # in a session of its own, so that Ctrl-C at a terminal ends the caller alone, whose `close` then ends the program
+        self._process = subprocess.Popen(words, stdin=subprocess.PIPE, stdout=subprocess.PIPE, stderr=self._said, start_new_session=True)
 
     def _begin(self) -> None:
         if self._is_used:

@@ -15,6 +15,7 @@ import pathlib
 import pickle
 import random
 import select
+import signal
 import struct
 import subprocess
 import sys
@@ -722,6 +723,26 @@ def test_typed(folder, wire):
         raise AssertionError("not refused")
 
 
+INTERRUPTED = """
+import os, signal, sys, time
+from frames import typed
+
+signal.signal(signal.SIGINT, signal.default_int_handler)
+taken, given = os.pipe()
+os.write(given, b"\\n")
+try:
+    with typed.TypedReceiver(sys.argv[1], "u8", wire=sys.argv[2]) as receiver:
+        for answer in receiver.listen(os.fdopen(taken, "rb", buffering=0)):
+            print(answer, flush=True)
+            try:
+                time.sleep(20)
+            finally:
+                time.sleep(0.5)  # by now a program that was interrupted too has ended
+except KeyboardInterrupt:
+    print("interrupted")
+"""
+
+
 def test_killed(folder):
     """A program that a signal ends, as where there is no memory, isn't the end of the stream; one that is ended by `close` is no error."""
     path, killed = os.path.join(folder, "killed.rs"), os.path.join(folder, "killed")
@@ -745,6 +766,11 @@ def test_killed(folder):
     pathlib.Path(killed).write_text("#!/bin/sh\nread -r _\necho '{\"value\":7}'\nexec sleep 60\n", encoding="utf-8")
     with typed.TypedReceiver(path, "u8", wire=killed) as receiver:
         assert next(receiver.listen(io.BytesIO(b"\n"))) == {"value": 7}
+    # Ctrl-C, which a terminal sends to all that runs there, is a KeyboardInterrupt, and no failure of the program
+    there = subprocess.Popen([sys.executable, "-c", INTERRUPTED, path, killed], stdout=subprocess.PIPE, start_new_session=True)
+    assert there.stdout.readline() == b"{'value': 7}\n"
+    os.killpg(there.pid, signal.SIGINT)
+    assert there.communicate(timeout=20)[0] == b"interrupted\n" and there.returncode == 0
 
 
 def main():
