@@ -7,7 +7,7 @@ import { Files, hexOf, Kept, Lines, logLine, Writing } from "./lines.mjs";
 const it = (id) => document.getElementById(id);
 const SHOWN = 500, KEPT = 100000, KEPT_BYTES = 1 << 26, WINDOW = 2000;
 let table, lines, writing, port, reader;
-let began = performance.now(), entries = [], dropped = 0, kept = new Kept(KEPT_BYTES), kinds = new Map(), recent = [], fresh = [], paused = false;
+let began = performance.now(), entries = [], held = 0, dropped = 0, kept = new Kept(KEPT_BYTES), kinds = new Map(), recent = [], fresh = [], paused = false;
 
 const form = () => it("form").value;
 const settings = () => ({ form: form(), table, type: it("type").value, sentinel: parseInt(it("sentinel").value || "0", 16), hex: it("hex").checked });
@@ -47,7 +47,7 @@ function begin() {
   writing = new Writing(chosen);
 }
 function clear() {
-  [entries, kept, recent, fresh, dropped] = [[], new Kept(KEPT_BYTES), [], [], 0];
+  [entries, held, kept, recent, fresh, dropped] = [[], 0, new Kept(KEPT_BYTES), [], [], 0];
   kinds = new Map();
   began = performance.now();
   it("rows").replaceChildren();
@@ -64,6 +64,7 @@ function keep(bytes) {
   kept.push(bytes);
   recent.push([performance.now(), bytes.length]);
 }
+const sizeOf = ({ bytes, text }) => bytes.length + text.length;
 function note(found, now = performance.now()) {
   for (const entry of found) {
     entry.seconds = (now - began) / 1000;
@@ -72,9 +73,12 @@ function note(found, now = performance.now()) {
     kind.times.push(now);
     kinds.set(entry.kind, kind);
     entries.push(entry);
+    held += sizeOf(entry);
     fresh.push(entry);
   }
-  if (entries.length > KEPT) dropped += entries.splice(0, entries.length - KEPT).length;
+  let gone = 0;
+  while (entries.length - gone > KEPT || held > KEPT_BYTES) held -= sizeOf(entries[gone++]);
+  if (gone) dropped += entries.splice(0, gone).length;
   if (fresh.length > SHOWN) fresh = fresh.slice(-SHOWN);
 }
 

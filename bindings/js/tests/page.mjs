@@ -196,6 +196,11 @@ try {
     await browser.until(`document.querySelector("#rows td.text")?.textContent === ${JSON.stringify(text)}`, text);
   }
 
+  // of long lines no more is kept than of the bytes
+  await set("form", "plain", "change");
+  await drop("long.bin", "new Uint8Array(72e6).map((_, i) => (i % 60000 ? 255 : 0))");
+  await browser.until(`document.getElementById("foot").innerText.includes("lines aren't kept any more")`, "the first long lines go");
+
   // what the page asks for, and what it says of itself
   assert.deepEqual([...new Set(server.asked)].filter((it) => !it.startsWith("/favicon")).sort(),
     ["/frames.mjs", "/frames.wasm", "/page/", "/page/app.mjs", "/page/example.mjs", "/page/lines.mjs", "/table.mjs"]);
