@@ -16,6 +16,7 @@ import os
 import re
 import shutil
 import subprocess
+import sys
 import tempfile
 import threading
 from ctypes import POINTER, Structure, byref, c_char_p, c_size_t, c_uint8, c_void_p
@@ -347,6 +348,7 @@ class _Process:
                 raise OSError(said or f"wire ended with status {status}")
 
     def _feed(self, source: Any, ends: bool) -> None:
+        _held = sys.stdin  # else Python closes it as it exits, and aborts if a read of its buffer still waits here
         try:
             for piece in _pieces(source, ends, lambda: self._process.poll() is not None):
                 if not self._is_taken(piece):

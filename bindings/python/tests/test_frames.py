@@ -724,15 +724,13 @@ def test_typed(folder, wire):
 
 
 INTERRUPTED = """
-import os, signal, sys, time
+import signal, sys, time
 from frames import typed
 
 signal.signal(signal.SIGINT, signal.default_int_handler)
-taken, given = os.pipe()
-os.write(given, b"\\n")
 try:
     with typed.TypedReceiver(sys.argv[1], "u8", wire=sys.argv[2]) as receiver:
-        for answer in receiver.listen(os.fdopen(taken, "rb", buffering=0)):
+        for answer in receiver.listen(sys.stdin.buffer):
             print(answer, flush=True)
             try:
                 time.sleep(20)
@@ -767,10 +765,12 @@ def test_killed(folder):
     with typed.TypedReceiver(path, "u8", wire=killed) as receiver:
         assert next(receiver.listen(io.BytesIO(b"\n"))) == {"value": 7}
     # Ctrl-C, which a terminal sends to all that runs there, is a KeyboardInterrupt, and no failure of the program
-    there = subprocess.Popen([sys.executable, "-c", INTERRUPTED, path, killed], stdout=subprocess.PIPE, start_new_session=True)
+    there = subprocess.Popen([sys.executable, "-c", INTERRUPTED, path, killed], stdin=subprocess.PIPE, stdout=subprocess.PIPE, start_new_session=True)
+    there.stdin.write(b"\n"), there.stdin.flush()
     assert there.stdout.readline() == b"{'value': 7}\n"
     os.killpg(there.pid, signal.SIGINT)
-    assert there.communicate(timeout=20)[0] == b"interrupted\n" and there.returncode == 0
+    assert there.stdout.read() == b"interrupted\n" and there.wait(timeout=20) == 0, there.returncode  # while its input stays open
+    there.stdin.close(), there.stdout.close()
 
 
 def main():
