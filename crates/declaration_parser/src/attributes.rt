@@ -1,13 +1,6 @@
 //! Attributes, and calls of macros.
 use crate::tokens::{NO_NAME, Tokens, Word, Words};
 
-/// An attribute: its words, and the condition under which it is there; empty if there is none.
-#[derive(Clone, Copy, Drop)]
-pub struct ConditionedAttribute {
-    pub words: Words,
-    pub condition: Words,
-}
-
 /// Goes over attributes and marks, of which those in a `cfg_attr` are by themselves. What has no words is none.
 #[derive(Clone, Copy, Drop)]
 pub struct AttributeWalk {
@@ -26,13 +19,13 @@ impl AttributeWalk {
         }
     }
 
-    /// The next one; nothing at the end, which is after as many as there are words.
-    pub fn next(&mut self, tokens: &Tokens) -> Option<ConditionedAttribute> {
+    /// The words of the next one, and the condition under which it is there; empty if there is none. Nothing at the end, which is
+    /// after as many as there are words.
+    pub fn next(&mut self, tokens: &Tokens) -> Option<(Words, Words)> {
         if !self.parts.is_empty() {
             let (words, rest) = tokens.first_part(self.parts);
             self.parts = rest;
-            let condition = self.condition;
-            return Some(ConditionedAttribute { words, condition });
+            return Some((words, self.condition));
         }
         if self.rest.is_empty() {
             return None;
@@ -45,8 +38,7 @@ impl AttributeWalk {
             (self.condition, self.parts) = tokens.first_part(tokens.held(words));
             words = Words::default();
         }
-        let condition = Words::default();
-        Some(ConditionedAttribute { words, condition })
+        Some((words, Words::default()))
     }
 }
 

@@ -75,13 +75,10 @@ impl<'a> Cursor<'a> {
         }
     }
 
-    /// Takes this word, which must be next.
-    pub fn owe(&mut self, wanted: Word, text: &str) {
-        let next = self.step();
-        if next.word != wanted {
-            let name = self.tokens.text(next.name);
-            self.wrong(&["`", text, "` is wanted in place of `", name, "`"]);
-        }
+    /// Takes this word, which must be next, as this says.
+    pub fn owe(&mut self, word: Word, wanted: &str) {
+        let is_wanted = self.peek() == word;
+        self.want(is_wanted, wanted);
     }
 
     /// Notes what is wrong at the last token, unless it follows something that is wrong.
@@ -100,10 +97,6 @@ impl<'a> Cursor<'a> {
         self.wrong(&["`", self.tokens.text(name), why]);
     }
 
-    fn put_name(&mut self, name: Name) {
-        self.faults.put(self.tokens.text(name));
-    }
-
     /// Notes the line, and which type is read, which variant and which field of it, as far as one is.
     fn note_field(&mut self) {
         if self.is_without_line {
@@ -114,14 +107,11 @@ impl<'a> Cursor<'a> {
         if self.name == NO_NAME {
             return;
         }
-        self.faults.put("`");
-        self.put_name(self.name);
-        self.faults
-            .put(if self.variant == NO_NAME { "" } else { "::" });
-        self.put_name(self.variant);
+        let (name, variant) = (self.tokens.text(self.name), self.tokens.text(self.variant));
+        let colons = if variant.is_empty() { "" } else { "::" };
+        self.faults.put_all(&["`", name, colons, variant]);
         if let Some((place, name)) = self.field {
-            self.faults.put(".");
-            self.put_name(name);
+            self.faults.put_all(&[".", self.tokens.text(name)]);
             if name == NO_NAME {
                 self.faults.put_number(place);
             }

@@ -96,15 +96,15 @@ impl Marking {
         };
         let mut walk = AttributeWalk::of(attributes);
         for _ in 0..=attributes.len() {
-            let Some(it) = walk.next(tokens) else {
+            let Some((words, condition)) = walk.next(tokens) else {
                 break;
             };
-            let first = tokens.first(it.words);
+            let first = tokens.first(words);
             match first.word {
                 Word::Mark => marking.add_comment(tokens, first),
                 // more conditions may make a `cfg`
                 Word::Condition | Word::Conditional => marking.is_conditional = true,
-                Word::Derive => marking.add_derived(tokens, tokens.held(it.words), it.condition),
+                Word::Derive => marking.add_derived(tokens, tokens.held(words), condition),
                 _ => {}
             }
         }
@@ -120,10 +120,5 @@ impl Marking {
             Some(own) => !self.has_others && tokens.are_same(own, condition),
             None => false,
         }
-    }
-
-    /// Whether a declaration is marked, or was meant to be.
-    pub fn is_meant(&self) -> bool {
-        self.marks.written || self.marks.read || self.wrong.is_some()
     }
 }

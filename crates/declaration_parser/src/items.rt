@@ -90,10 +90,10 @@ impl Item {
     pub fn has(&self, tokens: &Tokens, name: Word) -> bool {
         let mut walk = AttributeWalk::of(self.attributes);
         for _ in 0..=self.attributes.len() {
-            let Some(it) = walk.next(tokens) else {
+            let Some((words, _)) = walk.next(tokens) else {
                 break;
             };
-            let word = tokens.front(it.words);
+            let word = tokens.front(words);
             if word == name || matches!(word, Word::Conditional) {
                 return true;
             }
@@ -138,19 +138,14 @@ impl<'a> Walk<'a> {
         walk
     }
 
-    /// The file that an item is in, by its place.
-    pub fn file_of(&self, item: &Item) -> usize {
-        match self.scopes.get(item.scope) {
-            Some(it) => it.file,
-            None => 0,
-        }
-    }
-
     /// Adds a scope in this one, which ends there, and gives its place.
     fn add_scope(&mut self, kind: Kind, name: Name, end: usize) -> usize {
         let place = self.scopes.len();
         let outer = self.scope;
-        let file = self.scopes.get(outer).map_or(outer, |it| it.file);
+        let file = match self.scopes.get(outer) {
+            Some(it) => it.file,
+            None => outer,
+        };
         let scope = Scope {
             kind,
             name,

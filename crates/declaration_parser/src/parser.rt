@@ -135,7 +135,7 @@ impl<'a, 'b> Parser<'a, 'b> {
         let mut name = NO_NAME;
         if named {
             name = self.name_of(false);
-            self.at.owe(Word::Colon, ":");
+            self.at.owe(Word::Colon, "`:` is wanted");
         }
         self.at.field = Some((place, name));
         let said = self.said(attributes);
@@ -174,7 +174,7 @@ impl<'a, 'b> Parser<'a, 'b> {
     /// Takes the comma before what is next in a list, if something is.
     fn go_on(&mut self) {
         if !self.at.rest.is_empty() {
-            self.at.owe(Word::Comma, ",");
+            self.at.owe(Word::Comma, "`,` is wanted");
         }
     }
 
@@ -265,7 +265,7 @@ impl<'a, 'b> Parser<'a, 'b> {
                 break;
             }
         }
-        self.at.owe(Word::Greater, ">");
+        self.at.owe(Word::Greater, "`>` is wanted");
     }
 
     /// Takes `where` and gives its bounds, in which there may be lengths in braces, up to the fields or a semicolon.
@@ -293,7 +293,7 @@ impl<'a, 'b> Parser<'a, 'b> {
         if !matches!(fields.form, Form::Named) {
             let after = self.bounds();
             *bounds = if bounds.is_empty() { after } else { *bounds };
-            self.at.owe(Word::Semicolon, ";");
+            self.at.owe(Word::Semicolon, "`;` is wanted");
         }
         Body::Struct(fields)
     }

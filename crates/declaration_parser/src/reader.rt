@@ -4,7 +4,7 @@ ghost use Rattle.declaration_parser.specs.Standing.{EndsInFile};
 
 use crate::faults::Faults;
 use crate::marks::{is_mark, way_of};
-use crate::texts::{first_letter, is_of_word};
+use crate::texts::{first_letter, is_listed, is_of_word};
 use crate::tokens::{File, Name, Token, Tokens, Word, Words, word_of};
 use crate::words::{ALMOST, ALMOST_WAY};
 use std::alloc::{AllocError, Global};
@@ -30,11 +30,14 @@ struct Reader<'a> {
 
 /// A text without a first line that says what runs it. An attribute of the file isn't one.
 fn behind_shebang(text: &str) -> &str {
-    let behind_line = text.trim_start_matches(|c: char| c != '\n');
     match text.strip_prefix("#!") {
-        Some(rest) if !rest.trim_start().starts_with('[') => behind_line,
+        Some(rest) if !rest.trim_start().starts_with('[') => behind(text, first_line(text).len()),
         _ => text,
     }
+}
+
+fn first_line(text: &str) -> &str {
+    text.lines().next().unwrap_or("")
 }
 
 fn behind(text: &str, length: usize) -> &str {
@@ -91,12 +94,25 @@ fn behind_text(text: &str, wanted: Option<usize>) -> Option<&str> {
     None
 }
 
+/// What follows the first `'` in a text, or the end of its first line.
+fn behind_quote(text: &str) -> &str {
+    let mut rest = text;
+    for _ in 0..text.len() {
+        let first = first_letter(rest);
+        rest = behind_one(rest);
+        if matches!(first, Some('\'' | '\n')) {
+            break;
+        }
+    }
+    rest
+}
+
 /// What follows the character or the lifetime that begins a text with `'`.
 fn behind_quoted(text: &str) -> &str {
     let inside = behind(text, 1);
     let second = behind_one(inside);
     if inside.starts_with('\\') {
-        behind_one(behind_one(second).trim_start_matches(|c: char| c != '\'' && c != '\n'))
+        behind_quote(behind_one(second))
     } else if second.starts_with('\'') {
         behind_one(second)
     } else {
@@ -169,7 +185,7 @@ impl<'a> Reader<'a> {
     /// Reads a comment up to the end of its line. One that marks what is after it is a token. What one says of how the field after
     /// it is sent is an attribute: `#[with = ".."]`, or, if it only seems meant to, `#[with ..]` with all its words as one token.
     fn read_comment(&mut self) {
-        let whole = self.rest.lines().next().unwrap_or("");
+        let whole = first_line(self.rest);
         self.rest = behind(self.rest, whole.len());
         let comment = whole.trim_end();
         if is_mark(comment) {
@@ -205,16 +221,19 @@ impl<'a> Reader<'a> {
     /// Reads a word, or a text or a character with letters before it.
     fn read_word(&mut self) {
         let after = self.rest.trim_start_matches(is_of_word);
+        let word = front_of(self.rest, after);
         let hashes = hashes(after);
         let raw = behind(after, hashes);
-        match (front_of(self.rest, after), first_letter(after)) {
-            ("r" | "br" | "cr", _) if raw.starts_with('"') => self.read_text(raw, Some(hashes)),
-            ("b" | "c", Some('"')) => self.read_text(after, None),
-            ("b", Some('\'')) => {
+        match first_letter(after) {
+            Some('"' | '#') if raw.starts_with('"') && is_listed(word, "r br cr") => {
+                self.read_text(raw, Some(hashes));
+            }
+            Some('"') if is_listed(word, "b c") => self.read_text(after, None),
+            Some('\'') if word == "b" => {
                 self.take_to(after);
                 self.read_token(behind_quoted(after));
             }
-            ("r", _) if hashes == 1 => self.read_raw(raw),
+            Some('#') if hashes == 1 && word == "r" => self.read_raw(raw),
             _ => self.read_token(after),
         }
     }

@@ -41,13 +41,11 @@ fn refuse(tokens: &Tokens, place: usize, why: &str, faults: &mut Faults)
 fn refuse_mark(tokens: &Tokens, items: &[Item], place: usize, faults: &mut Faults) -> usize
     ensures { ¬ SaysNothing faults.new }
 {
-    let count = items.partition_point(|item| item.attributes.from <= place);
-    if let Some(call) = items.get(count.saturating_sub(1))
-        && call.inside.from <= place
-        && place < call.inside.to
-    {
-        refuse(tokens, call.words.from, IN_MACRO, faults);
-        return call.inside.to;
+    for call in items {
+        if call.inside.from <= place && place < call.inside.to {
+            refuse(tokens, call.words.from, IN_MACRO, faults);
+            return call.inside.to;
+        }
     }
     refuse(tokens, place, ALMOST, faults);
     place
@@ -162,7 +160,7 @@ impl Reading {
             return;
         }
         let marking = Marking::of(tokens, attributes);
-        if !marking.is_meant() {
+        if !marking.marks.written && !marking.marks.read && marking.wrong.is_none() {
             if holds_derive(tokens, item) {
                 refuse(tokens, item.words.from, IN_MACRO, &mut self.faults);
             }
@@ -186,8 +184,10 @@ impl Reading {
             → AreInOrder 0 self.new.found.items self.new.end }
     {
         for item in &walk.items {
-            let file = walk.file_of(item);
-            if let Some(it) = job.tokens.files.get(file) {
+            if let Some(scope) = walk.scopes.get(item.scope)
+                && let Some(it) = job.tokens.files.get(scope.file)
+            {
+                let file = scope.file;
                 self.read_item(Job { file, ..job }, item, it.words.to);
             }
         }

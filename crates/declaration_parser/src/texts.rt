@@ -44,8 +44,18 @@ pub fn row_of(rows: &[&'static str], word: &str) -> Option<&'static str> {
 
 /// How many letters two words have in common at their starts, and at their ends, ignoring case.
 pub fn common(word: &str, other: &str) -> usize {
-    let is_same = |(first, second): &(char, char)| first.eq_ignore_ascii_case(second);
-    let front = word.chars().zip(other.chars()).take_while(is_same).count();
-    let pairs = word.chars().rev().zip(other.chars().rev());
-    front.saturating_add(pairs.take_while(is_same).count())
+    let mut count: usize = 0;
+    for (first, second) in word.chars().zip(other.chars()) {
+        if !first.eq_ignore_ascii_case(&second) {
+            break;
+        }
+        count = count.saturating_add(1);
+    }
+    for (first, second) in word.chars().rev().zip(other.chars().rev()) {
+        if !first.eq_ignore_ascii_case(&second) {
+            break;
+        }
+        count = count.saturating_add(1);
+    }
+    count
 }

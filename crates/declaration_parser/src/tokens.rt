@@ -347,12 +347,8 @@ impl Tokens {
         self.parted(words, ends, &[], true)
     }
 
-    /// As [`type_up_to`](Tokens::type_up_to), up to the first of these names.
-    pub fn type_up_to_name(&self, words: Words, names: &[Name]) -> Words {
-        self.parted(words, &[], names, true)
-    }
-
-    fn parted(&self, words: Words, ends: &[Word], names: &[Name], is_type: bool) -> Words {
+    /// The same of either, also up to the first of these names.
+    pub fn parted(&self, words: Words, ends: &[Word], names: &[Name], is_type: bool) -> Words {
         let mut rest = words;
         let mut depth: usize = 0;
         for _ in words.from..words.to {

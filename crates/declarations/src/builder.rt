@@ -183,6 +183,11 @@ impl<'a> Builder<'a> {
         text
     }
 
+    fn put_name(&mut self, names: &mut Vec<String>, name: &str) {
+        let text = self.text_of(name);
+        self.words.push(names, text);
+    }
+
     /// Whether a type has parameters that are no lifetimes.
     fn has_parameters(&self, it: &Declaration) -> bool {
         for name in &it.parameters {
@@ -206,12 +211,9 @@ impl<'a> Builder<'a> {
                 continue;
             }
             self.instance(index, DEEPEST);
-            let name = self.text_of(self.tokens.text(it.name));
-            let named = Named {
-                name,
-                line: it.line,
-            };
-            self.words.push(&mut self.schema.types, named);
+            let (name, line) = (self.text_of(self.tokens.text(it.name)), it.line);
+            self.words
+                .push(&mut self.schema.types, Named { name, line });
         }
         0
     }
@@ -248,23 +250,19 @@ impl<'a> Builder<'a> {
             self.wrong(&[
                 "a declaration in the words of another item isn't read: write it beside that",
             ]);
-        }
-        if is_second {
+        } else if is_second {
             self.wrong(&["the file declares this name twice: leave out what isn't on the wire"]);
+        } else if it.is_by_use(SERIALIZE) && self.names.has_other_derive(scope, SERIALIZE) {
+            self.refuse(SERIALIZE, OF_OTHER_CRATE);
+        } else if it.is_by_use(DESERIALIZE) && self.names.has_other_derive(scope, DESERIALIZE) {
+            self.refuse(DESERIALIZE, OF_OTHER_CRATE);
+        } else {
+            let (node, names) = match &it.body {
+                Body::Struct(fields) => self.group(fields, depth),
+                Body::Enum(variants) => self.choice(variants, depth),
+            };
+            self.put(place, node, names);
         }
-        for derive in [SERIALIZE, DESERIALIZE] {
-            if it.is_by_use(derive) && self.names.has_other_derive(scope, derive) {
-                self.refuse(derive, OF_OTHER_CRATE);
-            }
-        }
-        if self.words.is_wrong {
-            return;
-        }
-        let (node, names) = match &it.body {
-            Body::Struct(fields) => self.group(fields, depth),
-            Body::Enum(variants) => self.choice(variants, depth),
-        };
-        self.put(place, node, names);
     }
 
     /// A struct of these fields.
@@ -274,8 +272,7 @@ impl<'a> Builder<'a> {
         for field in &fields.items {
             let place = self.field(field, depth);
             self.words.push(&mut places, place);
-            let name = self.text_of(self.tokens.text(field.name));
-            self.words.push(&mut names, name);
+            self.put_name(&mut names, self.tokens.text(field.name));
         }
         let names = match fields.form {
             Form::Unit => Names::Unit,
@@ -301,8 +298,7 @@ impl<'a> Builder<'a> {
                 }
             };
             self.words.push(&mut places, place);
-            let name = self.text_of(self.tokens.text(*name));
-            self.words.push(&mut names, name);
+            self.put_name(&mut names, self.tokens.text(*name));
         }
         (Node::Enum(places), Names::Variants(names))
     }

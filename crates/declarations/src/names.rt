@@ -69,13 +69,13 @@ pub struct Scopes<'a> {
     imports: Vec<Import>,
     /// Which declarations are marked, by their places among the items of files.
     marked: BTreeMap<usize, usize>,
-    /// Of each name whether it is declared, or brought in from what isn't known.
-    named: Vec<bool>,
+    /// The names that are declared, or brought in from what isn't known.
+    named: BTreeSet<Name>,
     /// The names of items, modules and of what a `use` brings in, each with its scope; no name where a `*` is.
     members: BTreeSet<(Name, usize)>,
     /// From which scope a `*` leads to which others, also by those of others; and from each to itself.
     ways: BTreeSet<(usize, usize)>,
-    /// The rules of macros, and calls that may declare something.
+    /// The rules of macros, whose names are their third words, and calls that may declare something.
     rules: Vec<items::Item>,
     calls: Vec<items::Item>,
     /// Tables of endpoints and topics of postcard-rpc's, which aren't read.
@@ -95,7 +95,7 @@ impl<'a> Scopes<'a> {
         let mut names = Scopes {
             alloc,
             tokens,
-            named: vec![in alloc; false; tokens.texts.len()]?,
+            named: BTreeSet::new(alloc),
             scopes: walk.scopes,
             items: Vec::new(alloc),
             imports: Vec::new(alloc),
@@ -130,7 +130,7 @@ impl<'a> Scopes<'a> {
             }
             let it = self.scope(place);
             if it.name != NO_NAME {
-                self.add_member(it.name, it.outer);
+                self.failed = self.members.insert((it.name, it.outer)).is_err() || self.failed;
             }
             self.failed = self.ways.insert((place, place)).is_err() || self.failed;
         }
@@ -167,33 +167,21 @@ impl<'a> Scopes<'a> {
     /// The scope of a marked declaration, and whether another in it precedes it by the same name; none of one that is in the words
     /// of another item.
     pub fn stand(&self, index: usize) -> Option<(usize, bool)> {
-        let mut own = None;
+        let mut own: Option<&Item> = None;
         for it in self.items.iter().rev() {
-            let here = (it.scope, it.name);
-            match it.what {
-                What::Marked(place) if place == index => own = Some(here),
-                What::Marked(_) if own == Some(here) => return Some((it.scope, true)),
+            match (it.what, own) {
+                (What::Marked(place), _) if place == index => own = Some(it),
+                (What::Marked(_), Some(own)) if own.scope == it.scope && own.name == it.name =>
+                    return Some((it.scope, true)),
                 _ => {}
             }
         }
-        let (scope, _) = own?;
-        Some((scope, false))
-    }
-
-    fn add_member(&mut self, name: Name, scope: usize) {
-        self.failed = self.members.insert((name, scope)).is_err() || self.failed;
-    }
-
-    /// Notes that a name is declared, or brought in from what isn't known.
-    fn note(&mut self, name: Name) {
-        if let Some(it) = self.named.get_mut(name) {
-            *it = true;
-        }
+        Some((own?.scope, false))
     }
 
     /// Whether a file declares a name, or brings it in from what isn't known.
     pub fn has(&self, name: Name) -> bool {
-        matches!(self.named.get(name), Some(true))
+        self.named.contains(&name)
     }
 
     /// Whether a module has a name that every file has by itself, since none gives it to anything else.

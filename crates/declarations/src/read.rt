@@ -6,7 +6,7 @@ ghost use Rattle.schema_table.specs.Telling.{NamesTellParts};
 use crate::Schema;
 use crate::builder::Builder;
 use crate::names::Scopes;
-use crate::names::folders::module_of;
+use crate::names::folders::module_of_file;
 use declaration_parser::parser::Purpose;
 use declaration_parser::reading::{AllDeclared, declarations};
 use declaration_parser::tokens::{Name, Tokens};
@@ -48,13 +48,13 @@ pub struct CheckedSources {
     pub wrong: String,
 }
 
-/// The tokens of files, and the names of the modules that they are.
+/// The tokens of files, and the names of the modules that they are: a crate's has `_` for the `-` of its folder.
 fn tokens_in(alloc: Global, sources: &[Source]) -> Result<(Tokens, Vec<Name>), AllocError> {
     let mut tokens = Tokens::new(alloc)?;
     let mut modules = Vec::new(alloc);
     for source in sources {
         tokens = tokens.with_file(alloc, source.file.as_str(), source.text.as_str())?;
-        let module = module_of(alloc, source.file.as_str())?;
+        let module = module_of_file(source.file.as_str()).replace(alloc, '-', "_")?;
         modules.push(tokens.name_of(alloc, module.as_str())?)?;
     }
     Ok((tokens, modules))

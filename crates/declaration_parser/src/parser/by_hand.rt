@@ -83,7 +83,9 @@ impl Implemented {
         let next = tokens.first(rest);
         match (tokens.front(words), next.word) {
             (_, Word::As) if self.has(tokens.nth(words, 2).name) => words.before(rest),
-            (_, Word::Not) if self.is_handed(tokens, words) => tokens.held(rest),
+            // what a macro is handed, which one of another crate may say by its name
+            (_, Word::Not) if self.has(DOLLAR) || tokens.first_text(words).contains("serialize") =>
+                tokens.held(rest),
             (Word::Alias, _) if self.has(next.name) => {
                 rest.before(tokens.up_to(rest, &[Word::Semicolon]))
             }
@@ -92,17 +94,12 @@ impl Implemented {
         }
     }
 
-    /// Whether a macro may implement the trait for what it is handed: one of another crate may say so by its name.
-    fn is_handed(&self, tokens: &Tokens, words: Words) -> bool {
-        self.has(DOLLAR) || tokens.first_text(words).contains("serialize")
-    }
-
     /// The names that the `impl` at the start is for, if it is of this trait: of a type, all of the path that leads to it.
     fn implementing(&self, tokens: &Tokens, words: Words) -> Words {
         let whole = words.before(tokens.type_up_to(words, &[Word::Brace, Word::Semicolon]));
         let of = tokens.type_up_to(whole, &[Word::For]);
         if tokens
-            .type_up_to_name(whole.before(of), &self.names)
+            .parted(whole.before(of), &[], &self.names, true)
             .is_empty()
         {
             return Words::default();
@@ -120,10 +117,9 @@ impl Implemented {
 impl Parser<'_, '_> {
     /// Refuses a type that is written by hand on a side that isn't derived, or is so under a condition.
     pub(super) fn check_by_hand(&mut self) {
-        let marking = self.marking;
         for side in self.job.by_hand {
-            let is_sure = marking.marks.has(side.name) && !marking.is_conditional;
-            if marking.is_derived && !is_sure && side.has(self.at.name) {
+            let is_sure = self.marking.marks.has(side.name) && !self.marking.is_conditional;
+            if self.marking.is_derived && !is_sure && side.has(self.at.name) {
                 self.at.refuse(side.name, BY_HAND);
             }
         }

@@ -1,6 +1,6 @@
 //! What attributes say of the bytes.
 use super::Parser;
-use crate::attributes::{AttributeWalk, ConditionedAttribute};
+use crate::attributes::AttributeWalk;
 use crate::declaration::{Body, Field, Layout};
 use crate::derives::is_derived;
 use crate::texts::{is_listed, row_of};
@@ -20,6 +20,9 @@ pub(super) struct Said {
     pub(super) layout: Layout,
 }
 
+/// The ways of arrays.
+const ARRAYS: &str = "BigArray serde_big_array::BigArray serde_arrays";
+
 /// How the bytes of a field are arranged, by the way that `with` names.
 fn layout_of(way: &str) -> Option<Layout> {
     let way = way.trim_matches('"');
@@ -27,7 +30,7 @@ fn layout_of(way: &str) -> Option<Layout> {
         "postcard::fixint::le" => Some(Layout::Little),
         "postcard::fixint::be" => Some(Layout::Big),
         "serde_bytes" => Some(Layout::Buffer),
-        "BigArray" | "serde_big_array::BigArray" | "serde_arrays" => Some(Layout::Array),
+        way if is_listed(way, ARRAYS) => Some(Layout::Array),
         _ => None,
     }
 }
@@ -67,22 +70,20 @@ impl Parser<'_, '_> {
         let is_item = self.at.variant == NO_NAME && self.at.field.is_none();
         let mut walk = AttributeWalk::of(attributes);
         for _ in 0..=attributes.len() {
-            let Some(it) = walk.next(tokens) else {
+            let Some((words, condition)) = walk.next(tokens) else {
                 break;
             };
-            let first = tokens.first(it.words);
+            let first = tokens.first(words);
             self.at.line = first.line;
             match first.word {
                 Word::Mark => {}
-                Word::Serde => self.read_serde(it, &mut said),
+                Word::Serde => self.read_serde(words, condition, &mut said),
                 // that of a derive has parentheses
-                Word::With if tokens.held(it.words).is_empty() => self.read_way(
-                    it.words, &mut said,
-                ),
+                Word::With if tokens.held(words).is_empty() => self.read_way(words, &mut said),
                 Word::Condition | Word::Conditional if !is_item => {
                     self.at.refuse(first.name, ON_SOME_DEVICES);
                 }
-                _ if is_harmless(tokens, it.words, attributes, is_item) => {}
+                _ if is_harmless(tokens, words, attributes, is_item) => {}
                 _ => self.at.refuse(first.name, UNKNOWN),
             }
         }
@@ -102,14 +103,14 @@ impl Parser<'_, '_> {
         }
     }
 
-    fn read_serde(&mut self, it: ConditionedAttribute, said: &mut Said) {
+    fn read_serde(&mut self, words: Words, condition: Words, said: &mut Said) {
         let tokens = self.at.tokens;
-        let is_other = !it.condition.is_empty() && !self.marking.is_under(tokens, it.condition);
-        let mut rest = tokens.held(it.words);
+        let is_other = !condition.is_empty() && !self.marking.is_under(tokens, condition);
+        let mut rest = tokens.held(words);
         for _ in 0..rest.len() {
             let (part, behind) = tokens.first_part(rest);
             // An attribute in an attribute is what a comment was.
-            let part = tokens.attribute(part).map_or(part, |parts| parts.1);
+            let (_, part) = tokens.attribute(part).unwrap_or((part, part));
             let first = tokens.first(part).name;
             let name = tokens.text(first);
             said.is_transparent = said.is_transparent || name == "transparent";

@@ -3,7 +3,7 @@ use super::types::path_at;
 use super::{Builder, Context, DEEPEST, NOWHERE};
 use crate::known::is_primitive;
 use crate::names::{Found, Path, Space, What};
-use declaration_parser::texts::first_letter;
+use declaration_parser::texts::{first_letter, is_listed};
 use declaration_parser::tokens::{NO_NAME, Name, Tokens, Word, Words};
 
 /// How many numbers one length may be computed of.
@@ -199,7 +199,7 @@ impl Builder<'_> {
         }
         let (path, last, rest) = path_at(self.tokens, words);
         let before = path.before();
-        if is_primitive(self.tokens.text(before)) && !self.names.has_module(before) {
+        if is_primitive(self.tokens.text(before)) && !self.names.has_namesake(before, true) {
             return Some((self.of_language(at, &path, last)?, rest));
         }
         // a function that is called, or what has fields
@@ -249,7 +249,7 @@ impl Builder<'_> {
     /// What a type of the language has under a name, if that is the same on all devices.
     fn of_language(&self, at: Context, path: &Path, last: Name) -> Option<Number> {
         let of = path.before();
-        let is_plain = path.count == 1 || matches!(self.tokens.text(path.root()), "core" | "std");
+        let is_plain = path.count == 1 || is_listed(self.tokens.text(path.root()), "core std");
         if !is_plain || self.given(at, of, false).is_some() {
             return None;
         }

@@ -310,10 +310,10 @@ impl<'a> Builder<'a> {
     }
 
     /// What stands for a parameter of this name, which is a length or a type.
-    pub(super) fn given(&self, at: Context, name: Name, is_length: bool) -> Option<Given> {
+    pub(super) fn given(&self, at: Context, name: Name, is_length: bool) -> Option<&Given> {
         for it in &self.made.get(at.own)?.of {
             if it.name == name && it.is_length == is_length {
-                return Some(*it);
+                return Some(it);
             }
         }
         None
@@ -426,7 +426,7 @@ impl<'a> Builder<'a> {
         let words = self.words.rest;
         let rest = self.tokens.type_up_to(words, &[Word::Greater]);
         self.words.rest = rest;
-        self.words.owe(Word::Greater, ">");
+        self.words.owe(Word::Greater, "`>` is wanted");
         self.parts(words.before(rest), true)
     }
 
@@ -437,32 +437,32 @@ impl<'a> Builder<'a> {
             Some(words) => Some(self.length(*words)),
             None => None,
         };
-        if self.words.is_wrong {
-            return NOWHERE;
-        }
-        match (form, parts, places.as_slice()) {
-            (KnownForm::Inner, _, [inner]) => *inner,
-            (KnownForm::Little | KnownForm::Big, [words, ..], [inner]) => {
-                self.ordered(form, *words, *inner)
-            }
-            (KnownForm::List, [words, ..], [inner])
-                if most.is_none() && self.is_byte(*words, *inner) => {
+        let (words, inner) = match (parts, places.as_slice()) {
+            ([words, ..], [inner]) => (*words, *inner),
+            _ => (Words::default(), NOWHERE),
+        };
+        match form {
+            _ if self.words.is_wrong => NOWHERE,
+            KnownForm::Inner => inner,
+            KnownForm::Little | KnownForm::Big => self.ordered(form, words, inner),
+            // a list of what is called `u8`
+            KnownForm::List
+                if most.is_none()
+                    && matches!(self.schema.nodes.get(inner), Some(Node::U8))
+                    && self.tokens.text(self.tokens.last(words).name) == "u8" => {
                 self.holding(KnownForm::Bytes, places, None)
             }
-            (KnownForm::Map | KnownForm::MapUpTo, ..) => {
-                let pair = self.holding(KnownForm::Tuple, places, None);
-                let mut pairs = Vec::new(self.alloc);
-                self.words.push(&mut pairs, pair);
-                self.holding(form, pairs, most)
-            }
+            KnownForm::Map | KnownForm::MapUpTo => self.pairs(form, places, most),
             _ => self.holding(form, places, most),
         }
     }
 
-    /// Whether the type at a place is `u8`, and called so by these words.
-    fn is_byte(&self, words: Words, place: usize) -> bool {
-        matches!(self.schema.nodes.get(place), Some(Node::U8))
-            && self.tokens.text(self.tokens.last(words).name) == "u8"
+    /// The place of a map, by the places of its keys' type and its values'.
+    fn pairs(&mut self, form: KnownForm, places: Vec<usize>, most: Option<u64>) -> usize {
+        let pair = self.holding(KnownForm::Tuple, places, None);
+        let mut pairs = Vec::new(self.alloc);
+        self.words.push(&mut pairs, pair);
+        self.holding(form, pairs, most)
     }
 
     /// The place of an integer, which these words say, and whose bytes are sent in an order.
@@ -484,10 +484,8 @@ impl<'a> Builder<'a> {
             KnownForm::Map | KnownForm::MapUpTo => Names::Map,
             KnownForm::Outcome => {
                 let mut names = Vec::new(self.alloc);
-                for name in ["Ok", "Err"] {
-                    let name = self.text_of(name);
-                    self.words.push(&mut names, name);
-                }
+                self.put_name(&mut names, "Ok");
+                self.put_name(&mut names, "Err");
                 Names::Variants(names)
             }
             KnownForm::Tuple if places.is_empty() => Names::Unit,

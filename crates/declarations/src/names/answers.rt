@@ -150,11 +150,6 @@ impl<'a> Scopes<'a> {
         }
     }
 
-    /// Whether these files have a module of this name, or a crate by its folder.
-    pub fn has_module(&self, name: Name) -> bool {
-        self.has_namesake(name, true)
-    }
-
     /// Whether the first name of a path leads to one of these crates, or out of the files, and no `use` says otherwise.
     pub fn is_foreign(&self, scope: usize, root: Name, crates: &[&str]) -> bool {
         let file = self.file_of(scope);

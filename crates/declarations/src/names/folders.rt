@@ -2,7 +2,10 @@
 use super::meaning::Meaning;
 use super::{Kind, Name, Scopes};
 use crate::known::is_known_crate;
-use std::alloc::{AllocError, Global};
+use declaration_parser::texts::is_listed;
+
+/// The files that are roots of crates.
+const ROOTS: &str = "lib main";
 
 /// A path without its last name, and that name.
 fn split_last(path: &str) -> (&str, &str) {
@@ -31,15 +34,9 @@ fn without_last<'f>(folder: &'f str, name: &str) -> Option<&'f str> {
     if last == name { Some(before) } else { None }
 }
 
-/// Whether a file of this name is the root of a crate.
-fn is_root(stem: &str) -> bool {
-    matches!(stem, "lib" | "main")
-}
-
 /// Whether each file of a folder of this name is the root of a crate.
 fn has_roots(folder: &str) -> bool {
-    let (_, last) = split_last(folder);
-    matches!(last, "bin" | "examples" | "tests" | "benches")
+    is_listed(split_last(folder).1, "bin examples tests benches")
 }
 
 /// Whether a folder is the `src` of a crate, or in it. Above a whole path it may have any name.
@@ -49,17 +46,12 @@ fn is_in_src(folder: &str) -> bool {
 }
 
 /// The module that a file is: by its name, or by its folder's.
-pub(super) fn module_of_file(file: &str) -> &str {
+pub fn module_of_file(file: &str) -> &str {
     let (folder, stem) = parts_of(file);
-    if is_root(stem) {
+    if is_listed(stem, ROOTS) {
         return split_last(folder.strip_suffix("/src").unwrap_or(folder)).1;
     }
     module_at(file).1
-}
-
-/// The name of the module that a file is: a crate's has `_` for the `-` of its folder.
-pub fn module_of(alloc: Global, file: &str) -> Result<String, AllocError> {
-    module_of_file(file).replace(alloc, '-', "_")
 }
 
 impl<'a> Scopes<'a> {
@@ -70,7 +62,7 @@ impl<'a> Scopes<'a> {
         for _ in 0..self.scopes.len() {
             if it.kind == Kind::File {
                 let (own, stem) = parts_of(self.tokens.name_of_file(it.file));
-                let has_own = is_root(stem) || stem == "mod" || has_roots(own);
+                let has_own = is_listed(stem, "lib main mod") || has_roots(own);
                 // one that a `#[path]` names has them beside it
                 let is_named = without_last(left, stem) == Some(own) && !self.is_elsewhere(it.file);
                 return left == own && has_own || is_named;
@@ -89,7 +81,9 @@ impl<'a> Scopes<'a> {
     fn is_file_in(&self, module: usize, file: usize) -> bool {
         let file = self.tokens.name_of_file(file);
         let (folder, name) = module_at(file);
-        !is_root(parts_of(file).1) && !name.contains('-') && self.is_folder_of(module, folder)
+        !is_listed(parts_of(file).1, ROOTS)
+            && !name.contains('-')
+            && self.is_folder_of(module, folder)
     }
 
     /// The only file of these that a module has for a module of this name.
@@ -100,10 +94,9 @@ impl<'a> Scopes<'a> {
                 found = found.both(Meaning::Module(file));
             }
         }
-        if found == Meaning::Doubtful {
-            Meaning::Outside
-        } else {
-            found.or(Meaning::Outside)
+        match found {
+            Meaning::Doubtful | Meaning::Nothing => Meaning::Outside,
+            found => found,
         }
     }
 
@@ -116,7 +109,7 @@ impl<'a> Scopes<'a> {
                 found = found.both(Meaning::Module(file));
             }
         }
-        if found == Meaning::Nothing && is_known_crate(self.tokens.text(name)) {
+        if found.is_nothing() && is_known_crate(self.tokens.text(name)) {
             found = Meaning::Known(name);
         }
         for it in &self.imports {
@@ -165,10 +158,9 @@ impl<'a> Scopes<'a> {
             Kind::File => self.parent_of(it.file),
             _ => Meaning::Module(self.module_of(it.outer)),
         };
-        if matches!(parent, Meaning::Module(_)) {
-            parent
-        } else {
-            Meaning::Lost
+        match parent {
+            Meaning::Module(_) => parent,
+            _ => Meaning::Lost,
         }
     }
 
@@ -184,7 +176,7 @@ impl<'a> Scopes<'a> {
         for _ in 0..count {
             let (folder, stem) = parts_of(self.tokens.name_of_file(file));
             let is_alone = count == 1 && !is_in_src(folder);
-            let may_be_root = is_root(stem) || has_roots(folder) || is_alone;
+            let may_be_root = is_listed(stem, ROOTS) || has_roots(folder) || is_alone;
             match (may_be_root, self.parent_of(file)) {
                 (true, Meaning::Nothing) if file < count => return Meaning::Module(file),
                 (false, Meaning::Module(module)) if file < count => file = self.scope(module).file,

@@ -65,12 +65,8 @@ impl Meaning {
         )
     }
 
-    /// What a name means that means this if nothing else.
-    pub(super) fn or(self, other: Meaning) -> Meaning {
-        match self {
-            Meaning::Nothing => other,
-            it => it,
-        }
+    pub(super) fn is_nothing(self) -> bool {
+        matches!(self, Meaning::Nothing)
     }
 }
 
@@ -184,9 +180,9 @@ impl<'a> Scopes<'a> {
                 continue;
             }
             let it = self.own(*there, name, space);
-            is_led = is_led || (it != Meaning::Nothing && self.leads_to(module, *there));
+            is_led = is_led || (!it.is_nothing() && self.leads_to(module, *there));
             found = found.both(it);
-            if found == Meaning::Doubtful {
+            if matches!(found, Meaning::Doubtful) {
                 break;
             }
         }
@@ -249,7 +245,7 @@ impl<'a> Scopes<'a> {
     /// Whether a module has what another one's `*` or macro makes under a name: not if that one has another.
     fn may_pass_on(&self, module: usize, scope: usize, name: Name, space: Space) -> bool {
         self.leads_to(module, scope)
-            && (scope == module || self.own(scope, name, space) == Meaning::Nothing)
+            && (scope == module || self.own(scope, name, space).is_nothing())
     }
 
     /// What those `*` may bring in that lead out of the files, of a module and of those to which others lead.
@@ -272,10 +268,9 @@ impl<'a> Scopes<'a> {
     /// What a known crate may have under a name.
     fn of_known_crate(&self, name: Name, space: Space) -> Meaning {
         let text = self.tokens.text(name);
-        match space {
-            Space::Types if is_known(text) && !self.has(name) => Meaning::Known(name),
-            Space::Types if is_known(text) => Meaning::Open,
-            Space::Types if sent_as(text).is_none() => Meaning::Nothing,
+        match (space, is_known(text)) {
+            (Space::Types, true) if !self.has(name) => Meaning::Known(name),
+            (Space::Types, false) if sent_as(text).is_none() => Meaning::Nothing,
             _ => Meaning::Open,
         }
     }
@@ -290,8 +285,8 @@ impl<'a> Scopes<'a> {
                 return true;
             }
         }
-        self.by_open_stars(module, name, Space::Types) != Meaning::Nothing
-            || self.by_macros(module, name, Space::Types) != Meaning::Nothing
+        !self.by_open_stars(module, name, Space::Types).is_nothing()
+            || !self.by_macros(module, name, Space::Types).is_nothing()
     }
 
     /// What a name means where a scope uses it: what the scope has, or else what is round it.
@@ -335,20 +330,14 @@ impl<'a> Scopes<'a> {
         }
     }
 
-    /// What a name means after its module.
-    fn inside(&self, module: usize, name: Name, space: Space) -> Meaning {
-        match self.own(module, name, space) {
-            Meaning::Nothing if space.is_way() => self.way_by_stars(module, name, space),
-            Meaning::Nothing => self.by_stars(module, name, space),
-            found => found,
-        }
-    }
-
     /// What the first name of a path means.
     fn root(&self, scope: usize, name: Name, is_absolute: bool) -> Meaning {
         let module = self.module_of(scope);
         match word_of(name) {
-            _ if is_absolute => self.crate_of(name).or(Meaning::Outside),
+            _ if is_absolute => match self.crate_of(name) {
+                Meaning::Nothing => Meaning::Outside,
+                found => found,
+            },
             Word::Own => Meaning::Module(module),
             Word::Super => self.around_module(module),
             Word::Crate => self.root_of(module),
@@ -362,7 +351,11 @@ impl<'a> Scopes<'a> {
             (Meaning::Module(_), Word::Own) => before,
             (Meaning::Module(module), Word::Super) => self.around_module(module),
             (Meaning::Module(_), _) if name == NO_NAME => Meaning::Doubtful,
-            (Meaning::Module(module), _) => self.inside(module, name, space),
+            (Meaning::Module(module), _) => match self.own(module, name, space) {
+                Meaning::Nothing if space.is_way() => self.way_by_stars(module, name, space),
+                Meaning::Nothing => self.by_stars(module, name, space),
+                found => found,
+            },
             (Meaning::Known(_), _) if space != Space::Constants => Meaning::Known(name),
             (Meaning::Known(_) | Meaning::Item(_) | Meaning::Nothing, _) => Meaning::Outside,
             _ => before,
@@ -400,7 +393,7 @@ impl<'a> Scopes<'a> {
             (Meaning::Nothing, _) => Meaning::Item(self.scopes.len()),
             (Meaning::Module(_), _) if self.is_passed_on(name) => Meaning::Doubtful,
             (Meaning::Module(_), _) if is_start(before) => found,
-            (Meaning::Module(it), _) if self.around_module(it) == Meaning::Lost => found,
+            (Meaning::Module(it), _) if matches!(self.around_module(it), Meaning::Lost) => found,
             _ => Meaning::Doubtful,
         }
     }
@@ -418,7 +411,7 @@ impl<'a> Scopes<'a> {
     }
 
     /// Whether a module of this name is there, which may be a crate.
-    pub(super) fn has_namesake(&self, name: Name, may_be_crate: bool) -> bool {
+    pub fn has_namesake(&self, name: Name, may_be_crate: bool) -> bool {
         for place in 0..self.scopes.len() {
             if is_within(&self.scopes, Step::Module(name), place)
                 && (may_be_crate || self.root_of(place) != Meaning::Module(place))

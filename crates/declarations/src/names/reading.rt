@@ -10,6 +10,9 @@ use declaration_parser::tokens::Word;
 const MADE: &str =
     "` is made by a macro, which isn't followed: write its declaration out, in a file of its own";
 
+const BITS: &str =
+    "` is made by `bitflags!`, and sent as its bits: write the integer behind its name";
+
 /// What an alias stands for, by its words from its name on. Lifetimes are no parameters.
 fn alias_of(tokens: &Tokens, words: Words) -> What {
     let mut rest = words.behind_first();
@@ -24,11 +27,6 @@ fn alias_of(tokens: &Tokens, words: Words) -> What {
         _ if rest.is_empty() => What::Alias(rest),
         _ => What::Refused("` is an alias with parameters: write the type that it stands for"),
     }
-}
-
-/// The name of the macro that has these rules.
-fn name_of(tokens: &Tokens, rules: &items::Item) -> Name {
-    tokens.nth(rules.words, 2).name
 }
 
 /// The place of the first name of the path that ends with the name at this place.
@@ -86,13 +84,9 @@ impl<'a> Scopes<'a> {
     }
 
     fn read_item(&mut self, item: &items::Item) {
-        let tokens = self.tokens;
-        let mut import = Import::default();
-        import.scope = item.scope;
-        import.is_crate = item.kind == ItemKind::Crate;
-        import.is_public = item.is_public || import.is_crate;
-        import.is_conditional = item.has(tokens, Word::Condition);
-        let is_in_impl = self.scope(item.scope).kind == Kind::Impl;
+        let (tokens, scope) = (self.tokens, item.scope);
+        let is_conditional = item.has(tokens, Word::Condition);
+        let is_in_impl = self.scope(scope).kind == Kind::Impl;
         let what = match item.kind {
             ItemKind::Type => match self.marked.get(&item.place) {
                 Some(index) => What::Marked(*index),
@@ -107,21 +101,29 @@ impl<'a> Scopes<'a> {
                 let value = tokens.up_to(of, &[Word::Equals]);
                 What::Constant(of.before(value), value.behind_first())
             }
-            ItemKind::Import | ItemKind::Crate => return self.read_use(import, item.words),
-            ItemKind::Rules if !is_in_impl => return self.read_made(import, item.inside, false),
+            ItemKind::Import | ItemKind::Crate => {
+                let mut import = Import::default();
+                import.scope = scope;
+                import.is_crate = item.kind == ItemKind::Crate;
+                import.is_public = item.is_public || import.is_crate;
+                import.is_conditional = is_conditional;
+                return self.read_use(import, item.words);
+            }
+            ItemKind::Rules if !is_in_impl => {
+                return self.read_made(scope, is_conditional, item.inside, false);
+            }
             ItemKind::Call if !is_in_impl => return self.read_call(item),
             _ => return,
         };
-        self.add(import, item.words, what);
+        self.add(scope, is_conditional, item.words, what);
     }
 
     /// Adds what the first of these words stands for, if it is a name, where something may be imported too.
-    fn add(&mut self, import: Import, words: Words, what: What) {
-        let (name, scope) = (self.tokens.name_at(words), import.scope);
+    fn add(&mut self, scope: usize, is_conditional: bool, words: Words, what: What) {
+        let name = self.tokens.name_at(words);
         if name == NO_NAME || self.scope(scope).kind == Kind::Impl {
             return;
         }
-        let is_conditional = import.is_conditional;
         let item = Item {
             name,
             what,
@@ -129,30 +131,28 @@ impl<'a> Scopes<'a> {
             is_conditional,
         };
         self.failed = self.items.push(item).is_err() || self.failed;
-        self.add_member(name, scope);
-        self.note(name);
+        self.failed = self.members.insert((name, scope)).is_err() || self.failed;
+        self.failed = self.named.insert(name).is_err() || self.failed;
     }
 
     /// Reads what the call of a macro may bring in or declare.
     fn read_call(&mut self, item: &items::Item) {
-        let mut import = Import::default();
-        import.scope = item.scope;
-        let tokens = self.tokens;
-        match tokens.first_text(item.words) {
-            _ if self.is_inner(item.scope) => self.read_call_of(import, item),
-            "include" => self.add_include(import),
-            _ if self.has_rules(tokens.first(item.words).name) => self.read_call_of(import, item),
-            "endpoints" | "topics" => self.failed = self.endpoints.push(item.inside).is_err()
-                || self.failed,
-            "bitflags" => self.read_made(import, item.inside, true),
-            _ => self.read_call_of(import, item),
+        let has_rules = self.has_rules(self.tokens.first(item.words).name);
+        match self.tokens.first_text(item.words) {
+            _ if self.is_inner(item.scope) => self.read_call_of(item),
+            "include" => self.add_include(item.scope),
+            "endpoints" | "topics" if !has_rules => {
+                self.failed = self.endpoints.push(item.inside).is_err() || self.failed;
+            }
+            "bitflags" if !has_rules => self.read_made(item.scope, false, item.inside, true),
+            _ => self.read_call_of(item),
         }
     }
 
     /// Whether these files have the rules of a macro of this name.
     fn has_rules(&self, name: Name) -> bool {
         for it in &self.rules {
-            if name_of(self.tokens, it) == name {
+            if self.tokens.nth(it.words, 2).name == name {
                 return true;
             }
         }
@@ -160,36 +160,35 @@ impl<'a> Scopes<'a> {
     }
 
     /// Reads what a macro makes: names after the words of items, in all groups.
-    fn read_made(&mut self, mut import: Import, inside: Words, are_bits: bool) {
-        let tokens = self.tokens;
+    fn read_made(&mut self, scope: usize, is_at_times: bool, inside: Words, are_bits: bool) {
+        let (tokens, mut is_conditional) = (self.tokens, is_at_times);
         let mut rest = inside;
         for _ in 0..inside.len() {
             let words = rest.behind_first();
-            match tokens.front(rest) {
+            let what = match tokens.front(rest) {
+                Word::Struct | Word::Enum | Word::Union if are_bits => Some(What::Refused(BITS)),
+                Word::Struct | Word::Enum | Word::Union | Word::Alias => Some(What::Refused(MADE)),
+                Word::Constant => Some(What::RefusedConstant(MADE)),
                 Word::Import => {
+                    is_conditional = true;
+                    let mut import = Import::default();
+                    import.scope = scope;
                     import.is_conditional = true;
                     let behind = tokens.up_to(words, &[Word::Semicolon]);
                     self.read_use(import, words.before(behind));
+                    None
                 }
-                Word::Struct | Word::Enum | Word::Union if are_bits => {
-                    let why =
-                        "` is made by `bitflags!`, and sent as its bits: write the integer behind its name";
-                    self.add(import, words, What::Refused(why));
-                }
-                Word::Struct | Word::Enum | Word::Union | Word::Alias => self.add(
-                    import,
-                    words,
-                    What::Refused(MADE),
-                ),
-                Word::Constant => self.add(import, words, What::RefusedConstant(MADE)),
-                _ => {}
+                _ => None,
+            };
+            if let Some(what) = what {
+                self.add(scope, is_conditional, words, what);
             }
             rest = words;
         }
     }
 
     /// Reads the call of a macro of which nothing is known but its rules. If it may make any name, it is as a `*` that leads out.
-    fn read_call_of(&mut self, import: Import, item: &items::Item) {
+    fn read_call_of(&mut self, item: &items::Item) {
         let tokens = self.tokens;
         let name = tokens.first(item.words).name;
         let text = tokens.text(name);
@@ -209,28 +208,28 @@ impl<'a> Scopes<'a> {
         for place in 0..self.rules.len() {
             if let Some(rules) = self.rules.get(place).copied()
                 && is_near
-                && name_of(tokens, &rules) == name
+                && tokens.nth(rules.words, 2).name == name
             {
                 is_foreign = false;
-                is_open = self.read_rules(import, item.inside, &rules) || is_open;
+                is_open = self.read_rules(item.scope, item.inside, &rules) || is_open;
             }
         }
-        self.read_made(import, item.inside, false);
+        self.read_made(item.scope, false, item.inside, false);
         if is_foreign || is_open {
-            self.add_include(import);
+            self.add_include(item.scope);
         }
         self.failed = self.calls.push(*item).is_err() || self.failed;
     }
 
     /// Reads what the rules of a macro make where it is called, unless they are there; and whether they may make any name.
-    fn read_rules(&mut self, import: Import, handed: Words, rules: &items::Item) -> bool {
+    fn read_rules(&mut self, scope: usize, handed: Words, rules: &items::Item) -> bool {
         let tokens = self.tokens;
-        if rules.scope != import.scope {
-            self.read_made(import, rules.inside, false);
+        if rules.scope != scope {
+            self.read_made(scope, false, rules.inside, false);
         }
         let (is_open, is_maker) = made_by(tokens, rules.inside);
         if is_maker && is_everywhere(tokens.text(tokens.name_at(handed))) {
-            self.add(import, handed, What::Refused(MADE));
+            self.add(scope, false, handed, What::Refused(MADE));
         }
         is_open || self.calls_another(rules)
     }
@@ -238,8 +237,8 @@ impl<'a> Scopes<'a> {
     /// Whether the rules of a macro may call another one of these files.
     fn calls_another(&self, rules: &items::Item) -> bool {
         for it in &self.rules {
-            let name = name_of(self.tokens, it);
-            let is_own = name == name_of(self.tokens, rules);
+            let name = self.tokens.nth(it.words, 2).name;
+            let is_own = name == self.tokens.nth(rules.words, 2).name;
             if !is_own && self.tokens.has_name(rules.inside, name) {
                 return true;
             }

@@ -55,15 +55,18 @@ impl<'a> Scopes<'a> {
         let is_known = import.name == import.last
             && import.path.count > 0
             && is_known_crate(self.tokens.text(import.path.root()));
-        self.add_member(import.name, import.scope);
+        let member = (import.name, import.scope);
+        self.failed = self.members.insert(member).is_err() || self.failed;
         if !is_known {
-            self.note(import.name);
+            self.failed = self.named.insert(import.name).is_err() || self.failed;
         }
         self.failed = self.imports.push(import).is_err() || self.failed;
     }
 
     /// Adds another file's words, of which nothing is known.
-    pub(super) fn add_include(&mut self, mut import: Import) {
+    pub(super) fn add_include(&mut self, scope: usize) {
+        let mut import = Import::default();
+        import.scope = scope;
         import.last = INCLUDED;
         import.is_public = true;
         self.put_import(import);
@@ -107,40 +110,20 @@ impl<'a> Scopes<'a> {
         self.leads_to(from, place)
     }
 
-    /// Whether the derive of this name that a scope brings in may be another crate's; nothing if it brings in none from elsewhere.
-    fn own_derive(&self, scope: usize, derive: Name) -> Option<bool> {
-        let mut found = None;
-        for it in &self.imports {
-            if it.scope == scope && it.name == derive {
-                if self.brings_other(it) {
-                    return Some(true);
-                }
-                found = if it.leads_out() { Some(false) } else { found };
-            }
-        }
-        found
-    }
-
-    /// Whether a `use` that leads to a scope may bring in another crate's derive of this name.
-    fn is_led_other(&self, scope: usize, derive: Name) -> bool {
-        for it in &self.imports {
-            if (it.name == NO_NAME || it.name == derive)
-                && self.brings_other(it)
-                && self.may_lead_to(scope, it.scope, derive)
-            {
-                return true;
-            }
-        }
-        false
-    }
-
     /// Whether the derive of this name that a scope has may be another crate's; nothing if no `use` says it. What the scope itself
     /// brings in by the name hides what a `*` brings in.
     fn derive_in(&self, scope: usize, derive: Name) -> Option<bool> {
-        match self.own_derive(scope, derive) {
-            None if self.is_led_other(scope, derive) => Some(true),
-            found => found,
+        let (mut is_serdes, mut is_led) = (false, false);
+        for it in &self.imports {
+            let is_own = it.name == derive && it.scope == scope;
+            let is_other = (it.name == derive || it.name == NO_NAME) && self.brings_other(it);
+            if is_own && is_other {
+                return Some(true);
+            }
+            is_serdes = is_serdes || (is_own && it.leads_out());
+            is_led = is_led || (is_other && self.may_lead_to(scope, it.scope, derive));
         }
+        (is_serdes || is_led).then_some(!is_serdes)
     }
 
     /// Whether the derive of this name that a scope uses may be another crate's. What a body brings in hides what is round it.

@@ -79,7 +79,7 @@ impl<'a> Scopes<'a> {
             of_type: self.brought_in(&old, before, Space::Types),
             constant: self.brought_in(&old, before, Space::Constants),
         };
-        if lead.of_type == Meaning::Nothing && lead.constant == Meaning::Nothing {
+        if lead.of_type.is_nothing() && lead.constant.is_nothing() {
             lead.of_type = Meaning::Outside;
             lead.constant = Meaning::Outside;
         }
