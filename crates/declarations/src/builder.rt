@@ -70,6 +70,8 @@ pub struct Builder<'a> {
     schema: Schema,
     /// Of each node whether it can be read.
     readable: Vec<bool>,
+    /// The places of integers that are as wide as addresses.
+    sized: Vec<usize>,
 }
 
 /// Notes that nodes can't be read whose types can't be, from the last node to the first; and whether there were some.
@@ -135,6 +137,7 @@ impl<'a> Builder<'a> {
                 names: Vec::new(alloc),
             },
             readable: Vec::new(alloc),
+            sized: Vec::new(alloc),
         }
     }
 

@@ -122,6 +122,10 @@ fn main(rt: HostRuntime) -> ExitCode {
             let _ = eprintln!(rt; "postcard_derive: no memory");
             4
         }
+        Err(e) if e.kind() == ErrorKind::InvalidData && device == "arguments" => {
+            let _ = eprintln!(rt; "postcard_derive: an argument isn't UTF-8");
+            2
+        }
         Err(e) => {
             let _ = eprintln!(rt; "postcard_derive: {device}: {e}");
             3

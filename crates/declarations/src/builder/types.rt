@@ -223,7 +223,13 @@ impl<'a> Builder<'a> {
                 Said::Formed(row, parts)
             }
             (_, Some(Node::LE(of))) => Said::Place(self.add(Node::LE(of), Names::Float)),
-            (_, Some(node)) => Said::Place(self.add(node, Names::Nothing)),
+            (_, Some(node)) => {
+                let place = self.add(node, Names::Nothing);
+                if matches!(word, "isize" | "usize") {
+                    self.words.push(&mut self.sized, place);
+                }
+                Said::Place(place)
+            }
             _ => Said::Place(self.unknown(name)),
         }
     }
@@ -467,10 +473,11 @@ impl<'a> Builder<'a> {
 
     /// The place of an integer, which these words say, and whose bytes are sent in an order.
     pub(super) fn ordered(&mut self, form: KnownForm, words: Words, place: usize) -> usize {
-        let of = match self.tokens.text(self.tokens.last(words).name) {
-            // an integer of devices is as wide as their addresses
-            "isize" | "usize" => None,
-            _ => varint_type(self.schema.nodes.get(place)),
+        // an integer of devices is as wide as their addresses
+        let of = if self.sized.contains(&place) {
+            None
+        } else {
+            varint_type(self.schema.nodes.get(place))
         };
         match node_of(form, Vec::new(self.alloc), None, of) {
             Some(node) => self.put(place, node, Names::Nothing),

@@ -4,8 +4,7 @@ ghost use Rattle.declarations.specs.NameRule.{IsAnswerOf, IsAnsweredOrPassed, Is
 ghost use Rattle.declarations.specs.declared.names.candidates.Space.TheVariants as space;
 
 use super::candidates::{Only, Space, Step, is_within, only_of};
-use super::folders::module_of_file;
-use super::meaning::{BROUGHT_IN, BY_STAR, Meaning};
+use super::meaning::{BROUGHT_IN, BY_STAR, Meaning, is_start};
 use super::{Item, Kind, NO_NAME, Name, Path, Scopes, What};
 use crate::known::{is_known, is_primitive};
 use declaration_parser::faults::Faults;
@@ -112,14 +111,46 @@ impl<'a> Scopes<'a> {
         }
     }
 
+    /// Whether a module and those round it have the names of a path.
+    fn ends_path(&self, module: usize, path: &Path) -> bool {
+        let mut found = Meaning::Module(module);
+        for place in (0..path.count).rev() {
+            let name = path.at(place);
+            match found {
+                _ if is_start(name) => return place == 0 && path.count > 1,
+                Meaning::Module(at) if self.scope(at).name == name => found = self.around_module(
+                    at,
+                ),
+                _ => return false,
+            }
+        }
+        true
+    }
+
+    /// The module with all names of a path that has this name too.
+    fn module_asked(&self, path: &Path, name: Name) -> Meaning {
+        let mut found = Meaning::Nothing;
+        for (_, place) in self.members.range((name, 0)..=(name, usize::MAX)) {
+            if is_within(&self.scopes, Step::All, *place) && self.ends_path(*place, path) {
+                found = found.both(Meaning::Module(*place));
+            }
+        }
+        found
+    }
+
     /// What a name that is asked for stands for: a marked type or an alias, outside of bodies if there is one.
     pub fn find_asked(&self, path: &Path, name: Name) -> Found
         ensures only { IsOnlyOfAStep self.now name space.Asked result }
     {
-        let named = Step::Module(path.before());
+        let module = self.module_asked(path, name);
         for step in [Step::All, Step::Bodies] {
             // a path leads into no body
-            let step = if path.count > 0 { named } else { step };
+            let step = match module {
+                _ if path.count == 0 => step,
+                Meaning::Module(place) => Step::Scope(place),
+                Meaning::Nothing => return Found::Not,
+                _ => return Found::Two,
+            };
             match self.only(step, name, Space::Asked) {
                 Only::Nothing => {}
                 Only::One(item) => return found_as(&item),
@@ -129,23 +160,48 @@ impl<'a> Scopes<'a> {
         Found::Not
     }
 
+    /// The name of a module.
+    fn module_name(&self, module: usize) -> &str {
+        self.tokens.text(self.scope(module).name)
+    }
+
+    /// Whether another module of the same name has something of this name too.
+    fn has_twin(&self, item: &Item) -> bool {
+        let module = self.scope(item.scope).name;
+        for it in &self.items {
+            if it.name == item.name
+                && it.scope != item.scope
+                && is_within(&self.scopes, Step::Module(module), it.scope)
+            {
+                return true;
+            }
+        }
+        false
+    }
+
+    /// The name of the module round that of an item, if it tells it from others.
+    fn outer_name(&self, item: &Item) -> &str {
+        match self.around_module(item.scope) {
+            Meaning::Module(outer) if self.has_twin(item) => self.module_name(outer),
+            _ => "",
+        }
+    }
+
     /// Appends the paths of what a name may stand for, each once.
     pub fn put_paths(&self, faults: &mut Faults, name: Name) {
         let mut before = ", as in `";
-        let mut last = "";
+        let mut last = ("", "");
         for item in &self.items {
             if item.name != name || !is_within(&self.scopes, Step::All, item.scope) {
                 continue;
             }
-            let it = self.scope(item.scope);
-            let module = match it.kind {
-                Kind::File => module_of_file(self.tokens.name_of_file(it.file)),
-                _ => self.tokens.text(it.name),
-            };
-            if !module.is_empty() && module != last {
-                faults.put_all(&[before, module, "::", self.tokens.text(name), "`"]);
+            let (outer, module) = (self.outer_name(item), self.module_name(item.scope));
+            if !module.is_empty() && (outer, module) != last {
+                let colons = if outer.is_empty() { "" } else { "::" };
+                let name = self.tokens.text(name);
+                faults.put_all(&[before, outer, colons, module, "::", name, "`"]);
                 before = " or `";
-                last = module;
+                last = (outer, module);
             }
         }
     }

@@ -8,7 +8,7 @@ use declaration_parser::texts::is_listed;
 const ROOTS: &str = "lib main";
 
 /// A path without its last name, and that name.
-fn split_last(path: &str) -> (&str, &str) {
+pub(super) fn split_last(path: &str) -> (&str, &str) {
     path.rsplit_once('/').unwrap_or(("", path))
 }
 
@@ -43,6 +43,16 @@ fn has_roots(folder: &str) -> bool {
 fn is_in_src(folder: &str) -> bool {
     let is_below = folder.starts_with("src/") || folder.contains("/src/");
     split_last(folder).1 == "src" || (is_below && !folder.starts_with('/'))
+}
+
+/// The folder of the crate in whose `src` a file is; nothing if it is in none.
+fn crate_folder(file: &str) -> Option<&str> {
+    let (folder, _) = parts_of(file);
+    match folder.rsplit_once("/src/") {
+        _ if folder == "src" || folder.starts_with("src/") => Some(""),
+        Some((before, _)) => Some(before),
+        None => folder.strip_suffix("/src"),
+    }
 }
 
 /// The module that a file is: by its name, or by its folder's.
@@ -103,9 +113,11 @@ impl<'a> Scopes<'a> {
     /// What the name of a crate means: the only library whose folder has it, a known one, or what `extern crate` says.
     pub(super) fn crate_of(&self, name: Name) -> Meaning {
         let mut found = Meaning::Nothing;
+        // a folder may be called so, but not the crate in it
+        let is_of_language = is_listed(self.tokens.text(name), "alloc core std");
         for file in 0..self.tokens.files.len() {
             let (_, stem) = parts_of(self.tokens.name_of_file(file));
-            if self.scope(file).name == name && stem == "lib" {
+            if self.scope(file).name == name && stem == "lib" && !is_of_language {
                 found = found.both(Meaning::Module(file));
             }
         }
@@ -118,6 +130,16 @@ impl<'a> Scopes<'a> {
             }
         }
         found
+    }
+
+    /// Whether two scopes are in the `src` of different folders.
+    pub(super) fn are_of_two_crates(&self, scope: usize, other: usize) -> bool {
+        let own = crate_folder(self.tokens.name_of_file(self.scope(scope).file));
+        let there = crate_folder(self.tokens.name_of_file(self.scope(other).file));
+        match (own, there) {
+            (Some(own), Some(there)) => own != there,
+            _ => false,
+        }
     }
 
     /// Whether a module may have a file that isn't where the module's name says.

@@ -6,7 +6,7 @@ use declaration_parser::tokens::{Word, word_of};
 
 // What is said after a name that isn't taken.
 pub(super) const BROUGHT_IN: &str =
-    "` is brought in by a `use`: name the file of its declaration too, or write the type that is on the wire";
+    "` is brought in by a `use`: name the file of its declaration too (a crate is called as its folder), or write the type that is on the wire";
 
 pub(super) const BY_STAR: &str =
     "` may be what a `use` with `*` or a macro brings in: write its whole path, or name the file of its declaration too";
@@ -179,8 +179,14 @@ impl<'a> Scopes<'a> {
             if *there == module || !is_within(&self.scopes, Step::All, *there) {
                 continue;
             }
-            let it = self.own(*there, name, space);
-            is_led = is_led || (!it.is_nothing() && self.leads_to(module, *there));
+            let is_there = self.leads_to(module, *there);
+            // what a module brings in isn't seen where no `*` leads to it
+            let it = if is_there {
+                self.own(*there, name, space)
+            } else {
+                self.declared(*there, name, space).0
+            };
+            is_led = is_led || (is_there && !it.is_nothing());
             found = found.both(it);
             if matches!(found, Meaning::Doubtful) {
                 break;
@@ -369,7 +375,7 @@ impl<'a> Scopes<'a> {
         for place in 1..path.count {
             let name = path.at(place);
             found = match found {
-                Meaning::Lost => self.only_module(before, name),
+                Meaning::Lost => self.only_module(scope, before, name),
                 found => self.next(found, name, Space::Modules),
             };
             before = name;
@@ -378,13 +384,15 @@ impl<'a> Scopes<'a> {
     }
 
     /// What a name means after a module that these files don't have: the only module of that name.
-    fn only_module(&self, before: Name, name: Name) -> Meaning {
+    fn only_module(&self, scope: usize, before: Name, name: Name) -> Meaning {
         let mut found = Meaning::Nothing;
         for (place, it) in self.scopes.iter().enumerate() {
             if it.kind == Kind::Misnamed && it.name == name {
                 return Meaning::Wrong(BROUGHT_IN);
             }
-            if is_within(&self.scopes, Step::Module(name), place) {
+            if is_within(&self.scopes, Step::Module(name), place)
+                && !self.are_of_two_crates(scope, place)
+            {
                 found = found.both(Meaning::Module(place));
             }
         }

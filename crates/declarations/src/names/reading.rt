@@ -1,10 +1,14 @@
 //! What the items of files declare, and what macros seem to, as far as their rules and calls say.
+use super::folders::split_last;
 use super::meaning::Meaning;
 use super::{Import, Item, Kind, NO_NAME, Name, Scopes, Tokens, What, Words};
 use crate::known::is_everywhere;
 use declaration_parser::items::{self, ItemKind};
 use declaration_parser::texts::is_listed;
 use declaration_parser::tokens::Word;
+
+/// Macros of other crates that make no name but those that they are handed.
+const OF_HANDED: &str = "bind_interrupts esp_app_desc timestamp";
 
 /// Why what a macro makes isn't taken.
 const MADE: &str =
@@ -139,14 +143,36 @@ impl<'a> Scopes<'a> {
     fn read_call(&mut self, item: &items::Item) {
         let has_rules = self.has_rules(self.tokens.first(item.words).name);
         match self.tokens.first_text(item.words) {
+            "include" => self.read_include(item),
             _ if self.is_inner(item.scope) => self.read_call_of(item),
-            "include" => self.add_include(item.scope),
             "endpoints" | "topics" if !has_rules => {
                 self.failed = self.endpoints.push(item.inside).is_err() || self.failed;
             }
             "bitflags" if !has_rules => self.read_made(item.scope, false, item.inside, true),
             _ => self.read_call_of(item),
         }
+    }
+
+    /// Reads the call of `include!`: its scope may have any name, and the file that it names has any of those round the call.
+    fn read_include(&mut self, item: &items::Item) {
+        self.add_include(item.scope);
+        for file in 0..self.tokens.files.len() {
+            if self.has_file_name(item.inside, file) {
+                self.add_include(file);
+            }
+        }
+    }
+
+    /// Whether one of these words is a path with the last name of a file.
+    fn has_file_name(&self, words: Words, file: usize) -> bool {
+        let (_, name) = split_last(self.tokens.name_of_file(file));
+        for place in words.from..words.to {
+            let text = self.tokens.text(self.tokens.at(place).name);
+            if !name.is_empty() && split_last(text.trim_matches('"')).1 == name {
+                return true;
+            }
+        }
+        false
     }
 
     /// Whether these files have the rules of a macro of this name.
@@ -203,7 +229,7 @@ impl<'a> Scopes<'a> {
         let is_alone = start == item.words.from;
         let is_own = matches!(tokens.at(start).word, Word::Crate | Word::Own | Word::Super);
         let is_near = (is_alone || is_own) && !self.is_imported(item.scope, name, is_alone);
-        let mut is_foreign = !self.is_inner(item.scope);
+        let mut is_foreign = !self.is_inner(item.scope) && !is_listed(text, OF_HANDED);
         let (mut is_open, _) = made_by(tokens, item.inside);
         for place in 0..self.rules.len() {
             if let Some(rules) = self.rules.get(place).copied()
