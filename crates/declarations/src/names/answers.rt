@@ -160,11 +160,6 @@ impl<'a> Scopes<'a> {
         Found::Not
     }
 
-    /// The name of a module.
-    fn module_name(&self, module: usize) -> &str {
-        self.tokens.text(self.scope(module).name)
-    }
-
     /// Whether another module of the same name has something of this name too.
     fn has_twin(&self, item: &Item) -> bool {
         let module = self.scope(item.scope).name;
@@ -180,26 +175,33 @@ impl<'a> Scopes<'a> {
     }
 
     /// The name of the module round that of an item, if it tells it from others.
-    fn outer_name(&self, item: &Item) -> &str {
+    fn outer_name(&self, item: &Item) -> Name {
         match self.around_module(item.scope) {
-            Meaning::Module(outer) if self.has_twin(item) => self.module_name(outer),
-            _ => "",
+            Meaning::Module(outer) if self.has_twin(item) => self.scope(outer).name,
+            _ => NO_NAME,
         }
+    }
+
+    /// Appends a path: the name of a module, with that of the module round it, if there is one, and a name in it.
+    fn put_path(&self, faults: &mut Faults, outer: Name, module: Name, name: Name) {
+        if outer != NO_NAME {
+            faults.put_all(&[self.tokens.text(outer), "::"]);
+        }
+        faults.put_all(&[self.tokens.text(module), "::", self.tokens.text(name), "`"]);
     }
 
     /// Appends the paths of what a name may stand for, each once.
     pub fn put_paths(&self, faults: &mut Faults, name: Name) {
         let mut before = ", as in `";
-        let mut last = ("", "");
+        let mut last = (NO_NAME, NO_NAME);
         for item in &self.items {
             if item.name != name || !is_within(&self.scopes, Step::All, item.scope) {
                 continue;
             }
-            let (outer, module) = (self.outer_name(item), self.module_name(item.scope));
-            if !module.is_empty() && (outer, module) != last {
-                let colons = if outer.is_empty() { "" } else { "::" };
-                let name = self.tokens.text(name);
-                faults.put_all(&[before, outer, colons, module, "::", name, "`"]);
+            let (outer, module) = (self.outer_name(item), self.scope(item.scope).name);
+            if module != NO_NAME && (outer, module) != last {
+                faults.put(before);
+                self.put_path(faults, outer, module, name);
                 before = " or `";
                 last = (outer, module);
             }
