@@ -22,7 +22,7 @@ use Rattle.journal.specs.Records.{past, past_all}
 use Rattle.journal.specs.Places.{Located, answers_in, IsLocatedIn, AreLocatedIn, Numbering, numbered_from, furthest, believed, numbered_behind, all_believed, numbered_after}
 use Rattle.journal.specs.declared.numbers.Count.{Count}
 use Rattle.journal.specs.Visits.{VisitorLaws}
-use Rattle.journal.specs.Reading.{IsRead, IsReadTo, HearsLog, HearsMore, HandsOnBelieved, IsHandedTo, ReadCause, numbering_of}
+use Rattle.journal.specs.Reading.{IsRead, IsReadTo, HearsLog, HearsMore, HandsOnBelieved, HearsPart, IsHandedTo, ReadCause, SoFar, numbering_of}
 use Rattle.journal.specs.declared.reading.ReadError.{ReadError}
 use Rattle.journal.specs.declared.reading.ReadError.TheVariants.{Fault, NoMemory as NoMemoryFound, Halted}
 
@@ -290,3 +290,45 @@ pub handed_more : {S V : Type 0} {took : S → List (Answer (ℕ × V)) → S �
 handed_more laws (Ok None) before through old mid new c later more t h = (more ++ [], laws.more old mid new more [] t h.0)
 handed_more laws (Ok (Some a)) before through old mid new c later more t h = (more ++ believed c before a ∷ [], laws.more old mid new more (believed c before a ∷ []) t h.0)
 handed_more laws (Err e) before through old mid new c later more t h = absurd h
+
+module _ {S : Type 0} (P Q halts : S → Type 0) where
+  -- what is known of the visitor before is known of it when reading stopped
+  pub so_far_here : (mid new : S) (e : ReadError) → SoFar (λ v. v ≡ mid) halts new e → P mid → SoFar P halts new e
+  so_far_here mid new Fault h p = subst P (sym h) p
+  so_far_here mid new NoMemoryFound h p = subst P (sym h) p
+  so_far_here mid new Halted (v, h, stops) p = (v, subst P (sym h) p, stops)
+
+  -- and what follows from that
+  so_far_map : (new : S) (e : ReadError) → ((v : S) → P v → Q v) → SoFar P halts new e → SoFar Q halts new e
+  so_far_map new Fault f h = f new h
+  so_far_map new NoMemoryFound f h = f new h
+  so_far_map new Halted f (v, h, stops) = (v, f v h, stops)
+
+module _ {S V : Type 0} {N : ℕ} {took : S → List (Answer (ℕ × V)) → S → Type 0} (laws : VisitorLaws took) (judging : Judging (ℕ × V)) (first : ℕ) (old mid new : S) where
+  -- what was handed on of a chunk, behind what was before it
+  handed_part : (bytes room : List ℕ) (at n : ℕ) (before : List (Answer (ℕ × V))) → drop at bytes ≡ take n room ++ drop (at + n) bytes → at ≡ length (take at bytes) → took old before mid
+      → HearsPart N took judging first mid new before (take at bytes) (take n room) → IsHandedTo took judging N first old new bytes
+  handed_part bytes room at n before e long b p =
+      let k = length p.done in
+      let after : drop at bytes ≡ p.done ++ (p.rest ++ drop (at + n) bytes) = e ∙ ap (λ x. x ++ drop (at + n) bytes) p.piece_is ∙ append_assoc p.done p.rest (drop (at + n) bytes) in
+      let front : take k (drop at bytes) ≡ p.done = ap (take k) after ∙ take-append-le k p.done (p.rest ++ drop (at + n) bytes) (omega arith) ∙ take_all k p.done (omega arith) in
+      let all : take (at + k) bytes ≡ take at bytes ++ p.done = take-add at k bytes ∙ ap (λ x. take at bytes ++ x) front in
+      record {
+        count = at + k;
+        within = (let size = ap length all ∙ length-append (take at bytes) p.done in let part = length-take (at + k) bytes in omega (arith, size, part, long));
+        answers = before ++ p.hears.more;
+        handed = laws.more old mid new before p.hears.more b p.hears.handed;
+        numbers = numbering_of p.count;
+        read = subst (λ x. IsReadTo judging.holds judging.reads N first (before ++ p.hears.more) (numbering_of p.count) x) (sym all) p.hears.hears.read;
+      }
+
+-- what was handed on when a chunk wasn't read to its end
+pub so_far_read : {S V : Type 0} {N : ℕ} {took : S → List (Answer (ℕ × V)) → S → Type 0} (halts : S → Type 0) → VisitorLaws took → (judging : Judging (ℕ × V)) (first : ℕ) (old mid new : S) (receiver : Reception (ArrayBuffer N)) (count : Count) (held : Option (List ℕ)) (room : List ℕ) (n : ℕ) (e : ReadError)
+    → GaveAt held count.heard n room → IfSome held (λ bytes. HearsMore took judging.holds judging.reads first old mid receiver [] count (take count.heard bytes))
+    → ((stream : List ℕ) (answers : List (Answer (ℕ × V))) → HearsLog judging.holds judging.reads first receiver answers count stream → SoFar (λ v. HearsPart N took judging first mid v answers stream (take n room)) halts new e)
+    → IfSome held (λ bytes. SoFar (λ v. IsHandedTo took judging N first old v bytes) halts new e)
+so_far_read halts laws judging first old mid new receiver count None room n e g h f = tt
+so_far_read {N} {took} halts laws judging first old mid new receiver count (Some bytes) room n e g h f =
+    so_far_map (λ v. HearsPart N took judging first mid v h.more (take count.heard bytes) (take n room)) (λ v. IsHandedTo took judging N first old v bytes) halts new e
+    (λ v p. handed_part laws judging first old mid v bytes room count.heard n h.more g h.hears.heard h.handed p)
+    (f (take count.heard bytes) h.more h.hears)

@@ -13,6 +13,8 @@ use Rattle.journal.specs.Records.{numbered, record_of}
 use Rattle.journal.specs.Reading.{IsHanded}
 use Rattle.journal.specs.declared.log.AppendError.{AppendError}
 use Rattle.journal.specs.declared.log.AppendError.TheVariants.{Refused, Line, Spent, Full}
+use Rattle.journal.specs.declared.log.OpenError.{OpenError}
+use Rattle.journal.specs.declared.log.OpenError.TheVariants.{Line as NoZero, Sync, Read}
 
 -- what an append did, as a send of a clean sender on the log's line, by its result: the record with this number went out whole, or
 -- a beginning of its bytes did, or it was refused
@@ -50,6 +52,22 @@ abbrev pub OnStore : Result ℕ AppendError → Type 0 → Type 0
 OnStore (Err Line) P = P
 OnStore _ P = Unit {0}
 
+-- a fact unless it is refused because the journal is spent
+abbrev pub UnlessSpent : Result ℕ AppendError → Type 0 → Type 0
+UnlessSpent (Ok m) P = P
+UnlessSpent (Err Line) P = P
+UnlessSpent (Err (Refused e)) P = P
+UnlessSpent (Err Spent) P = Unit {0}
+UnlessSpent (Err Full) P = P
+
+-- a fact if there was a number for the record
+abbrev pub OnNumbered : Result ℕ AppendError → Type 0 → Type 0
+OnNumbered (Ok m) P = P
+OnNumbered (Err Line) P = P
+OnNumbered (Err (Refused e)) P = P
+OnNumbered (Err Spent) P = Unit {0}
+OnNumbered (Err Full) P = Unit {0}
+
 -- a fact if nothing was tried
 abbrev pub Unless : Result ℕ AppendError → Type 0 → Type 0
 Unless (Ok m) P = Unit {0}
@@ -65,6 +83,18 @@ OnTried (Err Line) P = P
 OnTried (Err (Refused e)) P = Unit {0}
 OnTried (Err Spent) P = Unit {0}
 OnTried (Err Full) P = Unit {0}
+
+-- what a log that wasn't opened got: nothing, or the zero
+abbrev pub put_before : OpenError → List ℕ
+put_before NoZero = []
+put_before Sync = 0 ∷ []
+put_before (Read e) = 0 ∷ []
+
+-- a fact if it was read, though not to its end
+abbrev pub OnRead : OpenError → Type 0 → Type 0
+OnRead NoZero P = Unit {0}
+OnRead Sync P = Unit {0}
+OnRead (Read e) P = P
 
 -- where a log stands: its line, how many of the line's bytes no crash takes, the number of the next
 -- record, and whether an append or a sync failed

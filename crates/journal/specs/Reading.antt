@@ -105,12 +105,32 @@ pub record IsHandedTo {S V : Type 0} (took : S → List (Answer (ℕ × V)) → 
   -- they are what is read of so many bytes
   pub read : IsReadTo judging.holds judging.reads limit first answers numbers (take count bytes)
 
--- a fact if a read failed
-abbrev pub OnFault : Result ℕ ReadError → Type 0 → Type 0
-OnFault (Ok n) P = Unit {0}
-OnFault (Err Fault) P = P
-OnFault (Err NoMemory) P = Unit {0}
-OnFault (Err Halted) P = Unit {0}
+-- the visitor when reading stopped: it was handed this much; or, if it halted, so was the visitor that did
+abbrev pub SoFar : {S : Type 0} → (S → Type 0) → (S → Type 0) → S → ReadError → Type 0
+SoFar {S} handed halts new Fault = handed new
+SoFar {S} handed halts new NoMemory = handed new
+SoFar {S} handed halts new Halted = (mid : S) × handed mid × halts mid
+
+-- the visitor when opening failed: as it was, or as reading left it
+abbrev pub OpenSoFar : {S : Type 0} → (ReadError → Type 0) → S → S → OpenError → Type 0
+OpenSoFar {S} read old new Line = new ≡ old
+OpenSoFar {S} read old new Sync = new ≡ old
+OpenSoFar {S} read old new (Read e) = read e
+
+-- results of some of a chunk's bytes were handed on, and nothing else
+pub record HearsPart {S V : Type 0} (N : ℕ) (took : S → List (Answer (ℕ × V)) → S → Type 0) (judging : Judging (ℕ × V)) (first : ℕ) (old new : S) (answers : List (Answer (ℕ × V))) (stream piece : List ℕ) : Type 0 where
+  -- these bytes
+  pub done : List ℕ
+  -- the others
+  pub rest : List ℕ
+  -- together they are the chunk
+  pub piece_is : piece ≡ done ++ rest
+  -- a receiver that stands after them
+  pub receiver : Reception (ArrayBuffer N)
+  -- the count then
+  pub count : Count
+  -- more was handed on
+  pub hears : HearsMore took judging.holds judging.reads first old new receiver answers count (stream ++ done)
 
 -- some results were handed on, or none
 abbrev pub HasHanded : {S A : Type 0} → (S → List A → S → Type 0) → S → S → Type 0

@@ -1,10 +1,11 @@
 //! Appending to a log.
 ghost use Rattle.std.specs.Prelude.{◌≡◌, ◌⊎◌, ℕ, ◌+◌, ◌-◌, ◌^◌, ◌<◌, ◌≤◌, max, [], true, false, IfOk, IfErr, IfSome, OnOk, OnErr};
+ghost use Rattle.line_io.specs.Device.{Wrote};
 ghost use Rattle.line_io.specs.Transfers.{Failed};
 ghost use Rattle.link.specs.Listening.{ReceiverFitsInMemory};
 ghost use Rattle.journal.specs.Store.{Settles};
-ghost use Rattle.journal.specs.Reading.{HaltsBehind, OpenCause};
-ghost use Rattle.journal.specs.Appending.{Appended, next_after, spent_after, OnStore, OnTried, Unless, IsOpened};
+ghost use Rattle.journal.specs.Reading.{HaltsBehind, IsHandedTo, OpenCause, OpenSoFar, SoFar};
+ghost use Rattle.journal.specs.Appending.{Appended, next_after, spent_after, OnNumbered, OnRead, OnStore, OnTried, Unless, UnlessSpent, IsOpened, put_before};
 
 use crate::framing::frame_record;
 use crate::reading::{ReadError, read_all};
@@ -58,7 +59,7 @@ pub enum OpenError {
 pub struct Unopened<S> {
     /// Why it wasn't opened.
     pub cause: OpenError,
-    /// The store that was given; it may have got the zero.
+    /// The store that was given. It got the zero, unless that couldn't be appended.
     pub store: S,
 }
 
@@ -88,10 +89,11 @@ impl<S: Store, const N: usize> Journal<S, N> {
     /// in both cases.
     ///
     /// # Errors
-    /// The store is returned with the reason; it may have got the zero.
-    /// - `Line`: the zero couldn't be appended.
-    /// - `Sync`: the store couldn't be synced.
-    /// - `Read`: a read failed, a value couldn't be allocated, or the visitor halted.
+    /// The store is returned with the reason; nothing that was settled is less so.
+    /// - `Line`: the zero couldn't be appended. Nothing was written, and the visitor was handed nothing.
+    /// - `Sync`: the store couldn't be synced. It has got the zero, and the visitor was handed nothing.
+    /// - `Read`: a read failed, a value couldn't be allocated, or the visitor halted. The store has got the zero and is settled;
+    ///   the visitor was handed what `read_all` says.
     ///
     /// # Requires
     /// N is at least 2, and a receiver of N bytes fits in memory (`ReceiverFitsInMemory`); a concrete N costs nothing.
@@ -125,6 +127,15 @@ impl<S: Store, const N: usize> Journal<S, N> {
             (S.line store) (log_place S.line S.settled j) visitor.old visitor.new) }
         ensures cause { IfErr result (λ e. OpenCause (Failed (S.line store) (S.line e.store))
             (M.judging messages.now).growing (HaltsBehind V.took V.halts visitor.old) e.cause) }
+        ensures left { IfErr result
+            (λ e. Wrote (S.line store) (S.line e.store) (put_before e.cause)) }
+        ensures safe { IfErr result (λ e. S.settled store ≤ S.settled e.store) }
+        ensures settled { IfErr result (λ e.
+            OnRead e.cause (Settles (S.line e.store).told (S.settled e.store))) }
+        ensures so_far { IfErr result (λ e. OpenSoFar (λ c.
+            IfSome (S.line e.store).told (λ bytes. SoFar (λ v. IsHandedTo V.took
+            (M.judging messages.now) N first visitor.old v bytes) V.halts visitor.new c))
+            visitor.old visitor.new e.cause) }
     {
         let mut store = store;
         if put(&mut store, &[0]) == 0 {
@@ -241,7 +252,8 @@ impl<S: Store, const N: usize> Journal<S, N> {
             (S.line (store_of self.new)) }
         ensures next { next_of self.new ≡ next_after (next_of self.old) result }
         ensures spent { spent_of self.new ≡ spent_after (spent_of self.old) result }
-        ensures number { OnOk result (next_of self.old < 2 ^ 64 - 1) }
+        ensures ready { UnlessSpent result (spent_of self.old ≡ false) }
+        ensures number { OnNumbered result (next_of self.old < 2 ^ 64 - 1) }
         ensures valid { OnOk result (T.form.valid value.now) }
         ensures untouched { Unless result (store_of self.new ≡ store_of self.old) }
         ensures settled { S.settled (store_of self.new) ≡ S.settled (store_of self.old) }
@@ -250,6 +262,8 @@ impl<S: Store, const N: usize> Journal<S, N> {
         ensures once { S.whole (store_of self.old) → OnTried result
             ((S.line (store_of self.new)).calls_left
             ≡ (S.line (store_of self.old)).calls_left - 1) }
+        ensures few { (S.line (store_of self.old)).calls_left
+            ≤ (S.line (store_of self.new)).calls_left + N }
         ensures cause { OnStore result
             (Failed (S.line (store_of self.old)) (S.line (store_of self.new))) }
     {
@@ -286,6 +300,9 @@ impl<S: Store, const N: usize> Journal<S, N> {
             ((S.line (store_of self.new)).faults ≡ (S.line (store_of self.old)).faults) }
         ensures cause { OnErr result ((spent_of self.old ≡ true)
             ⊎ Failed (S.line (store_of self.old)) (S.line (store_of self.new))) }
+        ensures untouched { spent_of self.old ≡ true → store_of self.new ≡ store_of self.old }
+        ensures few { (S.line (store_of self.old)).calls_left
+            ≤ (S.line (store_of self.new)).calls_left + 1 }
         ensures next { next_of self.new ≡ next_of self.old }
         ensures ready { OnOk result ((spent_of self.old ≡ false) × (spent_of self.new ≡ false)) }
         ensures spent { OnErr result (spent_of self.new ≡ true) }

@@ -3,7 +3,7 @@ ghost use Rattle.std.specs.Prelude.{◌≡◌, ℕ, ◌+◌, ◌-◌, ◌^◌, �
 ghost use Rattle.line_io.specs.Transfers.{Failed};
 ghost use Rattle.link.specs.Listening.{ReceiverFitsInMemory};
 ghost use Rattle.link.specs.declared.receiver.Answer.{Answer};
-ghost use Rattle.journal.specs.Reading.{HandsOnBelieved, HearsLog, HearsMore, HasHanded, HaltsBehind, ReadCause, IsHanded, IsHandedTo, OnFault, numbering_of};
+ghost use Rattle.journal.specs.Reading.{HandsOnBelieved, HearsLog, HearsMore, HasHanded, HaltsBehind, ReadCause, IsHanded, IsHandedTo, HearsPart, SoFar, numbering_of};
 
 use crate::numbers::{Count, believe, count_on};
 use crate::stores::Store;
@@ -44,6 +44,8 @@ fn hand_on<T: Drop, V: Visitor<T>>(
     ensures heard { IfOk result (λ later. later.heard ≡ count.heard) }
     ensures cause { IfErr result (λ e. ReadCause ⊥ true (V.halts visitor.old) e) }
     ensures memory { result ≡ Err ReadError.NoMemory → IsErr answer }
+    ensures so_far { IfErr result (λ e.
+        SoFar (λ v. v ≡ visitor.old) V.halts visitor.new e) }
 {
     match answer {
         Ok(None) => Ok(count),
@@ -91,6 +93,12 @@ fn hear<T: Drop, M: MessageReader<(u64, T)>, V: Visitor<T>, const N: usize>(
         first visitor.old visitor.new receiver.new answers later (stream ++ piece.now)) }
     ensures on { IfOk result (λ later. later.heard ≡ count.heard + length piece.now) }
     ensures handed { OnOk result (HasHanded V.took visitor.old visitor.new) }
+    ensures so_far { IfErr result (λ e. (first : ℕ) (stream : List ℕ)
+        (answers : List (Answer (ℕ × T)))
+        → HearsLog (M.judging messages.now).holds (M.judging messages.now).reads
+        first receiver.old answers count stream
+        → SoFar (λ v. HearsPart N V.took (M.judging messages.now) first visitor.old v answers
+        stream piece.now) V.halts visitor.new e) }
     ensures cause { IfErr result (λ e. ReadCause ⊥ (M.judging messages.now).growing
         (HaltsBehind V.took V.halts visitor.old) e) }
 {
@@ -117,8 +125,8 @@ fn hear<T: Drop, M: MessageReader<(u64, T)>, V: Visitor<T>, const N: usize>(
 ///
 /// # Errors
 /// - `Fault`: a read failed. The visitor was handed the results of what was read before.
-/// - `NoMemory`: a value couldn't be allocated.
-/// - `Halted`: the visitor halted.
+/// - `NoMemory`: a value couldn't be allocated. The visitor was handed the results before it.
+/// - `Halted`: the visitor halted. It was handed the results before, and no others.
 ///
 /// # Requires
 /// A receiver of N bytes fits in memory (`ReceiverFitsInMemory`); a concrete N costs nothing.
@@ -143,8 +151,9 @@ pub fn read_all<T: Drop, M: MessageReader<(u64, T)>, S: Store, V: Visitor<T>, co
     requires { ReceiverFitsInMemory N.row }
     ensures read { IfOk result (λ next. IfSome (S.line store.old).told (λ bytes.
         IsHanded V.took (M.judging messages.now) N first visitor.old visitor.new next bytes)) }
-    ensures so_far { OnFault result (IfSome (S.line store.old).told (λ bytes.
-        IsHandedTo V.took (M.judging messages.now) N first visitor.old visitor.new bytes)) }
+    ensures so_far { IfErr result (λ e. IfSome (S.line store.old).told (λ bytes.
+        SoFar (λ v. IsHandedTo V.took (M.judging messages.now) N first visitor.old v bytes)
+        V.halts visitor.new e)) }
     ensures cause { IfErr result (λ e. ReadCause (Failed (S.line store.old) (S.line store.new))
         (M.judging messages.now).growing (HaltsBehind V.took V.halts visitor.old) e) }
     ensures few { IfSome (S.line store.old).told (λ bytes. (S.line store.old).calls_left

@@ -1,9 +1,12 @@
 //! Opening a log to append, by the records that count.
-ghost use Rattle.std.specs.Prelude.{◌<◌, true, IfOk, IfErr};
+ghost use Rattle.std.specs.Prelude.{◌<◌, ◌≤◌, true, IfOk, IfErr};
+ghost use Rattle.line_io.specs.Device.{Wrote};
 ghost use Rattle.line_io.specs.Transfers.{Failed};
 ghost use Rattle.link.specs.Listening.{ReceiverFitsInMemory};
+ghost use Rattle.journal.specs.Appending.{OnRead, put_before};
 ghost use Rattle.journal.specs.Logs.{log_place};
 ghost use Rattle.journal.specs.Reading.{HaltsBehind, OpenCause};
+ghost use Rattle.journal.specs.Store.{Settles};
 ghost use Rattle.journal_scan.specs.Opening.{IsOpenedBy, IsReadErrorOf};
 
 use crate::checking::{CheckError, Report, check};
@@ -32,7 +35,7 @@ fn read_error(e: CheckError) -> ReadError
 /// nothing, whatever its number. Returns the log, and the report of the check.
 ///
 /// # Errors
-/// The store is returned with the reason; it may have got the zero. See `Journal::open`.
+/// The store is returned with the reason. What it has got, and what is settled, is as for `Journal::open`.
 ///
 /// # Requires
 /// N is at least 2, and a receiver of N bytes fits in memory (`ReceiverFitsInMemory`); a concrete N costs nothing.
@@ -50,6 +53,11 @@ pub fn open_by<T: DeserializeOwned + Exact, S: Store, W: Watcher<T>, const N: us
         (S.line store) (log_place S.line S.settled r.0) watcher.old watcher.new r.1) }
     ensures cause { IfErr result (λ e. OpenCause (Failed (S.line store) (S.line e.store)) true
         (HaltsBehind W.told W.halts watcher.old) e.cause) }
+    ensures left { IfErr result
+        (λ e. Wrote (S.line store) (S.line e.store) (put_before e.cause)) }
+    ensures safe { IfErr result (λ e. S.settled store ≤ S.settled e.store) }
+    ensures settled { IfErr result (λ e.
+        OnRead e.cause (Settles (S.line e.store).told (S.settled e.store))) }
 {
     let mut store = store;
     if put(&mut store, &[0]) == 0 {

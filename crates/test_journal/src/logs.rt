@@ -2,7 +2,7 @@
 
 use crate::bytes::{are_bytes, check};
 use journal::stores::{MemoryStore, Store, SyncFault, put};
-use journal::{Journal, Listed, Unheard};
+use journal::{AppendError, Journal, Listed, Unheard};
 use link::{Answer, OfType, Strict};
 use postcard::{DeserializeOwned, Exact, Serialize};
 use std::alloc::Global;
@@ -19,14 +19,21 @@ type Log = Journal<MemoryStore, N>;
 
 type List = Listed<u32>;
 
-// How many of the values were appended before one wasn't.
-fn append_all<T: Serialize>(journal: &mut Log, values: &[T]) -> usize {
+// Whether a log whose store failed takes nothing more.
+fn stays_spent<T: Serialize>(journal: &mut Log, value: &T) -> bool {
+    journal.is_spent()
+        && journal.append(value) == Err(AppendError::Spent)
+        && journal.sync() == Err(SyncFault)
+}
+
+// How many of the values were appended before the store failed; nothing if more are taken then.
+fn append_all<T: Serialize>(journal: &mut Log, values: &[T]) -> Option<usize> {
     for (done, value) in values.iter().enumerate() {
         if journal.append(value).is_err() {
-            return done;
+            return stays_spent(journal, value).then_some(done);
         }
     }
-    values.len()
+    Some(values.len())
 }
 
 /// A log in memory of the values, opened once; how many appends were Ok.
@@ -37,7 +44,7 @@ pub fn write<T: DeserializeOwned + Exact>(
 ) -> (usize, MemoryStore) {
     match Log::open::<T, Strict<OfType>, Unheard>(alloc, store, 0, &Strict(OfType), &mut Unheard) {
         Ok(mut journal) => {
-            let done = append_all(&mut journal, values);
+            let done = append_all(&mut journal, values).unwrap_or(usize::MAX);
             (done, journal.into_store())
         }
         Err(e) => (0, e.store),

@@ -58,6 +58,7 @@ impl MemoryStore {
     /// Makes an append fail once, after `count` more bytes; an append before that takes what is left of them.
     pub fn fail_after(&mut self, count: usize)
         ensures fault { fault_in self.new ≡ Some count }
+        ensures line { line_in self.new ≡ line_in self.old }
         ensures bytes { bytes_in self.new ≡ bytes_in self.old }
         ensures settled { settled_in self.new ≡ settled_in self.old }
     {
@@ -78,7 +79,7 @@ impl MemoryStore {
         self.settled
     }
 
-    /// Returns the store after a crash, with all of its bytes settled; `None` when out of memory.
+    /// Returns the store after a crash, with all of its bytes settled; `None` when out of memory for the zeros.
     ///
     /// Of the bytes that aren't settled at most `left` remain; `zeros` zeros follow them, as a file system shows
     /// bytes that were never written.
@@ -98,6 +99,9 @@ impl MemoryStore {
         ensures bytes { IfSome result
             (λ m. bytes_in m ≡ take (settled_in self + left) (bytes_in self) ++ replicate zeros 0) }
         ensures settled { IfSome result (λ m. settled_in m ≡ length (bytes_in m)) }
+        ensures fresh { IfSome result (λ m. IsFresh (line_in m)) }
+        ensures sound { IfSome result (λ m. fault_in m ≡ None) }
+        ensures memory { result ≡ None → 0 < zeros }
     {
         let MemoryStore {
             mut bytes,

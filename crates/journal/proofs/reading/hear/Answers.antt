@@ -3,8 +3,8 @@ use Rattle.std.proofs.lemmas.List.{append-nil, nil_from_length, length-append, l
 use Rattle.link.specs.Decoding.{in_array}
 use Rattle.link.specs.Lemmas.Lengths.{parts_on}
 use Rattle.link.specs.Receivers.{IsBehind}
-use Rattle.journal.specs.Reading.{numbering_of, IsReadTo}
-use Rattle.journal.proofs.HearingLemmas.{read_on, heard_none, handed_more}
+use Rattle.journal.specs.Reading.{numbering_of, HearsPart, IsReadTo}
+use Rattle.journal.proofs.HearingLemmas.{read_on, heard_none, handed_more, if_passed, so_far_here}
 use Rattle.journal.proofs.reading.hear.Goals as goal
 
 pub loop-rest-init : goal.loop-rest-init
@@ -54,3 +54,12 @@ returns-clause-heard g c first stream answers h =
     let k = c.loop-rest.invariant.heard first stream answers h in
     let none : c.loop-rest.rest.now ≡ [] = nil_from_length c.loop-rest.rest.now (search rules) in
     rw (k.1 ∙ ap (λ x. k.0 ++ x) none ∙ append-nil k.0) k.2
+
+pub returns-in_err-count-clause-so_far : goal.returns-in_err-count-clause-so_far
+returns-in_err-count-clause-so_far g c =
+    if_passed c.from_residual.result c.in_err-count.field-0.0 _ c.from_residual.ensures.1
+    (λ first stream answers h.
+    let k = c.loop-rest.invariant.heard first stream answers h in
+    let P : g.row.V.Denot → Type 0 = λ v. HearsPart g.row.N g.V.Visitor.took (g.M.MessageReader.judging c.args.messages.now) first c.args.visitor.now v answers stream c.args.piece.now in
+    so_far_here P P g.V.Visitor.halts _ _ c.in_err-count.field-0.0 c.in_err-count.ensures.so_far
+    (record { done = k.0; rest = c.loop-rest.rest.now; piece_is = k.1; receiver = c.loop-rest.receiver; count = c.loop-rest.count; hears = k.2 }))

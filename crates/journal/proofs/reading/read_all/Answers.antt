@@ -3,7 +3,7 @@ use Rattle.std.specs.Prelude.{IfSome}
 use Rattle.std.proofs.lemmas.List.{length-take}
 use Rattle.line_io.specs.Calls.{Failed-later, read_quiet, read_failed}
 use Rattle.journal.specs.Reading.{HearsMore, IsHanded, numbering_of}
-use Rattle.journal.proofs.HearingLemmas.{read_whole, reads_on, reads_all, reads_none, heard_first, then_more, handed_to, few_calls, cause_on, if_passed}
+use Rattle.journal.proofs.HearingLemmas.{read_whole, reads_on, reads_all, reads_none, heard_first, then_more, handed_to, few_calls, cause_on, if_passed, so_far_read}
 use Rattle.journal.proofs.reading.read_all.Goals as goal
 
 pub loop-n-init : goal.loop-n-init
@@ -83,3 +83,9 @@ returns-in_err-count-in-Some-clause-cause g c =
     let before = c.loop-n.invariant.so_far in
     if_passed c.from_residual.result c.in_err-count-in-Some.field-0.0 _ c.from_residual.ensures.1
     (cause_on c.in_err-count-in-Some.field-0.0 _ _ _ _ (λ h. (before.0 ++ h.0, h.1, g.met.V.Visitor.laws.more _ _ _ _ _ before.1 h.2, h.3)) c.in_err-count-in-Some.ensures.cause)
+
+pub returns-in_err-count-in-Some-clause-so_far : goal.returns-in_err-count-in-Some-clause-so_far
+returns-in_err-count-in-Some-clause-so_far g c =
+    if_passed c.from_residual.result c.in_err-count-in-Some.field-0.0 _ c.from_residual.ensures.1
+    (so_far_read g.V.Visitor.halts g.met.V.Visitor.laws (g.M.MessageReader.judging c.args.messages.now) c.args.first c.args.visitor.now c.loop-n.visitor _ c.loop-n.receiver c.loop-n.count _ c.read_at.new.room c.in-Some.n c.in_err-count-in-Some.field-0.0
+    (rw c.loop-n.invariant.held at c.in-Some.ensures.bytes) c.loop-n.invariant.heard (c.in_err-count-in-Some.ensures.so_far c.args.first))
