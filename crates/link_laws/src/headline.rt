@@ -28,6 +28,12 @@ use std::alloc::Global;
 
 /// As `receive`; if the reader gives the line of a run, the results are what `told` says of the run.
 ///
+/// # Requires
+/// A receiver of N bytes fits in memory (`ReceiverFitsInMemory`); a concrete N costs nothing.
+///
+/// # Allocates
+/// The list, and what the values need.
+///
 /// # Example
 /// ```rust
 /// let all = headline::receive_run::<u32, _, 16>(rt.alloc(), In::new(&LINE, 2, None));
@@ -47,6 +53,12 @@ pub fn receive_run<T: DeserializeOwned, R: Inlet, const N: usize>(
 }
 
 /// As `receive_run`, with this sentinel.
+///
+/// # Requires
+/// A receiver of N bytes fits in memory (`ReceiverFitsInMemory`); a concrete N costs nothing.
+///
+/// # Allocates
+/// The list, and what the values need.
 pub fn receive_run_with_sentinel<T: DeserializeOwned, R: Inlet, const N: usize>(
     alloc: Global,
     reader: R,
@@ -63,6 +75,9 @@ pub fn receive_run_with_sentinel<T: DeserializeOwned, R: Inlet, const N: usize>(
 }
 
 /// As `receive_run`, by `receive_owned`, with a limit that is set at run time.
+///
+/// # Allocates
+/// The receiver's buffer, the list, and what the values need.
 pub fn receive_owned_run<T: DeserializeOwned, R: Inlet>(
     alloc: Global,
     reader: R,
@@ -80,6 +95,12 @@ pub fn receive_owned_run<T: DeserializeOwned, R: Inlet>(
 
 /// As `receive`; if the reader gives the line of a run of values with frames of at most N bytes, the results are what `told` says of the
 /// run, and the values among them are alike those sent.
+///
+/// # Requires
+/// A receiver of N bytes fits in memory (`ReceiverFitsInMemory`); a concrete N costs nothing.
+///
+/// # Allocates
+/// The list, and what the values need.
 ///
 /// # Example
 /// ```rust
@@ -100,6 +121,12 @@ pub fn receive_values<T: Lawful + DeserializeOwned, R: Inlet, const N: usize>(
 }
 
 /// As `receive_values`, with this sentinel.
+///
+/// # Requires
+/// A receiver of N bytes fits in memory (`ReceiverFitsInMemory`); a concrete N costs nothing.
+///
+/// # Allocates
+/// The list, and what the values need.
 pub fn receive_values_with_sentinel<T: Lawful + DeserializeOwned, R: Inlet, const N: usize>(
     alloc: Global,
     reader: R,
@@ -137,7 +164,7 @@ pub struct InTurn<W> {
 /// by their results, each perhaps interrupted at any byte.
 ///
 /// # Requires
-/// N is at least 1.
+/// N is at least 1, and the sender fits in memory (`SenderFitsInMemory`); a concrete N costs nothing.
 ///
 /// # Example
 /// ```rust
@@ -162,6 +189,9 @@ pub fn send_in_turn<T: Lawful, W: Outlet, const N: usize>(
 }
 
 /// As `send_in_turn`, with this sentinel.
+///
+/// # Requires
+/// As [`send_in_turn`].
 pub fn send_in_turn_with_sentinel<T: Lawful, W: Outlet, const N: usize>(
     writer: W,
     first: &T,
@@ -191,7 +221,8 @@ pub fn send_in_turn_with_sentinel<T: Lawful, W: Outlet, const N: usize>(
 /// fate of each, each perhaps interrupted at any byte.
 ///
 /// # Requires
-/// As many fates as values, for each sender, and N is at least 1.
+/// As many fates as values, for each sender. N is at least 1, and the sender fits in memory (`SenderFitsInMemory`); a concrete N costs
+/// nothing.
 pub fn send_each_in_turn<T: Lawful, W: Outlet, const N: usize>(
     writer: W,
     firsts: &[T],
@@ -218,6 +249,9 @@ pub fn send_each_in_turn<T: Lawful, W: Outlet, const N: usize>(
 }
 
 /// As `send_each_in_turn`, with this sentinel.
+///
+/// # Requires
+/// As [`send_each_in_turn`].
 pub fn send_each_in_turn_with_sentinel<T: Lawful, W: Outlet, const N: usize>(
     writer: W,
     firsts: &[T],

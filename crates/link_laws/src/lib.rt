@@ -169,6 +169,9 @@ pub fn fronts_damaged<T: Readable>()
 }
 
 /// A value that is received for a valid value is alike it.
+///
+/// # Requires
+/// The value that was sent is valid.
 pub fn as_sent<T: Lawful>(sent: &T, answered: &T)
     requires { T.form.valid sent.now }
     ensures { (t : Tree) → T.form.writes sent.now ≡ Some t
