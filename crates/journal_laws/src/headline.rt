@@ -69,7 +69,16 @@ impl<T: DeserializeOwned + Exact> LogReader<T> for Strict<OfType> {
 ///
 /// What is read carries the numbers 0, 1, 2 and on, none missing and none twice. It is exactly the records of the appends that
 /// completed, or whose whole frame was written, as far as crashes left them; and the next record gets the next number. The same is
-/// read strictly and ordinarily. Errors are those of `Journal::open`.
+/// read strictly and ordinarily.
+///
+/// # Errors
+/// As `Journal::open`.
+///
+/// # Requires
+/// N is at least 2, and a receiver of N bytes fits in memory (`ReceiverFitsInMemory`); a concrete N costs nothing.
+///
+/// # Allocates
+/// What the values and the visitor need.
 pub fn open_history<T: Readable + Drop, M: LogReader<T>, S: Store, V: Visitor<T>, const N: usize>(
     alloc: Global,
     store: S,
@@ -88,7 +97,10 @@ pub fn open_history<T: Readable + Drop, M: LogReader<T>, S: Store, V: Visitor<T>
     }
 }
 
-/// Appends values in turn, up to the first that isn't appended. Errors are those of `Journal::append`.
+/// Appends values in turn, up to the first that isn't appended.
+///
+/// # Errors
+/// As `Journal::append`, for the first value that isn't appended.
 pub fn append_each<T: Lawful, S: Store, const N: usize>(
     journal: &mut Journal<S, N>,
     values: &[T],
@@ -124,6 +136,12 @@ fn append_all<T: Lawful, S: Store + Drop, const N: usize>(
 
 /// Opens a log and appends values in turn; returns nothing if any of that fails. If the store held what a history leaves, it holds
 /// then what that history leaves with this session after it.
+///
+/// # Requires
+/// N is at least 2, and a receiver of N bytes fits in memory (`ReceiverFitsInMemory`); a concrete N costs nothing.
+///
+/// # Allocates
+/// What the values and the visitor need.
 pub fn session<T: Lawful + Drop, M: LogReader<T>, S: Store + Drop, V: Visitor<T>, const N: usize>(
     alloc: Global,
     store: S,
@@ -147,7 +165,16 @@ pub fn session<T: Lawful + Drop, M: LogReader<T>, S: Store + Drop, V: Visitor<T>
 ///
 /// If the store holds what a history leaves, each record of which counts: the stretches of that history are reported with its
 /// records, numbered 0, 1, 2 and on; none is missing, none is there twice, nothing is unfinished, and the next record gets the next
-/// number. Errors are those of `open_by`.
+/// number.
+///
+/// # Errors
+/// As `open_by`.
+///
+/// # Requires
+/// N is at least 2, and a receiver of N bytes fits in memory (`ReceiverFitsInMemory`); a concrete N costs nothing.
+///
+/// # Allocates
+/// As `open_by`.
 pub fn open_history_by<T: DeserializeOwned + Exact, S: Store, W: Watcher<T>, const N: usize>(
     alloc: Global,
     store: S,
@@ -168,6 +195,12 @@ pub fn open_history_by<T: DeserializeOwned + Exact, S: Store, W: Watcher<T>, con
 
 /// Opens a log by the records that count and appends values in turn; returns nothing if any of that fails. The line of a history,
 /// each record of which counts, becomes the line of that history with this session after it.
+///
+/// # Requires
+/// N is at least 2, and a receiver of N bytes fits in memory (`ReceiverFitsInMemory`); a concrete N costs nothing.
+///
+/// # Allocates
+/// As `open_by`.
 pub fn session_by<T: DeserializeOwned + Exact, S: Store + Drop, W: Watcher<T>, const N: usize>(
     alloc: Global,
     store: S,
