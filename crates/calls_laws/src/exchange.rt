@@ -23,7 +23,7 @@ use std::alloc::Global;
 /// }
 /// ```
 pub trait Kept: Outlet + Drop {
-    /// A writer that replaces another one; nothing more is specified.
+    /// A writer that replaces another one; nothing more is specified. `OwnedOut` doesn't allocate for it.
     fn spare(alloc: Global) -> Self;
 
     /// Returns all bytes that it has taken.
@@ -76,7 +76,11 @@ pub struct Called<A, R> {
 /// else. Without a reply it executed it once, or nothing.
 ///
 /// # Requires
-/// Both writers have taken nothing, and a read gives at least one byte.
+/// Both writers have taken nothing, a read gives at least one byte, N and L are at least 1, and both sides fit in memory
+/// (`SidesFitInMemory`); concrete types cost nothing.
+///
+/// # Allocates
+/// What the requests, the replies and the spare writers need.
 ///
 /// # Example
 /// ```rust
