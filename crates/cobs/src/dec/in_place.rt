@@ -107,7 +107,7 @@ pub(crate) fn decode_by<const COPY: usize>(buf: &mut [u8], sentinel: u8) -> Repo
 ///
 /// # Errors
 /// `InvalidFrame`, with the length of the part of a message that the bytes determine; that part is then at the start
-/// of the buffer.
+/// of the buffer. The bytes from the first zero on are unchanged.
 ///
 /// # Example
 /// ```rust
