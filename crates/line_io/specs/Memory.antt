@@ -1,5 +1,5 @@
 -- What a clause reads of a device over memory.
-use Rattle.std.specs.Prelude.{ℕ, ◌-◌, List, length, take, Some}
+use Rattle.std.specs.Prelude.{ℕ, ◌-◌, List, length, take, Some, vec_capacity}
 use Rattle.line_io.specs.Device.{LineState}
 use Rattle.std.specs.Borrow.{MutBor}
 use Rattle.line_io.specs.Plan.{Plan, failing}
@@ -42,6 +42,10 @@ in_plan i = record { each = i.each; fault = failing i.fault }
 -- the bytes that it holds
 abbrev pub owned_bytes : OwnedOut → List ℕ
 owned_bytes o = o.bytes.items
+
+-- how many more bytes fit its vector without an allocation
+abbrev pub owned_room : OwnedOut → ℕ
+owned_room o = vec_capacity o.bytes - length o.bytes.items
 
 -- its plan
 abbrev pub owned_plan : OwnedOut → Plan

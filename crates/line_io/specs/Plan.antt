@@ -1,5 +1,5 @@
 -- When a device over memory moves how much, and when it meets its fault.
-use Rattle.std.specs.Prelude.{◌≡◌, ℕ, ◌-◌, ◌⊎◌, zero, suc, min, Option, None, Some}
+use Rattle.std.specs.Prelude.{◌≡◌, ℕ, ◌-◌, ◌⊎◌, zero, suc, ◌<◌, min, Option, None, Some, unwrap_or}
 use Rattle.line_io.specs.declared.memory.Fault.{Fault}
 use Rattle.line_io.specs.declared.memory.Fault.TheVariants.{Fail, Nothing}
 
@@ -47,9 +47,9 @@ abbrev pub failing : Option ℕ → Option (ℕ × Fault)
 failing None = None
 failing (Some before) = Some (before, Fail)
 
--- What a call of a growing device returns, and the plan after it: both as planned; or None if an allocation failed, and the
--- plan unchanged.
-abbrev pub GoesOn : Plan → ℕ → ℕ → Option ℕ → Plan → Type 0
-GoesOn plan calls asked answer after =
+-- What a call of a growing device returns, and the plan after it, by the bytes that fit without an allocation: both as planned;
+-- or None and the plan unchanged, only if the planned bytes don't fit so.
+abbrev pub GoesOn : Plan → ℕ → ℕ → ℕ → Option ℕ → Plan → Type 0
+GoesOn plan calls asked room answer after =
     ((answer ≡ planned_answer plan calls asked asked) × (after ≡ plan_after plan calls asked asked))
-    ⊎ ((answer ≡ None) × (after ≡ plan))
+    ⊎ ((answer ≡ None) × (after ≡ plan) × (room < unwrap_or (planned_answer plan calls asked asked) 0))

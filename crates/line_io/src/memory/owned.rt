@@ -1,4 +1,4 @@
-ghost use Rattle.std.specs.Prelude.{◌≡◌, ℕ, ◌+◌, ◌-◌, ◌≤◌, ◌<◌, ◌^◌, length, Option, None, Some, IfSome};
+ghost use Rattle.std.specs.Prelude.{◌≡◌, ℕ, ◌+◌, ◌-◌, ◌≤◌, ◌<◌, ◌^◌, length, Option, None, Some, IfSome, unwrap_or, vec_capacity};
 ghost use Rattle.line_io.specs.Device.{Wrote, moved_front, write_faults};
 ghost use Rattle.line_io.specs.Plan.{GoesOn};
 
@@ -7,8 +7,8 @@ use crate::traits::Outlet;
 
 /// An [`Outlet`](crate::Outlet) into a vector of its own, which grows.
 ///
-/// Each write takes its chunk, and at most `each` bytes of it. A failed allocation is a fault. The bytes are reported
-/// after a fault too, so a contract can say what was written.
+/// Each write takes its chunk, and at most `each` bytes of it. A failed allocation is a fault; bytes that fit the
+/// vector's capacity need none. The bytes are reported after a fault too, so a contract can say what was written.
 ///
 /// # Allocates
 /// What the vector grows by, at each write.
@@ -31,7 +31,7 @@ pub struct OwnedOut {
 }
 
 impl OwnedOut {
-    ghost use Rattle.line_io.specs.Memory.{owned_bytes, owned_plan};
+    ghost use Rattle.line_io.specs.Memory.{owned_bytes, owned_room, owned_plan};
 
     /// A device that appends to these bytes, at most `each` a call.
     ///
@@ -46,6 +46,7 @@ impl OwnedOut {
         ensures faults { (⟦<OwnedOut as Outlet>⟧.line result).faults ≡ 0 }
         ensures calls { (⟦<OwnedOut as Outlet>⟧.line result).calls_left ≡ 2 ^ 64 - 1 }
         ensures plan { owned_plan result ≡ record { each = each; fault = fault } }
+        ensures room { owned_room result ≡ vec_capacity bytes - length bytes.items }
     {
         OwnedOut {
             bytes,
@@ -66,7 +67,7 @@ impl OwnedOut {
 }
 
 impl Outlet for OwnedOut {
-    ghost use Rattle.line_io.specs.Memory.{owned_bytes, owned_plan, owned_line};
+    ghost use Rattle.line_io.specs.Memory.{owned_bytes, owned_room, owned_plan, owned_line};
 
     ghost line = { owned_line };
 
@@ -80,7 +81,8 @@ impl Outlet for OwnedOut {
         ensures calls { (owned_line self.new).calls_left ≡ (owned_line self.old).calls_left - 1 }
         ensures spent { (owned_line self.old).calls_left ≡ 0 → result ≡ None }
         ensures plan { GoesOn (owned_plan self.old) (owned_line self.old).calls_left
-            (length piece.now) result (owned_plan self.new) }
+            (length piece.now) (owned_room self.old) result (owned_plan self.new) }
+        ensures room { owned_room self.old ≤ owned_room self.new + unwrap_or result 0 }
     {
         if self.calls == 0 {
             return None;
