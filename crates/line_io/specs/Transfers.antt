@@ -62,3 +62,7 @@ HasRead old new Ended bytes =
     Gave old new bytes × (new.faults ≡ old.faults) × IfSome new.told (λ rest. rest ≡ [])
 HasRead old new ReadFault bytes = Gave old new bytes × Failed old new
 HasRead old new NoMemory bytes = Gave old new bytes × (new.faults ≡ old.faults)
+
+-- Bytes of one read that a vector of so much capacity, which holds so many, has no space for.
+abbrev pub HasNoSpace : ℕ → ℕ → List ℕ → Type 0
+HasNoSpace capacity held lost = (0 < length lost) × (length lost ≤ 16384) × (capacity < held + length lost)

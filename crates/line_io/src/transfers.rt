@@ -1,5 +1,5 @@
-ghost use Rattle.std.specs.Prelude.{◌≡◌, ℕ, ◌+◌, ◌-◌, ◌≤◌, List, ◌++◌, length};
-ghost use Rattle.line_io.specs.Transfers.{WentOrBroke, HasRead};
+ghost use Rattle.std.specs.Prelude.{◌≡◌, ℕ, ◌+◌, ◌-◌, ◌≤◌, List, ◌++◌, length, vec_capacity};
+ghost use Rattle.line_io.specs.Transfers.{WentOrBroke, HasRead, HasNoSpace};
 ghost use Rattle.line_io.specs.declared.transfers.End.{End};
 ghost use Rattle.line_io.specs.declared.transfers.End.TheVariants.{Ended, ReadFault, NoMemory};
 
@@ -61,8 +61,9 @@ pub enum End {
 
 /// Appends everything that a reader gives to the vector, and returns why it stopped.
 ///
-/// At `ReadFault` the vector has everything before the fault. At `NoMemory` it has a prefix of what was read; the rest
-/// is lost. It uses at most one call of the reader for each byte that it appends, and one more.
+/// At `ReadFault` the vector has everything before the fault. At `NoMemory` it has a prefix of what was read; the rest,
+/// at most 16384 bytes, is lost. `NoMemory` comes only if all that was read didn't fit the vector's first capacity. It
+/// uses at most one call of the reader for each byte that it appends, and one more.
 ///
 /// # Allocates
 /// What the vector grows by; 16384 bytes are on the stack.
@@ -81,7 +82,10 @@ pub fn read_to_end<R: Inlet>(inlet: &mut R, bytes: &mut Vec<u8>) -> End
         × HasRead (R.line inlet.old) (R.line inlet.new) ReadFault text }
     ensures memory { result ≡ NoMemory
         → (text : List ℕ) × (lost : List ℕ) × (bytes.new.items ≡ bytes.old.items ++ text)
-        × HasRead (R.line inlet.old) (R.line inlet.new) NoMemory (text ++ lost) }
+        × HasRead (R.line inlet.old) (R.line inlet.new) NoMemory (text ++ lost)
+        × HasNoSpace (vec_capacity bytes.old) (length bytes.new.items) lost }
+    ensures capacity { vec_capacity bytes.old ≤ vec_capacity bytes.new }
+    ensures once { (R.line inlet.new).faults ≤ (R.line inlet.old).faults + 1 }
     ensures calls { (R.line inlet.new).calls_left ≤ (R.line inlet.old).calls_left }
     ensures few { (R.line inlet.old).calls_left + length bytes.old.items
         ≤ (R.line inlet.new).calls_left + length bytes.new.items + 1 }

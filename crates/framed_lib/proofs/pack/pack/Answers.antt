@@ -12,7 +12,8 @@ pub returns-in-NoMemory : goal.returns-in-NoMemory
 returns-in-NoMemory g c =
     let line = g.R.Inlet.line in
     let reading = HasRead (line c.args.reader.now) (line c.read_to_end.new.inlet) NoMemory in
-    let lost = read-front reading c.new-text.ensures.items (c.in-NoMemory.ensures.memory refl) in
+    let m = c.in-NoMemory.ensures.memory refl in
+    let lost = read-front reading c.new-text.ensures.items (m.0, m.1, m.2, m.3) in
     carried (Some NoMemory) (c.read_to_end.new.bytes.items ++ lost.0) [] [] (refl, refl) lost.1
     (WentOut-none _) (WentOut-none _)
 

@@ -13,6 +13,7 @@ returns-then-is_err-clause-memory g c h =
       take c.in-Some.n c.read_over.new.room,
       same ∙ i.are,
       (Gave-then _ _ _ _ _ i.gave c.in-Some.ensures.bytes, quiet ∙ (let e = i.quiet in omega arith)),
+      (grind (arith, common_steps), grind (arith, common_steps), grind (arith, common_steps)),
     )
 
 pub returns-in-None-clause-ended : goal.returns-in-None-clause-ended
