@@ -16,6 +16,7 @@ const FEW: usize = 1024;
 fn read_by<R: Read>(reader: &mut R, room: &mut [u8], scratch: &mut [u8]) -> Option<usize>
     requires { 0 < length scratch.old }
     ensures bound { IfSome result (λ n. n ≤ length room.new) }
+    ensures most { IfSome result (λ n. n ≤ length scratch.old) }
     ensures past { drop (unwrap_or result 0) room.new ≡ drop (unwrap_or result 0) room.old }
     ensures end { result ≡ Some 0 → 0 < length room.new → IsAtEnd (R.remaining reader.new) }
     ensures bytes { MatchOption result
@@ -40,6 +41,7 @@ fn read_by<R: Read>(reader: &mut R, room: &mut [u8], scratch: &mut [u8]) -> Opti
 /// 16384. At most 16384 bytes are read. Into a nonempty buffer, 0 is the end.
 pub fn read_front<R: Read>(reader: &mut R, room: &mut [u8]) -> Option<usize>
     ensures bound { IfSome result (λ n. n ≤ length room.new) }
+    ensures most { IfSome result (λ n. n ≤ 16384) }
     ensures past { drop (unwrap_or result 0) room.new ≡ drop (unwrap_or result 0) room.old }
     ensures end { result ≡ Some 0 → 0 < length room.new → IsAtEnd (R.remaining reader.new) }
     ensures bytes { MatchOption result
@@ -110,6 +112,7 @@ impl<R: Read> Inlet for Reads<R> {
 
     fn read(&mut self, room: &mut [u8]) -> Option<usize>
         ensures bound { IfSome result (λ n. n ≤ length room.new) }
+        ensures most { IfSome result (λ n. n ≤ 16384) }
         ensures bytes { Gave (reads_line R.remaining self.old)
             (reads_line R.remaining self.new) (moved_front result room.new) }
         ensures end { result ≡ Some 0 → 0 < length room.new
