@@ -5,7 +5,7 @@ use Rattle.std.proofs.lemmas.List.{take_more, take-append-drop}
 use Rattle.postcard_tree.specs.declared.error.Error.{Error}
 use Rattle.std.specs.Char.{encode_utf8}
 use Rattle.std.specs.Prelude.{OnOk}
-use Rattle.postcard_tree.specs.Tree.{Tree, Trees, number, character, IsTree, parts, group_of, text_of}
+use Rattle.postcard_tree.specs.Tree.{Tree, Trees, character, IsTree, parts, group_of, text_of}
 use Rattle.postcard_tree.specs.Texts.{short_text}
 use Rattle.postcard_tree.specs.Spelling.{short, short_all, varint}
 use Rattle.postcard_ser.specs.Flavor.{FlavorLaws, RefusedAs, Pushes}
