@@ -4,7 +4,7 @@ use Rattle.std.specs.Prelude.{if◌then◌else◌}
 use Rattle.std.proofs.lemmas.Bool.{ltb-true, ltb-false, lt-ltb}
 use Rattle.std.proofs.lemmas.List.{append-nil, length-append, length-take, take-append-le, drop-append-le, take-append-drop, length-drop, drop-drop, drop_all, nil_from_length}
 use Rattle.std.proofs.Math.Seq.{take-add}
-use Rattle.cobs.specs.Frames.{NoZero}
+use Rattle.cobs.specs.Frames.{NoZero, Frame}
 use Rattle.link.specs.declared.decoding.OwnedBuffer.{OwnedBuffer}
 use Rattle.postcard_tree.specs.Tree.{Tree}
 use Rattle.link.specs.Stream.{Verdict, value, too_long, Begun, kept, over, begun, ended, unfinished, IsAnswer, HoldsExactly}
@@ -21,8 +21,8 @@ use Rattle.link.specs.declared.receiver.NoMemory.{NoMemory}
 use Rattle.journal.specs.Records.{takes_record, reads_record}
 use Rattle.journal_scan.specs.declared.scanning.Stretch.{Stretch}
 use Rattle.journal_scan.specs.Stretches.{is_past, ended_stretch}
-use Rattle.journal_scan.specs.Scanning.{ScanStands, IsNextStretch, Found, FoundLast, with_zero}
-use Rattle.journal_scan.proofs.WalkingLemmas.{lt_zero, no_zero_more, alone_unfinished, zero_ended, zero_unfinished, behind_of, first_of, push_quiet, push_answer}
+use Rattle.journal_scan.specs.Scanning.{ScanStands, IsNextStretch, IsLostStretch, IsLostLast, Found, FoundLast, with_zero}
+use Rattle.journal_scan.proofs.WalkingLemmas.{lt_zero, no_zero_more, alone_unfinished, zero_ended, zero_unfinished, behind_of, first_of, last_of, but_last, spelled_some, push_quiet, push_lost, push_answer}
 
 -- what is begun depends on the unfinished stretch alone
 abbrev begun_by : ℕ → List ℕ → Begun
@@ -37,6 +37,13 @@ none_begun limit x e = go (nat_lt limit (length x)) e
     go : (b : Bool) → kept [] ≡ (if b then over else kept x) → x ≡ []
     go false e = cc
     go true e = cc
+
+kept_same : (limit : ℕ) (p x : List ℕ) → nat_lt limit (length x) ≡ false → kept p ≡ begun_by limit x → p ≡ x
+kept_same limit p x f e = go (nat_lt limit (length x)) f e
+  where
+    go : (b : Bool) → b ≡ false → kept p ≡ (if b then over else kept x) → p ≡ x
+    go false f e = cc
+    go true f e = cc
 
 -- so many of the bytes that were read were gone over
 pub record Moved (at used : ℕ) (unread rest bytes : List ℕ) : Type 0 where
@@ -78,7 +85,7 @@ abbrev pub StandsPushed : {V : Type 0} → (Tree → Type 0) → (Tree → V →
 StandsPushed takes reads limit at from used now left bytes (Ok o) =
     ScanStands limit now (at + used) (next_begin from (at + used) (ended_stretch from (at + (used - 1)) o)) (is_past o) left bytes
     × Found takes reads limit bytes at (at + used) (ended_stretch from (at + (used - 1)) o)
-StandsPushed takes reads limit at from used now left bytes (Err e) = ScanStands limit now (at + used) (at + used) false left bytes
+StandsPushed takes reads limit at from used now left bytes (Err e) = ScanStands limit now (at + used) (at + used) false left bytes × IsLostStretch limit bytes at (at + used)
 
 module _ {limit at from : ℕ} {r : Reception OwnedBuffer} {past : Bool} {unread bytes : List ℕ} (s : ScanStands limit r at from past unread bytes) where
   abbrev stream : List ℕ
@@ -113,6 +120,24 @@ module _ {limit at from : ℕ} {r : Reception OwnedBuffer} {past : Bool} {unread
           is = is;
         };
         behind = omega (arith, some);
+        next = ap (ended 0) m.taken ∙ k.more_ended ∙ ap (λ x. ended 0 stream ++ x) (ap (ended 0) all ∙ zero_ended (u ++ later) z more);
+      }
+
+  -- the place of a stretch whose value was lost
+  lost_here : (later message : List ℕ) (used : ℕ) → used ≤ length unread → take used unread ≡ later ++ 0 ∷ [] → NoZero (u ++ later) → Frame (u ++ later) message → length (u ++ later) ≤ limit → IsLostStretch limit bytes at (at + used)
+  lost_here later message used l are z f fits =
+      let m = moved at used unread s.rest bytes s.within s.unread_is l in
+      let k = behind_of stream (take used unread) in
+      let all : u ++ take used unread ≡ (u ++ later) ++ 0 ∷ [] = ap (λ x. u ++ x) are ∙ sym (append_assoc u later (0 ∷ [])) in
+      let more : 0 < length (u ++ later) = omega (arith, ap length f.spells, spelled_some f.first f.others) in
+      record {
+        stretch = u ++ later;
+        front = k.front;
+        between = k.between;
+        bytes_are = m.taken ∙ ap (λ x. x ++ take used unread) k.whole ∙ append_assoc k.front u (take used unread) ∙ ap (λ x. k.front ++ x) all;
+        message = message;
+        frame = f;
+        fits = fits;
         next = ap (ended 0) m.taken ∙ k.more_ended ∙ ap (λ x. ended 0 stream ++ x) (ap (ended 0) all ∙ zero_ended (u ++ later) z more);
       }
 
@@ -220,8 +245,17 @@ module _ {limit at from : ℕ} {r : Reception OwnedBuffer} {past : Bool} {unread
       | inr e ↦ absurd (other says.0 says.1 e.is)
     ]
 
-    pushed_lost : IsLost holds limit 0 u unread used → ScanStands limit now (at + used) (at + used) false (drop used unread) bytes
-    pushed_lost h = stands_between used now l (none_begun limit (unfinished 0 (u ++ take used unread)) h.after) (λ _. later_behind)
+    pushed_lost : IsLost holds limit 0 u unread used → ScanStands limit now (at + used) (at + used) false (drop used unread) bytes × IsLostStretch limit bytes at (at + used)
+    pushed_lost h =
+        let k = push_lost holds limit u unread used nonzero fits first_byte some h in
+        let last = last_of unread used some l in
+        let front : take (used - 1) unread ≡ h.front = but_last (take (used - 1) unread) h.front last.byte 0 (sym last.are ∙ h.bytes) in
+        let z : NoZero (u ++ h.front) = subst (λ x. NoZero (u ++ x)) front k.0 in
+        let within : nat_lt limit (length (u ++ h.front)) ≡ false = ap (λ x. nat_lt limit (length (u ++ x))) (sym front) ∙ k.1 in
+        let same : h.stretch ≡ u ++ h.front = kept_same limit h.stretch (u ++ h.front) within (h.begun ∙ ap (begun_by limit) (alone_unfinished (u ++ h.front) z)) in (
+          stands_between used now l (none_begun limit (unfinished 0 (u ++ take used unread)) h.after) (λ _. later_behind),
+          lost_here h.front h.message used l h.bytes z (subst (λ x. Frame x h.message) same h.frame) (ltb-false limit (length (u ++ h.front)) within),
+        )
 
     -- all of it
     pub pushed : (result : Result (Option (Answer (ℕ × V))) NoMemory) → ((stream : List ℕ) → IsBehind in_owner limit 0 r stream → Answered holds (reads_record reads) limit 0 stream unread used result)
@@ -298,6 +332,10 @@ module _ {V : Type 0} (takes : Tree → Type 0) (reads : Tree → V → Type 0) 
   found_from o None is e f = subst (Found takes reads limit bytes old new) is f ∙ e
   found_from o (Some s) is e f = next_from e (subst (Found takes reads limit bytes old new) is f)
 
+-- the same of a stretch whose value was lost
+pub lost_from : {limit first old new : ℕ} {bytes : List ℕ} → ended 0 (take old bytes) ≡ ended 0 (take first bytes) → IsLostStretch limit bytes old new → IsLostStretch limit bytes first new
+lost_from e n = record { stretch = n.stretch; front = n.front; between = n.between; bytes_are = n.bytes_are; message = n.message; frame = n.frame; fits = n.fits; next = n.next ∙ ap (λ x. x ++ n.stretch ∷ []) e }
+
 -- in a longer log
 pub stands_longer : {limit at from : ℕ} {r : Reception OwnedBuffer} {past : Bool} {unread : List ℕ} (bytes more : List ℕ) → ScanStands limit r at from past unread bytes → ScanStands limit r at from past unread (bytes ++ more)
 stands_longer {limit} {at} {from} {r} {past} {unread} bytes more s =
@@ -342,3 +380,13 @@ module _ {V : Type 0} (takes : Tree → Type 0) (reads : Tree → V → Type 0) 
       let one : used ≡ 1 = omega (arith, some, l) in
       let back : at + (1 - 1) ≡ at = omega arith in
       last_is (ended_stretch from at o) (subst (λ to. Found takes reads limit (with_zero bytes) at (at + 1) (ended_stretch from to o)) back (subst (λ n. Found takes reads limit (with_zero bytes) at (at + n) (ended_stretch from (at + (n - 1)) o)) one found))
+
+  -- one is whose value was lost
+  pub lost_last : (used : ℕ) (now : Reception OwnedBuffer) → past ≡ false → (from ≡ at → ⊥) → 0 < used → used ≤ 1 → ((stream : List ℕ) → IsBehind in_owner limit 0 r stream → IsBehind in_owner limit 0 now (stream ++ take used (0 ∷ [])))
+      → (result : Result (Option (Answer (ℕ × V))) NoMemory) → ((stream : List ℕ) → IsBehind in_owner limit 0 r stream → Answered holds_at_end (reads_record reads) limit 0 stream (0 ∷ []) used result) → (e : NoMemory) → result ≡ Err e
+      → IsLostLast limit bytes
+  lost_last used now fresh begun_there some l stands result answers e is =
+      let h = pushed (stands_before_zero s end) takes reads used now fresh (λ e later same. begun_there e) some l stands result answers in
+      let lost = (subst (StandsPushed takes reads limit at from used now (drop used (0 ∷ [])) (with_zero bytes)) is h).1 in
+      let one : used ≡ 1 = omega (arith, some, l) in
+      subst (λ n. IsLostStretch limit (with_zero bytes) n (n + 1)) end (subst (λ n. IsLostStretch limit (with_zero bytes) at (at + n)) one lost)

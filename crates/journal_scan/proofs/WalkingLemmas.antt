@@ -3,13 +3,13 @@ use Rattle.std.proofs.Common.{◌≡◌, ℕ, zero, suc, ◌+◌, ◌-◌, ◌<�
 use Rattle.std.specs.Prelude.{if◌then◌else◌, get_or}
 use Rattle.std.specs.List.{AllZip}
 use Rattle.std.proofs.lemmas.Bool.{le-ltb}
-use Rattle.std.proofs.lemmas.List.{append-nil, take-append-drop, length-drop}
+use Rattle.std.proofs.lemmas.List.{append-nil, take-append-drop, length-drop, length-append, take-append-le, take_all}
 use Rattle.std.proofs.Math.Seq.{take-add}
-use Rattle.cobs.specs.Frames.{NoZero}
+use Rattle.cobs.specs.Frames.{NoZero, block, spelled}
 use Rattle.postcard_tree.specs.Tree.{Tree}
 use Rattle.link.specs.Stream.{Verdict, too_long, ended, unfinished, IsAnswer, Given, begun_answers}
 use Rattle.link.specs.Laws.{EndsBetween}
-use Rattle.link.specs.Pushes.{IsPush}
+use Rattle.link.specs.Pushes.{IsPush, IsLost}
 use Rattle.link.specs.Lemmas.MaskLaws.{unmasked}
 use Rattle.link.specs.Lemmas.RoadLaws.{no_ended}
 use Rattle.link.specs.Lemmas.Pieces.{Parted, alone, more, parted, ends_at, ended_at, unfinished_at, unfinished_alone, ended_behind, unfinished_behind}
@@ -120,6 +120,17 @@ pub record Last (rest : List ℕ) (used : ℕ) : Type 0 where
   pub byte : ℕ
   pub are : take used rest ≡ take (used - 1) rest ++ byte ∷ []
 
+-- what stands before the last byte
+pub but_last : (xs ys : List ℕ) (b c : ℕ) → xs ++ b ∷ [] ≡ ys ++ c ∷ [] → xs ≡ ys
+but_last xs ys b c e =
+    let same : length xs ≡ length ys = omega (arith, ap length e, length-append xs (b ∷ []), length-append ys (c ∷ [])) in
+    sym (take_all (length xs) xs (omega arith)) ∙ sym (take-append-le (length xs) xs (b ∷ []) (omega arith)) ∙ ap (take (length xs)) e ∙ take-append-le (length xs) ys (c ∷ []) (omega (arith, same)) ∙ take_all (length xs) ys (omega (arith, same))
+
+-- a frame has bytes
+pub spelled_some : (run : List ℕ) (runs : List (List ℕ)) → 0 < length (spelled run runs)
+spelled_some run [] = omega arith
+spelled_some run (next ∷ runs) = omega (arith, length-append (block run) (spelled next runs))
+
 pub last_of : (rest : List ℕ) (used : ℕ) → 0 < used → used ≤ length rest → Last rest used
 last_of rest used some within = go (drop (used - 1) rest) refl
   where
@@ -159,6 +170,10 @@ module _ (holds : List ℕ → Tree → Type 0) (limit : ℕ) (u rest : List ℕ
   -- no answer
   pub push_quiet : IsPush holds limit 0 u rest used None → NoZero (u ++ take used rest) × (nat_lt limit (length (u ++ take used rest)) ≡ false)
   push_quiet p = within used (p.gives [] none)
+
+  -- a value that was lost
+  pub push_lost : 0 < used → IsLost holds limit 0 u rest used → NoZero (u ++ take (used - 1) rest) × (nat_lt limit (length (u ++ take (used - 1) rest)) ≡ false)
+  push_lost some h = within (used - 1) (h.least.same [] none (used - 1) (omega (arith, some)))
 
   -- an answer
   pub push_answer : (v : Verdict) → 0 < used → used ≤ length rest → IsPush holds limit 0 u rest used (Some v) → Ends holds limit u rest used v ⊎ Passes limit u rest used v

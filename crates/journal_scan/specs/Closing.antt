@@ -4,7 +4,7 @@ use Rattle.std.specs.Prelude.{if◌then◌else◌}
 use Rattle.postcard_tree.specs.Tree.{Tree}
 use Rattle.journal_scan.specs.declared.scanning.Stretch.{Stretch}
 use Rattle.journal_scan.specs.declared.closing.ClosedScan.{ClosedScan}
-use Rattle.journal_scan.specs.Scanning.{IsScanning, FoundAll, offset_of, with_zero}
+use Rattle.journal_scan.specs.Scanning.{IsScanning, FoundAll, IsLostStretch, offset_of, with_zero}
 
 -- a fact if a test failed
 abbrev pub OnFalse : Bool → Type 0 → Type 0
@@ -28,6 +28,11 @@ abbrev pub FoundClosed : {V : Type 0} → (Tree → Type 0) → (Tree → V → 
     → ClosedScan → ClosedScan → Option (Stretch V) → Type 0
 FoundClosed takes reads limit bytes old new o = IsClosing limit bytes new
     × FoundAll takes reads limit (with_zero bytes) (passed_by bytes old) (passed_by bytes new) o
+
+-- one stretch was passed in a log with a zero after it, whose value was lost
+abbrev pub LostClosed : ℕ → List ℕ → ClosedScan → ClosedScan → Type 0
+LostClosed limit bytes old new =
+    IsClosing limit bytes new × IsLostStretch limit (with_zero bytes) (passed_by bytes old) (passed_by bytes new)
 
 -- more than the bytes that it has still to pass
 abbrev pub left_of : ClosedScan → ℕ

@@ -1,6 +1,6 @@
 -- Where a scan of a log stands, and what it finds.
 use Rattle.std.specs.Prelude.{◌≡◌, ℕ, ◌+◌, ◌<◌, ◌≤◌, nat_lt, Bool, List, [], ◌∷◌, ◌++◌, length, take, drop, Option, Some, None, Result, Ok, Err}
-use Rattle.cobs.specs.Frames.{NoZero}
+use Rattle.cobs.specs.Frames.{NoZero, Frame}
 use Rattle.link.specs.declared.decoding.OwnedBuffer.{OwnedBuffer}
 use Rattle.postcard_tree.specs.Tree.{Tree}
 use Rattle.link.specs.Stream.{Verdict, ended, unfinished, IsAnswer, HoldsExactly}
@@ -53,6 +53,26 @@ pub record IsNextStretch {V : Type 0} (holds : List ℕ → Tree → Type 0) (re
   -- no other stretch ends between the two positions
   pub next : ended 0 (take new bytes) ≡ ended 0 (take old bytes) ++ (stretch ∷ [])
 
+-- Between an offset and a later one exactly one stretch ends, of which a value may be lost: it is a frame within the limit, and the
+-- later offset follows its zero.
+pub record IsLostStretch (limit : ℕ) (bytes : List ℕ) (old new : ℕ) : Type 0 where
+  -- its bytes
+  pub stretch : List ℕ
+  -- the bytes before it
+  pub front : List ℕ
+  -- a zero precedes it, or the start of the log
+  pub between : EndsBetween 0 front
+  -- before the later offset the log is these, the stretch, and its zero
+  pub bytes_are : take new bytes ≡ front ++ (stretch ++ 0 ∷ [])
+  -- the message in it
+  pub message : List ℕ
+  -- it is the frame of that
+  pub frame : Frame stretch message
+  -- it is within the limit
+  pub fits : length stretch ≤ limit
+  -- no other stretch ends between the two positions
+  pub next : ended 0 (take new bytes) ≡ ended 0 (take old bytes) ++ (stretch ∷ [])
+
 -- Where a scan stands in a log's bytes: what it read last is what stands at its offset; its receiver stands after the bytes before;
 -- and the unfinished stretch of these begins at `from`.
 pub record ScanStands (limit : ℕ) (receiver : Reception OwnedBuffer) (at from : ℕ) (past : Bool) (unread bytes : List ℕ) : Type 0 where
@@ -82,10 +102,10 @@ abbrev pub Found : {V : Type 0} → (Tree → Type 0) → (Tree → V → Type 0
 Found takes reads limit bytes old new None = ended 0 (take new bytes) ≡ ended 0 (take old bytes)
 Found takes reads limit bytes old new (Some s) = IsNextStretch (HoldsExactly (takes_record takes)) (reads_record reads) limit bytes old new s.from s.to s.answer
 
--- what a scan found of these bytes; at an error it found nothing
+-- what a scan found of these bytes; at an error it passed exactly one stretch, whose value was lost
 abbrev pub Goes : {V : Type 0} → (Tree → Type 0) → (Tree → V → Type 0) → ℕ → List ℕ → Scan → Scan → Result (Option (Stretch V)) ScanError → Type 0
 Goes takes reads limit bytes old new (Ok o) = IsScanning limit bytes new × Found takes reads limit bytes old.at new.at o
-Goes takes reads limit bytes old new (Err e) = IsScanning limit bytes new
+Goes takes reads limit bytes old new (Err e) = IsScanning limit bytes new × IsLostStretch limit bytes old.at new.at
 
 -- what is next in a log: a stretch; or no further stretch ends in it, and the scan is after its last byte
 abbrev pub FoundAll : {V : Type 0} → (Tree → Type 0) → (Tree → V → Type 0) → ℕ → List ℕ → ℕ → ℕ → Option (Stretch V) → Type 0
@@ -104,6 +124,10 @@ told_with_zero (Some bytes) = Some (with_zero bytes)
 -- what a zero after a log ends: a stretch, or nothing
 abbrev pub FoundLast : {V : Type 0} → (Tree → Type 0) → (Tree → V → Type 0) → ℕ → List ℕ → Option (Stretch V) → Type 0
 FoundLast takes reads limit bytes o = Found takes reads limit (with_zero bytes) (length bytes) (length bytes + 1) o
+
+-- what a zero after a log ends is one stretch, whose value was lost
+abbrev pub IsLostLast : ℕ → List ℕ → Type 0
+IsLostLast limit bytes = IsLostStretch limit (with_zero bytes) (length bytes) (length bytes + 1)
 
 -- the result of a stretch of so many bytes that no zero ends
 abbrev pub IsOver : {V : Type 0} → ℕ → ℕ → Answer V → Type 0

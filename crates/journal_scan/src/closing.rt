@@ -1,5 +1,5 @@
 //! Scanning a log as opening it will leave it: with one more zero.
-ghost use Rattle.std.specs.Prelude.{◌≡◌, ◌<◌, ◌≤◌, ℕ, List, Err, Some, OnOk, IfOk, IfErr, IfSome};
+ghost use Rattle.std.specs.Prelude.{◌≡◌, ◌<◌, ◌≤◌, ℕ, List, Err, Some, true, OnOk, IfOk, IfErr, IfSome};
 ghost use Rattle.line_io.specs.Transfers.{Failed};
 
 use crate::scanning::{Scan, ScanError, Stretch};
@@ -16,7 +16,7 @@ pub(crate) struct ClosedScan {
 }
 
 impl ClosedScan {
-    ghost use Rattle.journal_scan.specs.Closing.{IsClosing, HasPassedNone, FoundClosed, left_of};
+    ghost use Rattle.journal_scan.specs.Closing.{IsClosing, HasPassedNone, FoundClosed, LostClosed, left_of};
 
     /// A scan from the log's first byte.
     pub fn new(alloc: Global, limit: usize) -> Result<ClosedScan, ScanError>
@@ -47,6 +47,12 @@ impl ClosedScan {
         ensures quiet { OnOk result ((S.line store.new).faults ≡ (S.line store.old).faults) }
         ensures fault { result ≡ Err ScanError.Fault
             → Failed (S.line store.old) (S.line store.new) }
+        ensures memory { result ≡ Err ScanError.NoMemory → T.form.growing ≡ true }
+        ensures lost { result ≡ Err ScanError.NoMemory → (limit : ℕ) (bytes : List ℕ)
+            → (S.line store.old).told ≡ Some bytes → IsClosing limit bytes self.old
+            → LostClosed limit bytes self.old self.new }
+        ensures calm { result ≡ Err ScanError.NoMemory
+            → (S.line store.new).faults ≡ (S.line store.old).faults }
         ensures more { (S.line store.old).faults ≤ (S.line store.new).faults }
     {
         if self.closed {

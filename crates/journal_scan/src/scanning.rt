@@ -1,5 +1,5 @@
 //! Scanning a log stretch by stretch, with their positions.
-ghost use Rattle.std.specs.Prelude.{◌≡◌, ◌+◌, ◌-◌, ◌<◌, ◌≤◌, ◌^◌, ℕ, List, ◌∷◌, ◌++◌, Err, Some, None, OnOk, IfOk, IfErr, IfSome, MatchOption, MatchResult, length, take, drop, vec_len, true, false};
+ghost use Rattle.std.specs.Prelude.{◌≡◌, ◌+◌, ◌-◌, ◌<◌, ◌≤◌, ◌^◌, ℕ, List, ◌∷◌, ◌++◌, Err, Some, None, OnOk, OnErr, IfOk, IfErr, IfSome, MatchOption, MatchResult, length, take, drop, vec_len, true, false};
 ghost use Rattle.line_io.specs.Transfers.{Failed};
 ghost use Rattle.link.specs.Laws.{EndsBetween};
 ghost use Rattle.link.specs.Stream.{ended};
@@ -101,7 +101,7 @@ pub struct Scan {
 }
 
 impl Scan {
-    ghost use Rattle.journal_scan.specs.Scanning.{IsScanning, offset_of, Goes, Found, FoundAll, FoundLast, IsUnfinishedStretch};
+    ghost use Rattle.journal_scan.specs.Scanning.{IsScanning, offset_of, Goes, Found, FoundAll, FoundLast, IsLostStretch, IsLostLast, IsUnfinishedStretch};
 
     /// A scan from an offset, which is 0 or follows a zero, with stretches of at most `limit` bytes.
     ///
@@ -317,7 +317,8 @@ impl Scan {
     ///
     /// # Errors
     /// - `Fault`: a read failed. No stretch was passed: called again, it finds the next one.
-    /// - `NoMemory`: a value couldn't be allocated. The scan is after its stretch.
+    /// - `NoMemory`: a value couldn't be allocated. Exactly its stretch was passed, a frame within the limit; the scan is after its
+    ///   zero.
     ///
     /// # Allocates
     /// What the value needs.
@@ -353,6 +354,11 @@ impl Scan {
             → Found T.form.takes T.form.reads limit bytes (offset_of self.old)
             (offset_of self.new) None }
         ensures memory { result ≡ Err ScanError.NoMemory → T.form.growing ≡ true }
+        ensures lost_one { result ≡ Err ScanError.NoMemory → (limit : ℕ) (bytes : List ℕ)
+            → (S.line store.old).told ≡ Some bytes → IsScanning limit bytes self.old
+            → IsLostStretch limit bytes (offset_of self.old) (offset_of self.new) }
+        ensures calm { result ≡ Err ScanError.NoMemory
+            → (S.line store.new).faults ≡ (S.line store.old).faults }
         ensures more { (S.line store.old).faults ≤ (S.line store.new).faults }
     {
         loop {
@@ -375,6 +381,8 @@ impl Scan {
             → IsScanning limit bytes self.old → offset_of self.old ≡ length bytes
             → FoundLast T.form.takes T.form.reads limit bytes o) }
         ensures memory { IfErr result (λ e. (e ≡ ScanError.NoMemory) × (T.form.growing ≡ true)) }
+        ensures lost { OnErr result ((limit : ℕ) (bytes : List ℕ) → IsScanning limit bytes self.old
+            → offset_of self.old ≡ length bytes → IsLostLast limit bytes) }
     {
         let (from, to) = (self.from, self.at);
         if from == to {
@@ -396,7 +404,7 @@ impl Scan {
     /// Call it at the end of the store, when `next_ended` has returned `None`.
     ///
     /// # Errors
-    /// `NoMemory`: its value couldn't be allocated.
+    /// `NoMemory`: its value couldn't be allocated. Then there is such a stretch, a frame within the limit.
     ///
     /// # Allocates
     /// What the value needs.
@@ -407,6 +415,8 @@ impl Scan {
         ensures found { IfOk result (λ o. (limit : ℕ) (bytes : List ℕ) → IsScanning limit bytes self
             → offset_of self ≡ length bytes → FoundLast T.form.takes T.form.reads limit bytes o) }
         ensures memory { IfErr result (λ e. (e ≡ ScanError.NoMemory) × (T.form.growing ≡ true)) }
+        ensures lost { OnErr result ((limit : ℕ) (bytes : List ℕ) → IsScanning limit bytes self
+            → offset_of self ≡ length bytes → IsLostLast limit bytes) }
     {
         let mut scan = self;
         scan.close(alloc)

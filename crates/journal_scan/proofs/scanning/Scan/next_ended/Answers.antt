@@ -2,7 +2,7 @@ use Rattle.std.proofs.Common.{◌≡◌, ◌≤◌, None, length, take, false, s
 use Rattle.std.proofs.lemmas.List.{take_all}
 use Rattle.link.specs.Stream.{ended}
 use Rattle.journal.specs.Store.{EndsBefore}
-use Rattle.journal_scan.proofs.StandingLemmas.{found_from}
+use Rattle.journal_scan.proofs.StandingLemmas.{found_from, lost_from}
 use Rattle.journal_scan.proofs.scanning.Scan.next_ended.Goals as goal
 
 pub returns-in-Some-clause-found : goal.returns-in-Some-clause-found
@@ -40,3 +40,8 @@ returns-in_err-fill-clause-lost_none g c fault limit bytes h s =
     let on = c.in_ok-stretch.ensures.goes limit bytes before.0 in
     let none = found_from g.T.Readable.form.takes g.T.Readable.form.reads limit bytes c.args.self.now.at c.loop-stretch.self.at c.next_read.new.self.at _ None c.in-None.is before.1 on.1 in
     ap (λ n. ended 0 (take n bytes)) c.fill.ensures.at ∙ none
+
+pub returns-in_err-stretch-clause-lost_one : goal.returns-in_err-stretch-clause-lost_one
+returns-in_err-stretch-clause-lost_one g c memory limit bytes h s =
+    let before = c.loop-stretch.invariant.goes limit bytes h s in
+    lost_from before.1 (c.in_err-stretch.ensures.goes limit bytes before.0).1

@@ -13,7 +13,7 @@ returns-in-Err-clause-goes g c limit bytes s =
     let p = c.push_strict-used in
     let h = stands_later g.T.Readable.form.takes g.T.Readable.form.reads room me.start p.result.used p.new.self s c.requires.within c.requires.first piece same (p.ensures.forward some) p.ensures.within
     (λ stream k. p.ensures.stands limit 0 stream k) p.result.answer (λ stream k. p.ensures.answers limit 0 stream k) _ c.in-Err.is in
-    subst (λ b. ScanStands limit p.new.self (me.at + p.result.used) (me.at + p.result.used) b (drop (me.start + p.result.used) room) bytes) (sym c.requires.within) h
+    (subst (λ b. ScanStands limit p.new.self (me.at + p.result.used) (me.at + p.result.used) b (drop (me.start + p.result.used) room) bytes) (sym c.requires.within) h.0, h.1)
 
 pub returns-in-Some-clause-goes : goal.returns-in-Some-clause-goes
 returns-in-Some-clause-goes g c limit bytes s =
