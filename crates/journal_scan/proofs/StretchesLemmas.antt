@@ -12,7 +12,7 @@ use Rattle.journal_scan.specs.declared.scanning.Stretch.{Stretch}
 use Rattle.journal_scan.specs.declared.closing.ClosedScan.{ClosedScan}
 use Rattle.journal_scan.specs.Scanning.{offset_of, with_zero}
 use Rattle.journal_scan.specs.Closing.{IsClosing, HasPassedNone, FoundClosed, passed_by}
-use Rattle.journal_scan.specs.Checks.{StandAt, AreStretches, IsAgain, record_in, records_in, numbers_of}
+use Rattle.journal_scan.specs.Checks.{StandAt, AreStretches, AreFirstStretches, IsCheckedTo, IsAgain, record_in, records_in, numbers_of}
 
 -- all of a log with a zero behind it
 all_taken : (bytes : List ℕ) → ended 0 (take (length bytes + 1) (with_zero bytes)) ≡ ended 0 (with_zero bytes)
@@ -58,6 +58,23 @@ numbers_more counted a s = ap numbers_of (records_joined counted a (s ∷ []) �
 pub if_told : (held : Option (List ℕ)) (P : List ℕ → Type 0) → ((bytes : List ℕ) → held ≡ Some bytes → P bytes) → IfSome held P
 if_told None P h = tt
 if_told (Some bytes) P h = h bytes refl
+
+-- what the watcher received so far
+pub checked_to : {V W : Type 0} (told : W → List (Stretch V) → W → Type 0) (takes : Tree → Type 0) (reads : Tree → V → Type 0) (limit : ℕ) (held : Option (List ℕ)) (old new : W) (scan : ClosedScan) (stretches : List (Stretch V)) → told old stretches new
+    → ((bytes : List ℕ) → held ≡ Some bytes → StandsBehind takes reads limit bytes scan stretches) → IsCheckedTo told takes reads limit held old new
+checked_to told takes reads limit held old new scan stretches handed behind = record {
+  stretches = stretches;
+  handed = handed;
+  are = if_told held (λ bytes. AreFirstStretches takes reads limit (with_zero bytes) stretches) (λ bytes h. (passed_by bytes scan, (behind bytes h).are));
+}
+
+-- it received nothing yet
+pub checked_none : {V W : Type 0} (told : W → List (Stretch V) → W → Type 0) (takes : Tree → Type 0) (reads : Tree → V → Type 0) (limit : ℕ) (held : Option (List ℕ)) (old : W) → told old [] old → IsCheckedTo told takes reads limit held old old
+checked_none {V = V} told takes reads limit held old nothing = record {
+  stretches = [];
+  handed = nothing;
+  are = if_told held (λ bytes. AreFirstStretches {V = V} takes reads limit (with_zero bytes) []) (λ bytes h. (0, tt));
+}
 
 -- what is said where there is a result, by what was
 pub ok_by : {A E : Type 0} {P Q : A → Type 0} (r : Result A E) → IfOk r P → ((x : A) → P x → Q x) → IfOk r Q

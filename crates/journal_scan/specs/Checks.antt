@@ -1,5 +1,5 @@
 -- What a log's stretches are as a whole, and what checking it finds.
-use Rattle.std.specs.Prelude.{◌≡◌, ◌↔◌, ℕ, ◌-◌, ◌^◌, ◌<◌, Bool, false, IsTrue, List, [], ◌∷◌, ◌++◌, length, map, if◌then◌else◌, Option, Some, None, IfSome}
+use Rattle.std.specs.Prelude.{◌≡◌, ◌↔◌, ℕ, ◌-◌, ◌^◌, ◌<◌, Bool, false, IsTrue, List, [], ◌∷◌, ◌++◌, length, take, map, if◌then◌else◌, Option, Some, None, IfSome}
 use Rattle.std.specs.List.{AllZip, Contains}
 use Rattle.postcard_tree.specs.Tree.{Tree}
 use Rattle.link.specs.Stream.{ended, HoldsExactly}
@@ -71,6 +71,32 @@ pub record IsChecked {V W : Type 0} (told : W → List (Stretch V) → W → Typ
   pub tallied : IsTally (numbers_of (records_in counted stretches)) tally
   -- the unfinished one ends where the log does, and is no record
   pub rest : IfSome held (λ bytes. IsRest bytes unfinished)
+
+-- these are the first stretches of a log, in order: all that zeros end among so many of its bytes
+abbrev pub AreFirstStretches : {V : Type 0} → (Tree → Type 0) → (Tree → V → Type 0) → ℕ → List ℕ → List (Stretch V) → Type 0
+AreFirstStretches takes reads limit bytes stretches = (count : ℕ) × StandAt takes reads limit bytes (ended 0 (take count bytes)) stretches
+
+-- The watcher received the first stretches of a log and a zero, in order, and nothing else.
+pub record IsCheckedTo {V W : Type 0} (told : W → List (Stretch V) → W → Type 0)
+    (takes : Tree → Type 0) (reads : Tree → V → Type 0) (limit : ℕ)
+    (held : Option (List ℕ)) (old new : W) : Type 0 where
+  -- the stretches that were reported
+  pub stretches : List (Stretch V)
+  -- the watcher received them, in order
+  pub handed : told old stretches new
+  -- they are the first stretches of the log and a zero
+  pub are : IfSome held (λ bytes. AreFirstStretches takes reads limit (with_zero bytes) stretches)
+
+-- what the watcher received of a log that wasn't checked to its end: its first stretches; after these it may have halted
+abbrev pub StopsAfter : {V W : Type 0} → (W → List (Stretch V) → W → Type 0) → (W → Type 0) → (Tree → Type 0) → (Tree → V → Type 0) → ℕ → Option (List ℕ) → W → W → CheckError → Type 0
+StopsAfter told halts takes reads limit held old new (Read e) = IsCheckedTo told takes reads limit held old new
+StopsAfter {W = W} told halts takes reads limit held old new Halted = (mid : W) × IsCheckedTo told takes reads limit held old mid × halts mid
+
+-- a fact unless a read failed
+abbrev pub UnlessFault : CheckError → Type 0 → Type 0
+UnlessFault (Read Fault) P = Unit {0}
+UnlessFault (Read NoMemory) P = P
+UnlessFault Halted P = P
 
 -- Whether the number of a record that counts was among those before it; of none it isn't. Of the greatest number of all that isn't
 -- said.

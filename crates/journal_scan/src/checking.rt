@@ -2,7 +2,7 @@
 ghost use Rattle.std.specs.Prelude.{◌≡◌, ◌↔◌, ℕ, ◌≤◌, true, List, ◌++◌, OnOk, IfOk, IfErr};
 ghost use Rattle.line_io.specs.Transfers.{Failed};
 ghost use Rattle.journal.specs.Reading.{HaltsBehind};
-ghost use Rattle.journal_scan.specs.Checks.{IsChecked, IsNoRecord, CheckCause, IsAgain, record_in, numbers_of};
+ghost use Rattle.journal_scan.specs.Checks.{IsChecked, IsNoRecord, CheckCause, StopsAfter, UnlessFault, IsAgain, record_in, numbers_of};
 ghost use Rattle.journal_scan.specs.Tallies.{IsTally};
 
 use crate::closing::ClosedScan;
@@ -85,6 +85,7 @@ fn count_record<T, W: Watcher<T>>(
 /// any other. `limit` is the greatest length of a stretch, in bytes.
 ///
 /// # Errors
+/// The watcher received the first stretches of the log, in order, and nothing else.
 /// - `Read`: a read failed, or an allocation did.
 /// - `Halted`: the watcher halted.
 ///
@@ -116,6 +117,10 @@ pub fn check<T: DeserializeOwned + Exact, S: Store, W: Watcher<T>>(
     ensures quiet { OnOk result ((S.line store.new).faults ≡ (S.line store.old).faults) }
     ensures cause { IfErr result (λ e. CheckCause (Failed (S.line store.old) (S.line store.new))
         (HaltsBehind W.told W.halts watcher.old) e) }
+    ensures so_far { IfErr result (λ e. StopsAfter W.told W.halts T.form.takes T.form.reads limit
+        (S.line store.old).told watcher.old watcher.new e) }
+    ensures calm { IfErr result
+        (λ e. UnlessFault e ((S.line store.new).faults ≡ (S.line store.old).faults)) }
     ensures more { (S.line store.old).faults ≤ (S.line store.new).faults }
 {
     let mut scan = match ClosedScan::new(alloc, limit) {

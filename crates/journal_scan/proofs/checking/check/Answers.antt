@@ -3,7 +3,7 @@ use Rattle.journal_scan.specs.Closing.{FoundClosed}
 use Rattle.journal_scan.specs.Checks.{AreStretches, IsRest}
 use Rattle.journal_scan.specs.Scanning.{with_zero}
 use Rattle.journal_scan.specs.Tallies.{IsTally}
-use Rattle.journal_scan.proofs.StretchesLemmas.{none_behind, one_behind, all_behind, left_behind, numbers_more, if_told}
+use Rattle.journal_scan.proofs.StretchesLemmas.{none_behind, one_behind, all_behind, left_behind, numbers_more, if_told, checked_to, checked_none}
 use Rattle.journal_scan.proofs.checking.check.Goals as goal
 
 pub loop-stretch-init : goal.loop-stretch-init
@@ -65,3 +65,25 @@ returns-then-is_left_over-clause-checked g c =
       tallied = before.tallied;
       rest = if_told held (λ bytes. IsRest bytes (Some s)) (λ bytes h. ((ends bytes h).1, left.1));
     }
+
+pub returns-in-Err-clause-so_far : goal.returns-in-Err-clause-so_far
+returns-in-Err-clause-so_far g c =
+    checked_none g.W.Watcher.told g.T.Readable.form.takes g.T.Readable.form.reads c.args.limit (g.S.Store.line c.args.store.now).told c.args.watcher.now (g.met.W.Watcher.laws.nothing c.args.watcher.now)
+
+pub returns-in-Err-next-clause-so_far : goal.returns-in-Err-next-clause-so_far
+returns-in-Err-next-clause-so_far g c =
+    let before = c.loop-stretch.invariant in
+    checked_to g.W.Watcher.told g.T.Readable.form.takes g.T.Readable.form.reads c.args.limit (g.S.Store.line c.args.store.now).told c.args.watcher.now c.loop-stretch.watcher c.loop-stretch.scan before.stretches before.handed before.behind
+
+pub returns-in-Err-count_record-clause-so_far : goal.returns-in-Err-count_record-clause-so_far
+returns-in-Err-count_record-clause-so_far g c =
+    let before = c.loop-stretch.invariant in
+    checked_to g.W.Watcher.told g.T.Readable.form.takes g.T.Readable.form.reads c.args.limit (g.S.Store.line c.args.store.now).told c.args.watcher.now c.loop-stretch.watcher c.loop-stretch.scan before.stretches before.handed before.behind
+
+pub returns-then-is_err-clause-so_far : goal.returns-then-is_err-clause-so_far
+returns-then-is_err-clause-so_far g c =
+    let before = c.loop-stretch.invariant in (
+      c.loop-stretch.watcher,
+      checked_to g.W.Watcher.told g.T.Readable.form.takes g.T.Readable.form.reads c.args.limit (g.S.Store.line c.args.store.now).told c.args.watcher.now c.loop-stretch.watcher c.loop-stretch.scan before.stretches before.handed before.behind,
+      search rules,
+    )
