@@ -1,5 +1,5 @@
 -- Records that are read of a log one after another, and appended anew.
-use Rattle.std.proofs.Common.{◌≡◌, ℕ, ◌+◌, ◌-◌, ◌^◌, ◌<◌, ◌≤◌, min, max, true, List, [], ◌∷◌, ◌++◌, length, take, Option, Some, None, Result, Ok, Err, refl, sym, ap, ◌∙◌, subst, arith}
+use Rattle.std.proofs.Common.{◌≡◌, ℕ, ◌+◌, ◌-◌, ◌^◌, ◌<◌, ◌≤◌, min, max, Bool, true, List, [], ◌∷◌, ◌++◌, length, take, Option, Some, None, Result, Ok, Err, refl, sym, ap, ◌∙◌, subst, inl, inr, arith}
 use Rattle.std.specs.Prelude.{IfErr, IfSome}
 use Rattle.std.specs.List.{AllZip}
 use Rattle.std.proofs.lemmas.List.{append-nil, take_all, length-append, length-take}
@@ -7,7 +7,7 @@ use Rattle.std.proofs.Math.Seq.{take-append-add}
 use Rattle.cobs.specs.Frames.{shortest_frame}
 use Rattle.cobs.specs.Sentinel.{frame_for}
 use Rattle.line_io.specs.Device.{LineState, Grew, Wrote}
-use Rattle.line_io.specs.Calls.{Wrote-then}
+use Rattle.line_io.specs.Calls.{Wrote-then, Wrote-none}
 use Rattle.postcard_tree.specs.Tree.{Tree, byte, number, character, sequence, group, part, end}
 use Rattle.postcard_tree.specs.Spelling.{short}
 use Rattle.postcard.specs.Written.{WrittenWhole, UnlessRefused}
@@ -26,11 +26,13 @@ use Rattle.journal_scan.specs.declared.scanning.Stretch.{Stretch}
 use Rattle.journal_scan.specs.declared.repairing.Repaired.{Repaired}
 use Rattle.journal_scan.specs.declared.repairing.RepairError.{RepairError}
 use Rattle.journal_scan.specs.declared.repairing.RepairError.TheVariants.{Read, Refused, Line, Sync}
+use Rattle.journal_scan.specs.declared.scanning.ScanError.{ScanError}
+use Rattle.journal_scan.specs.declared.scanning.ScanError.TheVariants.{Fault, NoMemory}
 use Rattle.journal_scan.specs.Tallies.{behind_greatest}
 use Rattle.journal_scan.specs.Checks.{numbers_of}
 use Rattle.journal_scan.specs.Scanning.{Found, FoundAll, with_zero, told_with_zero}
-use Rattle.journal_scan.specs.Closing.{IsClosing, HasPassedNone, FoundClosed, passed_by}
-use Rattle.journal_scan.specs.Repairs.{appended_anew, anew_joined, rewritten, IsTreeOf, AreTreesOf, AreReadIn, AreReadFirst, IsRepaired, IsPartlyRepaired, record_read, WentAnew, GoesAnew, StopsAnew, IfRefused, IfUnsynced}
+use Rattle.journal_scan.specs.Closing.{IsClosing, HasPassedNone, FoundClosed, LostClosed, passed_by}
+use Rattle.journal_scan.specs.Repairs.{appended_anew, anew_joined, rewritten, IsTreeOf, AreTreesOf, AreReadIn, AreReadFirst, IsRepaired, IsPartlyRepaired, IsRepairedTo, LosesNext, StopsWhole, record_read, WentAnew, GoesAnew, StopsAnew, IfRefused, IfUnsynced}
 use Rattle.journal_scan.proofs.GapsLemmas.{behind_push}
 use Rattle.journal_scan.proofs.StretchesLemmas.{numbers_joined}
 
@@ -119,7 +121,7 @@ module _ (takes : Tree → Type 0) (limit : ℕ) (bytes : List ℕ) where
       record { answers = all; whole = whole; are = values_done whole ∙ h.are }
 
   -- what is read of the bytes so far
-  pub some_read : (at : ℕ) (ts : List Tree) → ReadsTo takes limit bytes at ts → AreReadFirst takes limit bytes ts
+  abbrev pub some_read : (at : ℕ) (ts : List Tree) → ReadsTo takes limit bytes at ts → AreReadFirst takes limit bytes ts
   some_read at ts h =
       let u = unfinished 0 (take at bytes) in
       record {
@@ -165,6 +167,11 @@ wrote_still old mid new bs w e l = record { grew = subst (λ x. Grew old.told x 
 pub on_any : {T E : Type 0} (r : Result T E) (P : Type 0) → P → IfErr r (λ _. P)
 on_any (Ok x) P p = tt
 on_any (Err e) P p = p
+
+-- no buffer was made
+pub unread_none : {T : Type 0} (r : Result T RepairError) (takes : Tree → Type 0) (growing : Bool) (limit : ℕ) (held : Option (List ℕ)) (old : LineState) → IfErr r (λ e. e ≡ Read NoMemory) → IfErr r (λ e. StopsWhole takes growing limit held old old e)
+unread_none (Ok x) takes growing limit held old h = tt
+unread_none (Err e) takes growing limit held old h = subst (StopsWhole takes growing limit held old old) (sym h) (inl (Wrote-none old))
 
 -- an append doesn't sync
 pub if_stopped : {V : Type 0} (writes : V → Option Tree) (most : ℕ) (a : Answer (ℕ × V)) (old new : LineState) (e : RepairError) (P : Type 0) → StopsAnew writes most a old new e → IfUnsynced e P
@@ -245,6 +252,30 @@ module _ {V : Type 0} (reads : Tree → V → Type 0) (writes : V → Option Tre
     -- it was broken off between two stretches
     pub repair_stops : (new : LineState) → new.told ≡ now.told → now.faults ≤ new.faults → IsPartlyRepaired takes limit (told_with_zero held) old new
     repair_stops new e l = record { trees = h.trees; count = length (rewritten h.trees); read = so_far; wrote = wrote_still old now new _ (all_anew old now now h.trees h.wrote) e l }
+
+    -- what was appended is whole
+    whole_to : (new : LineState) → Wrote now new [] → (goes_on : List ℕ → ℕ → Type 0) → ((bytes : List ℕ) → held ≡ Some bytes → goes_on (with_zero bytes) (passed_by bytes scan)) → IsRepairedTo takes limit (told_with_zero held) old new goes_on
+    whole_to new w goes_on f = record {
+      trees = h.trees;
+      read = if_with_zero held (λ bytes. (first : AreReadFirst takes limit bytes h.trees) × goes_on bytes first.count) (λ bytes x. (some_read takes limit (with_zero bytes) (passed_by bytes scan) h.trees (h.behind bytes x).to, f bytes x));
+      wrote = subst (Wrote old new) (append-nil (rewritten h.trees)) (Wrote-then _ _ _ _ _ h.wrote w);
+    }
+
+    -- so it is where the next stretch wasn't read
+    pub repair_unread : (growing : Bool) (later : ClosedScan) (e : ScanError) → (e ≡ NoMemory → growing ≡ true) → (e ≡ NoMemory → (bytes : List ℕ) → held ≡ Some bytes → IsClosing limit bytes scan → LostClosed limit bytes scan later)
+        → StopsWhole takes growing limit (told_with_zero held) old now (Read e)
+    repair_unread growing later Fault grows lost = whole_to now (Wrote-none now) (λ _ _. Unit {0}) (λ _ _. tt)
+    repair_unread growing later NoMemory grows lost = inr (grows refl, whole_to now (Wrote-none now) (LosesNext limit) (λ bytes x. (passed_by bytes later, (lost refl bytes x (h.behind bytes x).closing).1)))
+
+    -- and where a record was refused
+    pub repair_whole : (growing : Bool) (new : LineState) (most : ℕ) (a : Answer (ℕ × V)) (e : RepairError) → StopsAnew writes most a now new e → StopsWhole takes growing limit (told_with_zero held) old new e
+    repair_whole growing new most (Value r) (Refused x) st = whole_to new st.0 (λ _ _. Unit {0}) (λ _ _. tt)
+    repair_whole growing new most (Value r) Line st = tt
+    repair_whole growing new most (Value r) Sync st = tt
+    repair_whole growing new most (Value r) (Read x) st = absurd st
+    repair_whole growing new most Damaged e st = absurd st
+    repair_whole growing new most TooLong e st = absurd st
+    repair_whole growing new most Cut e st = absurd st
 
     -- all of it was appended
     pub repair_ends : (later : ClosedScan) (new : LineState) → ((bytes : List ℕ) → held ≡ Some bytes → IsClosing limit bytes scan → FoundClosed {V = V} takes reads limit bytes scan later None) → new.told ≡ now.told → now.faults ≤ new.faults

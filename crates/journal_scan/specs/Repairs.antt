@@ -1,5 +1,5 @@
 -- What appending the records of a log anew writes.
-use Rattle.std.specs.Prelude.{◌≡◌, ℕ, ◌+◌, ◌-◌, ◌^◌, ◌<◌, min, true, List, [], ◌∷◌, ◌++◌, length, map, take, Option, Some, IfSome}
+use Rattle.std.specs.Prelude.{◌≡◌, ◌⊎◌, ℕ, ◌+◌, ◌-◌, ◌^◌, ◌<◌, min, Bool, true, List, [], ◌∷◌, ◌++◌, length, map, take, Option, Some, IfSome}
 use Rattle.std.proofs.Common.{refl, sym, ap, ◌∙◌, append_assoc}
 use Rattle.std.specs.List.{AllZip}
 use Rattle.cobs.specs.Frames.{shortest_frame}
@@ -13,6 +13,7 @@ use Rattle.link.specs.declared.receiver.Answer.{Answer}
 use Rattle.link.specs.declared.receiver.Answer.TheVariants.{Value, Damaged, TooLong, Cut}
 use Rattle.journal.specs.Records.{numbered, record_of, takes_record}
 use Rattle.journal_scan.specs.Checks.{numbers_of}
+use Rattle.journal_scan.specs.Scanning.{IsLostStretch}
 use Rattle.journal_scan.specs.Tallies.{behind_greatest}
 use Rattle.journal_scan.specs.declared.scanning.ScanError.TheVariants.{Fault, NoMemory}
 use Rattle.journal_scan.specs.declared.repairing.Repaired.{Repaired}
@@ -97,6 +98,34 @@ pub record IsPartlyRepaired (takes : Tree → Type 0) (limit : ℕ)
   -- the destination has grown by the first bytes of a zero and these records
   pub wrote : Wrote old new (take count (rewritten trees))
 
+-- A repair stopped between two records: a zero and the first records that are read of a log were appended, each of them whole. This
+-- holds of the log and of how many of its bytes were read.
+pub record IsRepairedTo (takes : Tree → Type 0) (limit : ℕ)
+    (held : Option (List ℕ)) (old new : LineState) (goes_on : List ℕ → ℕ → Type 0) : Type 0 where
+  -- the trees of the first records
+  pub trees : List Tree
+  -- they are the first records that are read of the log, and that holds
+  pub read : IfSome held (λ bytes. (first : AreReadFirst takes limit bytes trees) × goes_on bytes first.count)
+  -- the destination has grown by exactly a zero and these records
+  pub wrote : Wrote old new (rewritten trees)
+
+-- after so many bytes of a log the next stretch is one whose value was lost
+abbrev pub LosesNext : ℕ → List ℕ → ℕ → Type 0
+LosesNext limit bytes at = (later : ℕ) × IsLostStretch limit bytes at later
+
+-- What was appended before reading the log, or a record, stopped a repair: whole records. If a value was lost, they are all that are
+-- read before it; if a buffer could not be allocated, nothing was appended.
+abbrev pub StopsWhole : (Tree → Type 0) → Bool → ℕ → Option (List ℕ)
+    → LineState → LineState → RepairError → Type 0
+StopsWhole takes growing limit held old new (Read Fault) =
+    IsRepairedTo takes limit held old new (λ _ _. Unit {0})
+StopsWhole takes growing limit held old new (Read NoMemory) = Wrote old new []
+    ⊎ ((growing ≡ true) × IsRepairedTo takes limit held old new (LosesNext limit))
+StopsWhole takes growing limit held old new (Refused e) =
+    IsRepairedTo takes limit held old new (λ _ _. Unit {0})
+StopsWhole takes growing limit held old new Line = Unit {0}
+StopsWhole takes growing limit held old new Sync = Unit {0}
+
 -- the record that a result is, if it is one
 abbrev pub record_read : {V : Type 0} → Answer (ℕ × V) → List (ℕ × V)
 record_read (Value r) = r ∷ []
@@ -169,3 +198,11 @@ IfUnsynced (Read e) P = Unit {0}
 IfUnsynced (Refused e) P = Unit {0}
 IfUnsynced Line P = Unit {0}
 IfUnsynced Sync P = P
+
+-- facts of the log's store and of the destination, but of the one whose fault is the cause
+abbrev pub UnlessCause : RepairError → Type 0 → Type 0 → Type 0
+UnlessCause (Read Fault) P Q = Q
+UnlessCause (Read NoMemory) P Q = P × Q
+UnlessCause (Refused e) P Q = P × Q
+UnlessCause Line P Q = P
+UnlessCause Sync P Q = P

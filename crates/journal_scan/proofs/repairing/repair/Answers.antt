@@ -1,6 +1,9 @@
-use Rattle.std.proofs.Common.{◌∷◌, [], refl, ◌∙◌, arith}
+use Rattle.std.proofs.Common.{◌∷◌, [], Err, refl, sym, ap, subst, inl, ◌∙◌, arith, rules}
 use Rattle.line_io.specs.Calls.{Wrote-none}
-use Rattle.journal_scan.proofs.AnewLemmas.{if_stopped, none_appended, went_so, on_any, found_told, repair_begins, repair_ends, repair_stops, repair_goes, repair_breaks, repair_fits}
+use Rattle.journal_scan.proofs.AnewLemmas.{if_stopped, none_appended, went_so, on_any, found_told, repair_begins, repair_ends, repair_stops, repair_goes, repair_breaks, repair_fits, repair_unread, repair_whole, unread_none}
+use Rattle.journal_scan.specs.Repairs.{StopsWhole}
+use Rattle.journal_scan.specs.Scanning.{told_with_zero}
+use Rattle.journal_scan.specs.declared.repairing.RepairError.TheVariants.{Read}
 use Rattle.journal_scan.proofs.repairing.repair.Goals as goal
 use Rattle.journal_scan.proofs.repairing.repair.Goals.{in-Ok-sync, in-Err-sync}
 
@@ -91,3 +94,21 @@ loop-stretch-preserved-in-Ok-append_answer g c =
       quiet = c.in-Ok-append_answer.ensures.quiet ∙ before.quiet;
       so_far = repair_goes g.T.Readable.form.reads g.T.Readable.form.writes g.met.T.Exact.writes_back g.T.Readable.form.takes c.args.limit _ _ before.so_far c.next.new.self c.in-Ok-Some.stretch found _ c.in-Ok-append_answer.later c.in-Ok-append_answer.ensures.goes;
     }
+
+pub returns-in_err-buffer-clause-whole : goal.returns-in_err-buffer-clause-whole
+returns-in_err-buffer-clause-whole g c = unread_none c.from_residual.result g.T.Readable.form.takes g.T.Readable.form.growing c.args.limit (told_with_zero (g.S.Store.line c.args.from.now).told) (g.D.Store.line c.args.to.now) (search rules)
+
+pub returns-in-Err-clause-whole : goal.returns-in-Err-clause-whole
+returns-in-Err-clause-whole g c =
+    subst (λ e. StopsWhole g.T.Readable.form.takes g.T.Readable.form.growing c.args.limit (told_with_zero (g.S.Store.line c.args.from.now).told) (g.D.Store.line c.args.to.now) (g.D.Store.line c.args.to.now) (Read e)) (sym c.in-Err.ensures.memory)
+    (inl (Wrote-none (g.D.Store.line c.args.to.now)))
+
+pub returns-in-Err-next-clause-whole : goal.returns-in-Err-next-clause-whole
+returns-in-Err-next-clause-whole g c =
+    let before = c.loop-stretch.invariant in
+    repair_unread g.T.Readable.form.reads g.T.Readable.form.writes g.met.T.Exact.writes_back g.T.Readable.form.takes c.args.limit _ _ before.so_far g.T.Readable.form.growing c.next.new.self c.in-Err-next.e
+    (λ m. c.next.ensures.memory (c.in-Err-next.is ∙ ap (λ x. Err x) m)) (λ m bytes x k. c.next.ensures.lost (c.in-Err-next.is ∙ ap (λ x. Err x) m) c.args.limit bytes (before.held ∙ x) k)
+
+pub returns-in-Err-append_answer-clause-whole : goal.returns-in-Err-append_answer-clause-whole
+returns-in-Err-append_answer-clause-whole g c =
+    repair_whole g.T.Readable.form.reads g.T.Readable.form.writes g.met.T.Exact.writes_back g.T.Readable.form.takes c.args.limit _ _ c.loop-stretch.invariant.so_far g.T.Readable.form.growing _ _ c.in-Ok-Some.stretch.answer c.in-Err-append_answer.e c.in-Err-append_answer.ensures.stops
