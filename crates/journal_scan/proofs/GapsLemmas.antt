@@ -1,5 +1,6 @@
 -- Ranges of numbers, and what one number more makes of them.
-use Rattle.std.proofs.Common.{◌≡◌, ◌↔◌, ◌⊎◌, ℕ, ◌+◌, ◌-◌, ◌^◌, ◌<◌, ◌≤◌, max, min, List, [], ◌∷◌, ◌++◌, refl, sym, ◌∙◌, subst, inl, inr, arith}
+use Rattle.std.proofs.Common.{◌≡◌, ◌↔◌, ◌⊎◌, ℕ, ◌+◌, ◌-◌, ◌^◌, ◌<◌, ◌≤◌, max, min, List, [], ◌∷◌, ◌++◌, Result, Ok, Err, refl, sym, ◌∙◌, subst, inl, inr, arith}
+use Rattle.std.specs.Prelude.{OnErr}
 use Rattle.std.specs.List.{Contains}
 use Rattle.std.proofs.lemmas.Bool.{lt-ltb, le-ltb, cases_lt, cases_eq}
 use Rattle.std.proofs.lemmas.List.{length-append}
@@ -181,6 +182,10 @@ module _ {ns : List ℕ} {next : ℕ} {gaps : List Gap} {count : ℕ} (t : Talli
       let b = behind_joined 0 gaps w in
       let c = a.behind (behind_ranges 0 gaps) (λ y. (let u = t.under (omega (arith, later_is, x, y, l)) in omega (arith, u, l))) in
       omega (arith, later_is, b, c, x))))
+
+pub on_err_any : {T E : Type 0} (r : Result T E) (P : Type 0) → P → OnErr r P
+on_err_any (Ok x) P p = tt
+on_err_any (Err e) P p = p
 
 -- a number in one of the ranges
 module _ {ns : List ℕ} {next count : ℕ} (front rest : List Gap) (g : Gap) (n : ℕ) (t : Tallies ns next (front ++ (g ∷ rest)) count) (f : g.first ≤ n) (m : n ≤ g.last) where

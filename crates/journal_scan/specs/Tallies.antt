@@ -89,6 +89,11 @@ gap_before from n = if nat_lt from n then record { first = from; last = n - 1 } 
 abbrev pub gaps_without : Gap → ℕ → List Gap
 gaps_without g n = gap_before g.first n ++ gap_before (n + 1) (g.last + 1)
 
+-- To count a number a further range may be needed: it isn't the next one, and wasn't counted before (of the greatest number of all
+-- that isn't said).
+abbrev pub NeedsRange : List ℕ → ℕ → Type 0
+NeedsRange numbers n = (n ≡ behind_greatest numbers → ⊥) × (n < 2 ^ 64 - 1 → Contains numbers n → ⊥)
+
 -- The number after the greatest of some is above each of them, but for 2^64 - 1.
 abbrev pub StandsAboveAll : Type 0
 StandsAboveAll = (numbers : List ℕ) (n : ℕ) → Contains numbers n → n < 2 ^ 64 - 1

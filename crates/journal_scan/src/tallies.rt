@@ -26,7 +26,7 @@ pub struct Tally {
 }
 
 impl Tally {
-    ghost use Rattle.journal_scan.specs.Tallies.{IsTally, Tallies, AreApart, AreMissing, LiesIn, IsGapAt, KeysBelow, behind_greatest, behind_ranges, gaps_of, gaps_without, gap_before, gap};
+    ghost use Rattle.journal_scan.specs.Tallies.{IsTally, Tallies, AreApart, AreMissing, NeedsRange, LiesIn, IsGapAt, KeysBelow, behind_greatest, behind_ranges, gaps_of, gaps_without, gap_before, gap};
 
     /// A tally that has counted nothing. Doesn't allocate yet.
     pub fn new(alloc: Global) -> Tally
@@ -116,6 +116,7 @@ impl Tally {
         ensures next { self.new.next ≡ self.old.next }
         ensures count { self.new.count ≡ self.old.count }
         ensures kept { OnErr result (self.new.gaps.entries ≡ self.old.gaps.entries) }
+        ensures needs { OnErr result (self.old.next < number) }
     {
         if self.next < number {
             return match self.gaps.insert(self.next, number - 1) {
@@ -136,6 +137,8 @@ impl Tally {
         ensures count { self.new.count ≡ self.old.count }
         ensures kept { OnErr result ((numbers : List ℕ) → IsTally numbers self.old
             → IsTally numbers self.new) }
+        ensures needs { OnErr result ((numbers : List ℕ) → IsTally numbers self.old
+            → NeedsRange numbers number) }
     {
         if number < self.next {
             return match self.gap_at(number) {
@@ -154,7 +157,8 @@ impl Tally {
     /// Counts a number, and returns whether it was counted before; what it returns for 2^64 - 1 isn't specified.
     ///
     /// # Errors
-    /// `NoMemory`: a range of missing numbers couldn't be allocated, and the number isn't counted.
+    /// `NoMemory`: a range of missing numbers couldn't be allocated, and the number isn't counted. It wasn't counted before, and isn't
+    /// `next`.
     ///
     /// # Allocates
     /// A range of missing numbers, if there is one more.
@@ -173,6 +177,8 @@ impl Tally {
             → number < 2 ^ 64 - 1 → IsTrue again ↔ Contains numbers number) }
         ensures kept { OnErr result ((numbers : List ℕ) → IsTally numbers self.old
             → IsTally numbers self.new) }
+        ensures needs { OnErr result ((numbers : List ℕ) → IsTally numbers self.old
+            → NeedsRange numbers number) }
     {
         let again = self.put(number)?;
         self.count = self.count.saturating_add(1);
