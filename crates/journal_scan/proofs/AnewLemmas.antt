@@ -30,9 +30,9 @@ use Rattle.journal_scan.specs.declared.scanning.ScanError.{ScanError}
 use Rattle.journal_scan.specs.declared.scanning.ScanError.TheVariants.{Fault, NoMemory}
 use Rattle.journal_scan.specs.Tallies.{behind_greatest}
 use Rattle.journal_scan.specs.Checks.{numbers_of}
-use Rattle.journal_scan.specs.Scanning.{Found, FoundAll, with_zero, told_with_zero}
+use Rattle.journal_scan.specs.Scanning.{Found, FoundAll, LosesNext, with_zero, told_with_zero}
 use Rattle.journal_scan.specs.Closing.{IsClosing, HasPassedNone, FoundClosed, LostClosed, passed_by}
-use Rattle.journal_scan.specs.Repairs.{appended_anew, anew_joined, rewritten, IsTreeOf, AreTreesOf, AreReadIn, AreReadFirst, IsRepaired, IsPartlyRepaired, IsRepairedTo, LosesNext, StopsWhole, record_read, WentAnew, GoesAnew, StopsAnew, IfRefused, IfUnsynced}
+use Rattle.journal_scan.specs.Repairs.{appended_anew, anew_joined, rewritten, IsTreeOf, AreTreesOf, AreReadIn, AreReadFirst, IsRepaired, IsPartlyRepaired, IsRepairedTo, StopsWhole, record_read, WentAnew, GoesAnew, StopsAnew, IfRefused, IfUnsynced}
 use Rattle.journal_scan.proofs.GapsLemmas.{behind_push}
 use Rattle.journal_scan.proofs.StretchesLemmas.{numbers_joined}
 

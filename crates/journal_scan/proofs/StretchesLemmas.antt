@@ -1,5 +1,5 @@
 -- The stretches that a scan found one after another.
-use Rattle.std.proofs.Common.{◌≡◌, ℕ, ◌+◌, ◌-◌, ◌^◌, ◌<◌, Bool, true, false, List, [], ◌∷◌, ◌++◌, length, take, Option, Some, None, Result, Ok, Err, refl, sym, ap, ◌∙◌, subst, append_assoc, arith}
+use Rattle.std.proofs.Common.{◌≡◌, ℕ, ◌+◌, ◌-◌, ◌^◌, ◌<◌, Bool, true, false, List, [], ◌∷◌, ◌++◌, length, take, Option, Some, None, Result, Ok, Err, refl, sym, ap, ◌∙◌, subst, inl, inr, append_assoc, arith}
 use Rattle.std.specs.Prelude.{IfSome, IfOk, IsTrue, ◌↔◌, if◌then◌else◌}
 use Rattle.std.specs.List.{Contains}
 use Rattle.std.proofs.lemmas.List.{append-nil, take_all, length-append}
@@ -10,9 +10,13 @@ use Rattle.link.specs.declared.receiver.Answer.{Answer}
 use Rattle.link.specs.declared.receiver.Answer.TheVariants.{Value}
 use Rattle.journal_scan.specs.declared.scanning.Stretch.{Stretch}
 use Rattle.journal_scan.specs.declared.closing.ClosedScan.{ClosedScan}
-use Rattle.journal_scan.specs.Scanning.{offset_of, with_zero}
-use Rattle.journal_scan.specs.Closing.{IsClosing, HasPassedNone, FoundClosed, passed_by}
-use Rattle.journal_scan.specs.Checks.{StandAt, AreStretches, AreFirstStretches, IsCheckedTo, IsAgain, record_in, records_in, numbers_of}
+use Rattle.journal_scan.specs.declared.scanning.ScanError.{ScanError}
+use Rattle.journal_scan.specs.declared.scanning.ScanError.TheVariants.{Fault, NoMemory}
+use Rattle.journal_scan.specs.declared.checking.CheckError.TheVariants.{Read}
+use Rattle.journal_scan.specs.Tallies.{NeedsRange}
+use Rattle.journal_scan.specs.Scanning.{LosesNext, offset_of, with_zero}
+use Rattle.journal_scan.specs.Closing.{IsClosing, HasPassedNone, FoundClosed, LostClosed, passed_by}
+use Rattle.journal_scan.specs.Checks.{StandAt, AreStretches, AreFirstStretches, IsCheckedTo, OneNeedsRange, StopsAfter, IsAgain, record_in, records_in, numbers_of}
 
 -- all of a log with a zero behind it
 all_taken : (bytes : List ℕ) → ended 0 (take (length bytes + 1) (with_zero bytes)) ≡ ended 0 (with_zero bytes)
@@ -60,21 +64,42 @@ if_told None P h = tt
 if_told (Some bytes) P h = h bytes refl
 
 -- what the watcher received so far
-pub checked_to : {V W : Type 0} (told : W → List (Stretch V) → W → Type 0) (takes : Tree → Type 0) (reads : Tree → V → Type 0) (limit : ℕ) (held : Option (List ℕ)) (old new : W) (scan : ClosedScan) (stretches : List (Stretch V)) → told old stretches new
-    → ((bytes : List ℕ) → held ≡ Some bytes → StandsBehind takes reads limit bytes scan stretches) → IsCheckedTo told takes reads limit held old new
-checked_to told takes reads limit held old new scan stretches handed behind = record {
-  stretches = stretches;
-  handed = handed;
-  are = if_told held (λ bytes. AreFirstStretches takes reads limit (with_zero bytes) stretches) (λ bytes h. (passed_by bytes scan, (behind bytes h).are));
-}
+module _ {V W : Type 0} (told : W → List (Stretch V) → W → Type 0) (takes : Tree → Type 0) (reads : Tree → V → Type 0) (limit : ℕ) (held : Option (List ℕ)) (old now : W) (scan : ClosedScan) (stretches : List (Stretch V)) (handed : told old stretches now)
+    (behind : (bytes : List ℕ) → held ≡ Some bytes → StandsBehind takes reads limit bytes scan stretches) where
+  checked_before : (goes_on : List ℕ → ℕ → Type 0) → ((bytes : List ℕ) → held ≡ Some bytes → goes_on (with_zero bytes) (passed_by bytes scan)) → IsCheckedTo told takes reads limit held old now goes_on
+  checked_before goes_on f = record {
+    stretches = stretches;
+    handed = handed;
+    are = if_told held (λ bytes. AreFirstStretches takes reads limit (with_zero bytes) stretches goes_on) (λ bytes h. (passed_by bytes scan, (behind bytes h).are, f bytes h));
+  }
 
--- it received nothing yet
-pub checked_none : {V W : Type 0} (told : W → List (Stretch V) → W → Type 0) (takes : Tree → Type 0) (reads : Tree → V → Type 0) (limit : ℕ) (held : Option (List ℕ)) (old : W) → told old [] old → IsCheckedTo told takes reads limit held old old
-checked_none {V = V} told takes reads limit held old nothing = record {
-  stretches = [];
-  handed = nothing;
-  are = if_told held (λ bytes. AreFirstStretches {V = V} takes reads limit (with_zero bytes) []) (λ bytes h. (0, tt));
-}
+  pub checked_to : IsCheckedTo told takes reads limit held old now (λ _ _. Unit {0})
+  checked_to = checked_before (λ _ _. Unit {0}) (λ _ _. tt)
+
+  -- the next stretch wasn't read
+  pub stops_unread : (halts : W → Type 0) (counted : ℕ → V → Bool) (growing : Bool) (later : ClosedScan) (e : ScanError) → (e ≡ NoMemory → growing ≡ true) → (e ≡ NoMemory → (bytes : List ℕ) → held ≡ Some bytes → IsClosing limit bytes scan → LostClosed limit bytes scan later)
+      → StopsAfter told halts counted takes reads growing limit held old now (Read e)
+  stops_unread halts counted growing later Fault grows lost = checked_to
+  stops_unread halts counted growing later NoMemory grows lost = inr (inl (grows refl, checked_before (LosesNext limit) (λ bytes h. (passed_by bytes later, (lost refl bytes h (behind bytes h).closing).1))))
+
+  -- it was, and isn't counted
+  pub stops_uncounted : (halts : W → Type 0) (counted : ℕ → V → Bool) (growing : Bool) (later : ClosedScan) (s : Stretch V) → ((bytes : List ℕ) → held ≡ Some bytes → FoundClosed takes reads limit bytes scan later (Some s)) → OneNeedsRange (numbers_of (records_in counted stretches)) (record_in counted s.answer)
+      → StopsAfter told halts counted takes reads growing limit held old now (Read NoMemory)
+  stops_uncounted halts counted growing later s found needs = inr (inr record {
+    stretches = stretches;
+    handed = handed;
+    next = s;
+    are = if_told held (λ bytes. AreFirstStretches takes reads limit (with_zero bytes) (stretches ++ s ∷ []) (λ _ _. Unit {0})) (λ bytes h. (passed_by bytes later, (one_behind takes reads limit bytes scan later stretches (behind bytes h) s (found bytes h)).are, tt));
+    needs = needs;
+  })
+
+-- a record that counts, whose number needs a range
+pub needs_counted : {V : Type 0} (counted : ℕ → V → Bool) (r : ℕ × V) (a : Answer (ℕ × V)) (numbers : List ℕ) → a ≡ Value r → counted r.0 r.1 ≡ true → NeedsRange numbers r.0 → OneNeedsRange numbers (record_in counted a)
+needs_counted counted r a numbers e t h = subst (λ x. OneNeedsRange numbers (record_in counted x)) (sym e) (go (counted r.0 r.1) t)
+  where
+    go : (b : Bool) → b ≡ true → OneNeedsRange numbers (if b then r ∷ [] else [])
+    go true q = h
+    go false q = cc
 
 -- what is said where there is a result, by what was
 pub ok_by : {A E : Type 0} {P Q : A → Type 0} (r : Result A E) → IfOk r P → ((x : A) → P x → Q x) → IfOk r Q

@@ -1,5 +1,5 @@
 -- What a log's stretches are as a whole, and what checking it finds.
-use Rattle.std.specs.Prelude.{◌≡◌, ◌↔◌, ℕ, ◌-◌, ◌^◌, ◌<◌, Bool, false, IsTrue, List, [], ◌∷◌, ◌++◌, length, take, map, if◌then◌else◌, Option, Some, None, IfSome}
+use Rattle.std.specs.Prelude.{◌≡◌, ◌↔◌, ◌⊎◌, ℕ, ◌-◌, ◌^◌, ◌<◌, Bool, true, false, IsTrue, List, [], ◌∷◌, ◌++◌, length, take, map, if◌then◌else◌, Option, Some, None, IfSome}
 use Rattle.std.specs.List.{AllZip, Contains}
 use Rattle.postcard_tree.specs.Tree.{Tree}
 use Rattle.link.specs.Stream.{ended, HoldsExactly}
@@ -11,8 +11,8 @@ use Rattle.journal_scan.specs.declared.tallies.Tally.{Tally}
 use Rattle.journal_scan.specs.declared.scanning.ScanError.TheVariants.{Fault, NoMemory}
 use Rattle.journal_scan.specs.declared.checking.CheckError.{CheckError}
 use Rattle.journal_scan.specs.declared.checking.CheckError.TheVariants.{Read, Halted}
-use Rattle.journal_scan.specs.Scanning.{IsStretchAt, with_zero}
-use Rattle.journal_scan.specs.Tallies.{IsTally}
+use Rattle.journal_scan.specs.Scanning.{IsStretchAt, LosesNext, with_zero}
+use Rattle.journal_scan.specs.Tallies.{IsTally, NeedsRange}
 
 -- these stretches of a log are these bytes, one after another, each with its place and its answer, strictly
 abbrev pub StandAt : {V : Type 0} → (Tree → Type 0) → (Tree → V → Type 0) → ℕ → List ℕ → List (List ℕ) → List (Stretch V) → Type 0
@@ -72,32 +72,6 @@ pub record IsChecked {V W : Type 0} (told : W → List (Stretch V) → W → Typ
   -- the unfinished one ends where the log does, and is no record
   pub rest : IfSome held (λ bytes. IsRest bytes unfinished)
 
--- these are the first stretches of a log, in order: all that zeros end among so many of its bytes
-abbrev pub AreFirstStretches : {V : Type 0} → (Tree → Type 0) → (Tree → V → Type 0) → ℕ → List ℕ → List (Stretch V) → Type 0
-AreFirstStretches takes reads limit bytes stretches = (count : ℕ) × StandAt takes reads limit bytes (ended 0 (take count bytes)) stretches
-
--- The watcher received the first stretches of a log and a zero, in order, and nothing else.
-pub record IsCheckedTo {V W : Type 0} (told : W → List (Stretch V) → W → Type 0)
-    (takes : Tree → Type 0) (reads : Tree → V → Type 0) (limit : ℕ)
-    (held : Option (List ℕ)) (old new : W) : Type 0 where
-  -- the stretches that were reported
-  pub stretches : List (Stretch V)
-  -- the watcher received them, in order
-  pub handed : told old stretches new
-  -- they are the first stretches of the log and a zero
-  pub are : IfSome held (λ bytes. AreFirstStretches takes reads limit (with_zero bytes) stretches)
-
--- what the watcher received of a log that wasn't checked to its end: its first stretches; after these it may have halted
-abbrev pub StopsAfter : {V W : Type 0} → (W → List (Stretch V) → W → Type 0) → (W → Type 0) → (Tree → Type 0) → (Tree → V → Type 0) → ℕ → Option (List ℕ) → W → W → CheckError → Type 0
-StopsAfter told halts takes reads limit held old new (Read e) = IsCheckedTo told takes reads limit held old new
-StopsAfter {W = W} told halts takes reads limit held old new Halted = (mid : W) × IsCheckedTo told takes reads limit held old mid × halts mid
-
--- a fact unless a read failed
-abbrev pub UnlessFault : CheckError → Type 0 → Type 0
-UnlessFault (Read Fault) P = Unit {0}
-UnlessFault (Read NoMemory) P = P
-UnlessFault Halted P = P
-
 -- Whether the number of a record that counts was among those before it; of none it isn't. Of the greatest number of all that isn't
 -- said.
 abbrev pub IsAgain : {V : Type 0} → List ℕ → List (ℕ × V) → Bool → Type 0
@@ -109,3 +83,58 @@ abbrev pub CheckCause : Type 0 → Type 0 → CheckError → Type 0
 CheckCause failed halted (Read Fault) = failed
 CheckCause failed halted (Read NoMemory) = Unit {0}
 CheckCause failed halted Halted = halted
+
+-- a fact unless a read failed
+abbrev pub UnlessFault : CheckError → Type 0 → Type 0
+UnlessFault (Read Fault) P = Unit {0}
+UnlessFault (Read NoMemory) P = P
+UnlessFault Halted P = P
+
+-- these are the first stretches of a log, in order: all that zeros end among so many of its bytes, of which this holds
+abbrev pub AreFirstStretches : {V : Type 0} → (Tree → Type 0) → (Tree → V → Type 0) → ℕ → List ℕ → List (Stretch V) → (List ℕ → ℕ → Type 0) → Type 0
+AreFirstStretches takes reads limit bytes stretches goes_on =
+    (count : ℕ) × StandAt takes reads limit bytes (ended 0 (take count bytes)) stretches × goes_on bytes count
+
+-- The watcher received the first stretches of a log and a zero, in order, and nothing else. This holds of these bytes and of how many
+-- of them were read.
+pub record IsCheckedTo {V W : Type 0} (told : W → List (Stretch V) → W → Type 0)
+    (takes : Tree → Type 0) (reads : Tree → V → Type 0) (limit : ℕ)
+    (held : Option (List ℕ)) (old new : W) (goes_on : List ℕ → ℕ → Type 0) : Type 0 where
+  -- the stretches that were reported
+  pub stretches : List (Stretch V)
+  -- the watcher received them, in order
+  pub handed : told old stretches new
+  -- they are the first stretches of the log and a zero
+  pub are : IfSome held (λ bytes. AreFirstStretches takes reads limit (with_zero bytes) stretches goes_on)
+
+-- these records are one whose number needs a further range
+abbrev pub OneNeedsRange : {V : Type 0} → List ℕ → List (ℕ × V) → Type 0
+OneNeedsRange numbers [] = ⊥
+OneNeedsRange numbers (r ∷ _) = NeedsRange numbers r.0
+
+-- The same, and the next stretch is a record that counts, whose number needs a further range of missing numbers.
+pub record IsUncounted {V W : Type 0} (told : W → List (Stretch V) → W → Type 0)
+    (counted : ℕ → V → Bool) (takes : Tree → Type 0) (reads : Tree → V → Type 0) (limit : ℕ)
+    (held : Option (List ℕ)) (old new : W) : Type 0 where
+  -- the stretches that were reported
+  pub stretches : List (Stretch V)
+  -- the watcher received them, in order
+  pub handed : told old stretches new
+  -- the next one
+  pub next : Stretch V
+  -- with it they are the first stretches of the log and a zero
+  pub are : IfSome held (λ bytes. AreFirstStretches takes reads limit (with_zero bytes) (stretches ++ next ∷ []) (λ _ _. Unit {0}))
+  -- its number needs a range
+  pub needs : OneNeedsRange (numbers_of (records_in counted stretches)) (record_in counted next.answer)
+
+-- What the watcher received of a log that wasn't checked to its end. Out of memory: nothing, since no buffer was made; or all before
+-- a stretch whose value was lost, or whose number wasn't counted. After the last stretch it may have halted.
+abbrev pub StopsAfter : {V W : Type 0} → (W → List (Stretch V) → W → Type 0) → (W → Type 0) → (ℕ → V → Bool)
+    → (Tree → Type 0) → (Tree → V → Type 0) → Bool → ℕ → Option (List ℕ) → W → W → CheckError → Type 0
+StopsAfter told halts counted takes reads growing limit held old new (Read Fault) =
+    IsCheckedTo told takes reads limit held old new (λ _ _. Unit {0})
+StopsAfter told halts counted takes reads growing limit held old new (Read NoMemory) = told old [] new
+    ⊎ (((growing ≡ true) × IsCheckedTo told takes reads limit held old new (LosesNext limit))
+    ⊎ IsUncounted told counted takes reads limit held old new)
+StopsAfter {W = W} told halts counted takes reads growing limit held old new Halted =
+    (mid : W) × IsCheckedTo told takes reads limit held old mid (λ _ _. Unit {0}) × halts mid

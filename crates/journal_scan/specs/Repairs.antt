@@ -13,7 +13,7 @@ use Rattle.link.specs.declared.receiver.Answer.{Answer}
 use Rattle.link.specs.declared.receiver.Answer.TheVariants.{Value, Damaged, TooLong, Cut}
 use Rattle.journal.specs.Records.{numbered, record_of, takes_record}
 use Rattle.journal_scan.specs.Checks.{numbers_of}
-use Rattle.journal_scan.specs.Scanning.{IsLostStretch}
+use Rattle.journal_scan.specs.Scanning.{LosesNext}
 use Rattle.journal_scan.specs.Tallies.{behind_greatest}
 use Rattle.journal_scan.specs.declared.scanning.ScanError.TheVariants.{Fault, NoMemory}
 use Rattle.journal_scan.specs.declared.repairing.Repaired.{Repaired}
@@ -108,10 +108,6 @@ pub record IsRepairedTo (takes : Tree → Type 0) (limit : ℕ)
   pub read : IfSome held (λ bytes. (first : AreReadFirst takes limit bytes trees) × goes_on bytes first.count)
   -- the destination has grown by exactly a zero and these records
   pub wrote : Wrote old new (rewritten trees)
-
--- after so many bytes of a log the next stretch is one whose value was lost
-abbrev pub LosesNext : ℕ → List ℕ → ℕ → Type 0
-LosesNext limit bytes at = (later : ℕ) × IsLostStretch limit bytes at later
 
 -- What was appended before reading the log, or a record, stopped a repair: whole records. If a value was lost, they are all that are
 -- read before it; if a buffer could not be allocated, nothing was appended.

@@ -125,6 +125,10 @@ told_with_zero (Some bytes) = Some (with_zero bytes)
 abbrev pub FoundLast : {V : Type 0} → (Tree → Type 0) → (Tree → V → Type 0) → ℕ → List ℕ → Option (Stretch V) → Type 0
 FoundLast takes reads limit bytes o = Found takes reads limit (with_zero bytes) (length bytes) (length bytes + 1) o
 
+-- after so many bytes of a log the next stretch is one whose value was lost
+abbrev pub LosesNext : ℕ → List ℕ → ℕ → Type 0
+LosesNext limit bytes at = (later : ℕ) × IsLostStretch limit bytes at later
+
 -- what a zero after a log ends is one stretch, whose value was lost
 abbrev pub IsLostLast : ℕ → List ℕ → Type 0
 IsLostLast limit bytes = IsLostStretch limit (with_zero bytes) (length bytes) (length bytes + 1)

@@ -1,8 +1,8 @@
 //! Checking a log: what isn't a record, and which numbers are missing.
-ghost use Rattle.std.specs.Prelude.{◌≡◌, ◌↔◌, ℕ, ◌≤◌, true, List, ◌++◌, OnOk, IfOk, IfErr};
+ghost use Rattle.std.specs.Prelude.{◌≡◌, ◌↔◌, ℕ, ◌≤◌, true, List, ◌++◌, OnOk, OnErr, IfOk, IfErr};
 ghost use Rattle.line_io.specs.Transfers.{Failed};
 ghost use Rattle.journal.specs.Reading.{HaltsBehind};
-ghost use Rattle.journal_scan.specs.Checks.{IsChecked, IsNoRecord, CheckCause, StopsAfter, UnlessFault, IsAgain, record_in, numbers_of};
+ghost use Rattle.journal_scan.specs.Checks.{IsChecked, IsNoRecord, CheckCause, StopsAfter, UnlessFault, IsAgain, OneNeedsRange, record_in, numbers_of};
 ghost use Rattle.journal_scan.specs.Tallies.{IsTally};
 
 use crate::closing::ClosedScan;
@@ -65,6 +65,8 @@ fn count_record<T, W: Watcher<T>>(
         → IsTally (numbers ++ numbers_of (record_in W.counted stretch.now.answer)) tally.new) }
     ensures again { IfOk result (λ again. (numbers : List ℕ) → IsTally numbers tally.old
         → IsAgain numbers (record_in W.counted stretch.now.answer) again) }
+    ensures needs { OnErr result ((numbers : List ℕ) → IsTally numbers tally.old
+        → OneNeedsRange numbers (record_in W.counted stretch.now.answer)) }
 {
     match &stretch.answer {
         Answer::Value((number, value)) => {
@@ -86,7 +88,8 @@ fn count_record<T, W: Watcher<T>>(
 ///
 /// # Errors
 /// The watcher received the first stretches of the log, in order, and nothing else.
-/// - `Read`: a read failed, or an allocation did.
+/// - `Read`: a read failed, or an allocation did: of a buffer before the first stretch, of the next stretch's value, or of a range for
+///   its number.
 /// - `Halted`: the watcher halted.
 ///
 /// # Allocates
@@ -117,8 +120,8 @@ pub fn check<T: DeserializeOwned + Exact, S: Store, W: Watcher<T>>(
     ensures quiet { OnOk result ((S.line store.new).faults ≡ (S.line store.old).faults) }
     ensures cause { IfErr result (λ e. CheckCause (Failed (S.line store.old) (S.line store.new))
         (HaltsBehind W.told W.halts watcher.old) e) }
-    ensures so_far { IfErr result (λ e. StopsAfter W.told W.halts T.form.takes T.form.reads limit
-        (S.line store.old).told watcher.old watcher.new e) }
+    ensures so_far { IfErr result (λ e. StopsAfter W.told W.halts W.counted T.form.takes T.form.reads
+        T.form.growing limit (S.line store.old).told watcher.old watcher.new e) }
     ensures calm { IfErr result
         (λ e. UnlessFault e ((S.line store.new).faults ≡ (S.line store.old).faults)) }
     ensures more { (S.line store.old).faults ≤ (S.line store.new).faults }

@@ -1,9 +1,10 @@
-use Rattle.std.proofs.Common.{◌≡◌, ℕ, List, ◌∷◌, ◌++◌, [], None, Some, refl, sym, ◌∙◌, subst, rules}
+use Rattle.std.proofs.Common.{◌≡◌, ℕ, List, ◌∷◌, ◌++◌, [], None, Some, Err, refl, sym, ap, ◌∙◌, subst, inl, rules}
 use Rattle.journal_scan.specs.Closing.{FoundClosed}
-use Rattle.journal_scan.specs.Checks.{AreStretches, IsRest}
+use Rattle.journal_scan.specs.Checks.{AreStretches, IsRest, StopsAfter}
+use Rattle.journal_scan.specs.declared.checking.CheckError.TheVariants.{Read}
 use Rattle.journal_scan.specs.Scanning.{with_zero}
 use Rattle.journal_scan.specs.Tallies.{IsTally}
-use Rattle.journal_scan.proofs.StretchesLemmas.{none_behind, one_behind, all_behind, left_behind, numbers_more, if_told, checked_to, checked_none}
+use Rattle.journal_scan.proofs.StretchesLemmas.{none_behind, one_behind, all_behind, left_behind, numbers_more, if_told, checked_to, stops_unread, stops_uncounted}
 use Rattle.journal_scan.proofs.checking.check.Goals as goal
 
 pub loop-stretch-init : goal.loop-stretch-init
@@ -68,17 +69,22 @@ returns-then-is_left_over-clause-checked g c =
 
 pub returns-in-Err-clause-so_far : goal.returns-in-Err-clause-so_far
 returns-in-Err-clause-so_far g c =
-    checked_none g.W.Watcher.told g.T.Readable.form.takes g.T.Readable.form.reads c.args.limit (g.S.Store.line c.args.store.now).told c.args.watcher.now (g.met.W.Watcher.laws.nothing c.args.watcher.now)
+    let told = (g.S.Store.line c.args.store.now).told in
+    subst (λ e. StopsAfter g.W.Watcher.told g.W.Watcher.halts g.W.Judge.counted g.T.Readable.form.takes g.T.Readable.form.reads g.T.Readable.form.growing c.args.limit told c.args.watcher.now c.args.watcher.now (Read e)) (sym c.in-Err.ensures.memory)
+    (inl (g.met.W.Watcher.laws.nothing c.args.watcher.now))
 
 pub returns-in-Err-next-clause-so_far : goal.returns-in-Err-next-clause-so_far
 returns-in-Err-next-clause-so_far g c =
     let before = c.loop-stretch.invariant in
-    checked_to g.W.Watcher.told g.T.Readable.form.takes g.T.Readable.form.reads c.args.limit (g.S.Store.line c.args.store.now).told c.args.watcher.now c.loop-stretch.watcher c.loop-stretch.scan before.stretches before.handed before.behind
+    stops_unread g.W.Watcher.told g.T.Readable.form.takes g.T.Readable.form.reads c.args.limit (g.S.Store.line c.args.store.now).told c.args.watcher.now c.loop-stretch.watcher c.loop-stretch.scan before.stretches before.handed before.behind g.W.Watcher.halts g.W.Judge.counted
+    g.T.Readable.form.growing c.next.new.self c.in-Err-next.e (λ m. c.next.ensures.memory (c.in-Err-next.is ∙ ap (λ x. Err x) m)) (λ m bytes x k. c.next.ensures.lost (c.in-Err-next.is ∙ ap (λ x. Err x) m) c.args.limit bytes (before.held ∙ x) k)
 
 pub returns-in-Err-count_record-clause-so_far : goal.returns-in-Err-count_record-clause-so_far
 returns-in-Err-count_record-clause-so_far g c =
     let before = c.loop-stretch.invariant in
-    checked_to g.W.Watcher.told g.T.Readable.form.takes g.T.Readable.form.reads c.args.limit (g.S.Store.line c.args.store.now).told c.args.watcher.now c.loop-stretch.watcher c.loop-stretch.scan before.stretches before.handed before.behind
+    stops_uncounted g.W.Watcher.told g.T.Readable.form.takes g.T.Readable.form.reads c.args.limit (g.S.Store.line c.args.store.now).told c.args.watcher.now c.loop-stretch.watcher c.loop-stretch.scan before.stretches before.handed before.behind g.W.Watcher.halts g.W.Judge.counted
+    g.T.Readable.form.growing c.next.new.self c.in-Ok-Some.stretch (λ bytes h. subst (λ o. FoundClosed g.T.Readable.form.takes g.T.Readable.form.reads c.args.limit bytes c.loop-stretch.scan c.next.new.self o) c.in-Ok-Some.field-0-is (c.in-Ok-Some.ensures.found c.args.limit bytes (before.held ∙ h) (before.behind bytes h).closing))
+    (c.in-Err-count_record.ensures.needs _ before.tallied)
 
 pub returns-then-is_err-clause-so_far : goal.returns-then-is_err-clause-so_far
 returns-then-is_err-clause-so_far g c =
