@@ -22,7 +22,7 @@ use Rattle.journal.specs.Records.{past, past_all}
 use Rattle.journal.specs.Places.{Located, answers_in, IsLocatedIn, AreLocatedIn, Numbering, numbered_from, furthest, believed, numbered_behind, all_believed, numbered_after}
 use Rattle.journal.specs.declared.numbers.Count.{Count}
 use Rattle.journal.specs.Visits.{VisitorLaws}
-use Rattle.journal.specs.Reading.{IsRead, IsReadTo, HearsLog, HearsMore, HandsOnBelieved, HearsPart, IsHandedTo, ReadCause, SoFar, numbering_of}
+use Rattle.journal.specs.Reading.{IsRead, IsReadTo, HearsLog, HearsMore, HandsOnBelieved, HearsPart, IsHandedTo, ReadCause, HandedUntil, numbering_of}
 use Rattle.journal.specs.declared.reading.ReadError.{ReadError}
 use Rattle.journal.specs.declared.reading.ReadError.TheVariants.{Fault, NoMemory as NoMemoryFound, Halted}
 
@@ -293,13 +293,13 @@ handed_more laws (Err e) before through old mid new c later more t h = absurd h
 
 module _ {S : Type 0} (P Q halts : S → Type 0) where
   -- what is known of the visitor before is known of it when reading stopped
-  pub so_far_here : (mid new : S) (e : ReadError) → SoFar (λ v. v ≡ mid) halts new e → P mid → SoFar P halts new e
+  pub so_far_here : (mid new : S) (e : ReadError) → HandedUntil (λ v. v ≡ mid) halts new e → P mid → HandedUntil P halts new e
   so_far_here mid new Fault h p = subst P (sym h) p
   so_far_here mid new NoMemoryFound h p = subst P (sym h) p
   so_far_here mid new Halted (v, h, stops) p = (v, subst P (sym h) p, stops)
 
   -- and what follows from that
-  so_far_map : (new : S) (e : ReadError) → ((v : S) → P v → Q v) → SoFar P halts new e → SoFar Q halts new e
+  so_far_map : (new : S) (e : ReadError) → ((v : S) → P v → Q v) → HandedUntil P halts new e → HandedUntil Q halts new e
   so_far_map new Fault f h = f new h
   so_far_map new NoMemoryFound f h = f new h
   so_far_map new Halted f (v, h, stops) = (v, f v h, stops)
@@ -325,8 +325,8 @@ module _ {S V : Type 0} {N : ℕ} {took : S → List (Answer (ℕ × V)) → S �
 -- what was handed on when a chunk wasn't read to its end
 pub so_far_read : {S V : Type 0} {N : ℕ} {took : S → List (Answer (ℕ × V)) → S → Type 0} (halts : S → Type 0) → VisitorLaws took → (judging : Judging (ℕ × V)) (first : ℕ) (old mid new : S) (receiver : Reception (ArrayBuffer N)) (count : Count) (held : Option (List ℕ)) (room : List ℕ) (n : ℕ) (e : ReadError)
     → GaveAt held count.heard n room → IfSome held (λ bytes. HearsMore took judging.holds judging.reads first old mid receiver [] count (take count.heard bytes))
-    → ((stream : List ℕ) (answers : List (Answer (ℕ × V))) → HearsLog judging.holds judging.reads first receiver answers count stream → SoFar (λ v. HearsPart N took judging first mid v answers stream (take n room)) halts new e)
-    → IfSome held (λ bytes. SoFar (λ v. IsHandedTo took judging N first old v bytes) halts new e)
+    → ((stream : List ℕ) (answers : List (Answer (ℕ × V))) → HearsLog judging.holds judging.reads first receiver answers count stream → HandedUntil (λ v. HearsPart N took judging first mid v answers stream (take n room)) halts new e)
+    → IfSome held (λ bytes. HandedUntil (λ v. IsHandedTo took judging N first old v bytes) halts new e)
 so_far_read halts laws judging first old mid new receiver count None room n e g h f = tt
 so_far_read {N} {took} halts laws judging first old mid new receiver count (Some bytes) room n e g h f =
     so_far_map (λ v. HearsPart N took judging first mid v h.more (take count.heard bytes) (take n room)) (λ v. IsHandedTo took judging N first old v bytes) halts new e

@@ -106,16 +106,16 @@ pub record IsHandedTo {S V : Type 0} (took : S → List (Answer (ℕ × V)) → 
   pub read : IsReadTo judging.holds judging.reads limit first answers numbers (take count bytes)
 
 -- the visitor when reading stopped: it was handed this much; or, if it halted, so was the visitor that did
-abbrev pub SoFar : {S : Type 0} → (S → Type 0) → (S → Type 0) → S → ReadError → Type 0
-SoFar {S} handed halts new Fault = handed new
-SoFar {S} handed halts new NoMemory = handed new
-SoFar {S} handed halts new Halted = (mid : S) × handed mid × halts mid
+abbrev pub HandedUntil : {S : Type 0} → (S → Type 0) → (S → Type 0) → S → ReadError → Type 0
+HandedUntil {S} handed halts new Fault = handed new
+HandedUntil {S} handed halts new NoMemory = handed new
+HandedUntil {S} handed halts new Halted = (mid : S) × handed mid × halts mid
 
 -- the visitor when opening failed: as it was, or as reading left it
-abbrev pub OpenSoFar : {S : Type 0} → (ReadError → Type 0) → S → S → OpenError → Type 0
-OpenSoFar {S} read old new Line = new ≡ old
-OpenSoFar {S} read old new Sync = new ≡ old
-OpenSoFar {S} read old new (Read e) = read e
+abbrev pub OpenedUntil : {S : Type 0} → (ReadError → Type 0) → S → S → OpenError → Type 0
+OpenedUntil {S} read old new Line = new ≡ old
+OpenedUntil {S} read old new Sync = new ≡ old
+OpenedUntil {S} read old new (Read e) = read e
 
 -- results of some of a chunk's bytes were handed on, and nothing else
 pub record HearsPart {S V : Type 0} (N : ℕ) (took : S → List (Answer (ℕ × V)) → S → Type 0) (judging : Judging (ℕ × V)) (first : ℕ) (old new : S) (answers : List (Answer (ℕ × V))) (stream piece : List ℕ) : Type 0 where

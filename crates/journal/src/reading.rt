@@ -3,7 +3,7 @@ ghost use Rattle.std.specs.Prelude.{◌≡◌, ℕ, ◌+◌, ◌-◌, ◌^◌, �
 ghost use Rattle.line_io.specs.Transfers.{Failed};
 ghost use Rattle.link.specs.Listening.{ReceiverFitsInMemory};
 ghost use Rattle.link.specs.declared.receiver.Answer.{Answer};
-ghost use Rattle.journal.specs.Reading.{HandsOnBelieved, HearsLog, HearsMore, HasHanded, HaltsBehind, ReadCause, IsHanded, IsHandedTo, HearsPart, SoFar, numbering_of};
+ghost use Rattle.journal.specs.Reading.{HandsOnBelieved, HearsLog, HearsMore, HasHanded, HaltsBehind, ReadCause, IsHanded, IsHandedTo, HearsPart, HandedUntil, numbering_of};
 
 use crate::numbers::{Count, believe, count_on};
 use crate::stores::Store;
@@ -45,7 +45,7 @@ fn hand_on<T: Drop, V: Visitor<T>>(
     ensures cause { IfErr result (λ e. ReadCause ⊥ true (V.halts visitor.old) e) }
     ensures memory { result ≡ Err ReadError.NoMemory → IsErr answer }
     ensures so_far { IfErr result (λ e.
-        SoFar (λ v. v ≡ visitor.old) V.halts visitor.new e) }
+        HandedUntil (λ v. v ≡ visitor.old) V.halts visitor.new e) }
 {
     match answer {
         Ok(None) => Ok(count),
@@ -97,7 +97,7 @@ fn hear<T: Drop, M: MessageReader<(u64, T)>, V: Visitor<T>, const N: usize>(
         (answers : List (Answer (ℕ × T)))
         → HearsLog (M.judging messages.now).holds (M.judging messages.now).reads
         first receiver.old answers count stream
-        → SoFar (λ v. HearsPart N V.took (M.judging messages.now) first visitor.old v answers
+        → HandedUntil (λ v. HearsPart N V.took (M.judging messages.now) first visitor.old v answers
         stream piece.now) V.halts visitor.new e) }
     ensures cause { IfErr result (λ e. ReadCause ⊥ (M.judging messages.now).growing
         (HaltsBehind V.took V.halts visitor.old) e) }
@@ -152,7 +152,7 @@ pub fn read_all<T: Drop, M: MessageReader<(u64, T)>, S: Store, V: Visitor<T>, co
     ensures read { IfOk result (λ next. IfSome (S.line store.old).told (λ bytes.
         IsHanded V.took (M.judging messages.now) N first visitor.old visitor.new next bytes)) }
     ensures so_far { IfErr result (λ e. IfSome (S.line store.old).told (λ bytes.
-        SoFar (λ v. IsHandedTo V.took (M.judging messages.now) N first visitor.old v bytes)
+        HandedUntil (λ v. IsHandedTo V.took (M.judging messages.now) N first visitor.old v bytes)
         V.halts visitor.new e)) }
     ensures cause { IfErr result (λ e. ReadCause (Failed (S.line store.old) (S.line store.new))
         (M.judging messages.now).growing (HaltsBehind V.took V.halts visitor.old) e) }
