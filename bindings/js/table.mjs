@@ -182,7 +182,7 @@ export function parseJson(text, depth = 2 * GREATEST_DEPTH) {
   let at = 0;
   const fail = () => { throw new Wrong("the line isn't JSON", `column ${[...text.slice(0, at)].length + 1}`); };
   const blank = () => { while (at < text.length && " \t\n\r".includes(text[at])) at++; };
-  const token = /-?(?:0|[1-9]\d*)(?:\.\d+)?(?:[eE][-+]?\d+)?|"(?:[^"\\\u0000-\u001f]|\\(?:["\\/bfnrt]|u[0-9a-fA-F]{4}))*"|true|false|null/y;
+  const token = /-?(?:0|[1-9]\d*)(?:\.\d+)?(?:[eE][-+]?\d+)?|true|false|null/y;
   const word = /[^ \t\n\r,:[\]{}]*/y; // a number, true, false and null go up to one of these
   const sequence = (close, part) => {
     const parts = [];
@@ -199,12 +199,11 @@ export function parseJson(text, depth = 2 * GREATEST_DEPTH) {
     }
   };
   const string = () => {
-    token.lastIndex = at;
-    const found = text[at] === '"' && token.exec(text);
-    if (!found) fail();
-    const read = JSON.parse(found[0]);
-    if (/\p{Surrogate}/u.test(read)) fail();
-    at += found[0].length;
+    let end = at + 1, read;
+    while (end < text.length && text[end] !== '"') end += text[end] === "\\" ? 2 : 1;
+    try { read = text[at] === '"' && JSON.parse(text.slice(at, end + 1)); } catch {}
+    if (typeof read !== "string" || /\p{Surrogate}/u.test(read)) fail();
+    at = end + 1;
     return read;
   };
   const value = (left) => {

@@ -75,7 +75,7 @@ assert.throws(() => single.write(0, "340282356779733661637539395458142568448"), 
 for (const [json, bits] of [["2097152.2", "0100004a"], ["2097152.8", "0300004a"], ["-2862615.2", "5db82eca"], ["3427355.2", "6d30514a"]]) {
   assert.equal(single.read(0, Buffer.from(bits, "hex")), json);
 }
-// what isn't bytes, a line or a place is refused, and no value is made of it; digits of many bytes are a value
+// what isn't bytes, a line or a place is refused, and no value is made of it; digits and texts of many bytes are values
 for (const it of [new ArrayBuffer(8), new DataView(new ArrayBuffer(8)), Uint16Array.of(700, 700), [700, 700, 700, 700], "abcd", undefined]) {
   assert.throws(() => single.read(0, it), TypeError);
   assert.throws(() => of({ kind: "u8" }).read(0, it), TypeError);
@@ -90,6 +90,7 @@ for (const it of [undefined, 1, -1, "T"]) {
   assert.throws(() => single.write(it, "1.5"), /no place/);
 }
 assert.equal(of({ kind: "list", node: 1, most: null }, { kind: "u8" }).write(0, `"${"00".repeat(200000)}"`).length, 200003);
+assert.equal(of({ kind: "text", most: null }).write(0, `"${"x".repeat(1e7)}"`).length, 1e7 + 4);
 // a line that is a value by itself and by what it holds: one value, two, which `wrapped` tells apart, or one of them
 const held = { kind: "struct", fields: [{ name: "value", node: 1 }] }, list = of(held, { kind: "option", node: 0 });
 const [none, some1, some2] = ["null", '{"value":null}', '{"value":{"value":null}}'].map((it) => `{"value":${it}}`);
