@@ -323,7 +323,7 @@ export class Table {
 
   /** Throws a TypeError for a place that isn't of the table, as that of a name that it hasn't. */
   #checkPlace(place) {
-    if (!this.nodes[place]) throw new TypeError(`the table has no place ${place}`);
+    if (!this.#isPlace(place)) throw new TypeError(`the table has no place ${String(place)}`);
   }
 
   /** The JSON of the value at the front of these bytes. Throws Unread if there is none, or one that nests deeper than `depth` nodes. */

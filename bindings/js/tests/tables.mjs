@@ -85,7 +85,7 @@ structuredClone(gone.buffer, { transfer: [gone.buffer] });
 assert.throws(() => of({ kind: "unit" }).read(0, gone), TypeError); // transferred bytes aren't none
 assert.equal(of({ kind: "u8" }).read(0, runInNewContext("new Uint8Array([7])")), "7"); // of another realm
 for (const it of [{ f: 1 }, 5, null, undefined]) assert.throws(() => single.write(0, it), /a text is needed/);
-for (const it of [undefined, 1, -1, "T"]) {
+for (const it of [undefined, 1, -1, "T", "0", "length", Symbol.iterator]) {
   assert.throws(() => single.read(it, new Uint8Array(4)), /no place/);
   assert.throws(() => single.write(it, "1.5"), /no place/);
 }
