@@ -247,6 +247,15 @@ function integerOf(integer, digits) {
   const n = BigInt(digits.replace("+", ""));
   return (sign === "u" ? BigInt.asUintN(bits, n) : BigInt.asIntN(bits, n)) === n ? n : undefined;
 }
+function checkDepth(depth) {
+  if (!Number.isInteger(depth) || depth < 1 || depth > GREATEST_DEPTH) throw new RangeError(`depth is a number from 1 to ${GREATEST_DEPTH}`);
+}
+/** Runs a step that goes as deep as a value does: if the engine's stack ends before, that is too deep as well. */
+function onStack(step, tooDeep) {
+  try { return step(); } catch (error) {
+    throw /call stack|recursion/.test(error.message) ? tooDeep : error;
+  }
+}
 /** Runs a step inside a part of a value, so that what is wrong there is told with the way to it. */
 function inside(name, step) {
   try { return step(); } catch (error) {
@@ -329,8 +338,9 @@ export class Table {
   /** The JSON of the value at the front of these bytes. Throws Unread if there is none, or one that nests deeper than `depth` nodes. */
   read(place, bytes, { depth = 60, empty = 65536, hex = false } = {}) {
     this.#checkPlace(place);
+    checkDepth(depth);
     const state = { source: new Source(bytes), deepest: 0, empty: BigInt(empty), hex };
-    const text = this.#value(place, state, 1);
+    const text = onStack(() => this.#value(place, state, 1), new Unread("too_deep"));
     if (state.deepest > depth) throw new Unread("too_deep");
     return text;
   }
@@ -431,8 +441,9 @@ export class Table {
   write(place, line, { depth = 60, empty = 65536, wrapped } = {}) {
     if (wrapped !== undefined && typeof wrapped !== "boolean") throw new TypeError("wrapped is true or false");
     this.#checkPlace(place);
+    checkDepth(depth);
     this.#empty = empty;
-    const json = parseJson(line, 2 * depth + 2);
+    const json = onStack(() => parseJson(line, 2 * depth + 2), new Wrong(TOO_DEEP));
     const whole = () => this.#bytesOf(place, json, depth);
     const isWrapped = json.members?.length === 1 && json.members[0][0] === "value";
     if (wrapped && !isWrapped) throw new Wrong('expected {"value": ..}');
@@ -452,7 +463,7 @@ export class Table {
   }
   #bytesOf(place, json, depth) {
     const out = [];
-    this.#put(out, place, json, depth);
+    onStack(() => this.#put(out, place, json, depth), new Wrong(TOO_DEEP));
     return Uint8Array.from(out);
   }
   #put(out, place, json, depth) {
@@ -531,7 +542,7 @@ export class Table {
       return bytes.length;
     }
     if (!json.items) throw new Wrong(isByte ? "expected an array of bytes or a string of hexadecimal digits" : "expected an array");
-    json.items.forEach((it, i) => inside(`[${i}]`, () => this.#put(out, place, it, depth)));
+    for (const [i, it] of json.items.entries()) inside(`[${i}]`, () => this.#put(out, place, it, depth));
     return json.items.length;
   }
   #putList(out, node, json, depth) {

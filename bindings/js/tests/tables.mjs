@@ -91,6 +91,21 @@ for (const it of [undefined, 1, -1, "T", "0", "length", Symbol.iterator]) {
 }
 assert.equal(of({ kind: "list", node: 1, most: null }, { kind: "u8" }).write(0, `"${"00".repeat(200000)}"`).length, 200003);
 assert.equal(of({ kind: "text", most: null }).write(0, `"${"x".repeat(1e7)}"`).length, 1e7 + 4);
+// how deep a value may be: up to 1000, and as far as the engine's stack goes; no other error is thrown where that ends
+const lists = of({ kind: "list", node: 0, most: null }), deep = "[".repeat(1000) + "]".repeat(1000), bytes = lists.write(0, deep, { depth: 1000 });
+assert.equal(lists.read(0, bytes, { depth: 1000 }), deep);
+for (const depth of [0, 1001, NaN, "60"]) {
+  assert.throws(() => lists.read(0, bytes, { depth }), /depth is a number from 1 to 1000/);
+  assert.throws(() => lists.write(0, deep, { depth }), /depth is a number from 1 to 1000/);
+}
+function atStacksEnd(step) {
+  try { return atStacksEnd(step); } catch (error) {
+    if (!(error instanceof RangeError)) throw error;
+    return step();
+  }
+}
+assert.throws(() => atStacksEnd(() => lists.write(0, deep, { depth: 1000 })), Wrong);
+assert.throws(() => atStacksEnd(() => lists.read(0, bytes, { depth: 1000 })), Unread);
 // a line that is a value by itself and by what it holds: one value, two, which `wrapped` tells apart, or one of them
 const held = { kind: "struct", fields: [{ name: "value", node: 1 }] }, list = of(held, { kind: "option", node: 0 });
 const [none, some1, some2] = ["null", '{"value":null}', '{"value":{"value":null}}'].map((it) => `{"value":${it}}`);
