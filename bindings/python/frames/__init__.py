@@ -23,8 +23,10 @@ from __future__ import annotations
 
 import ctypes
 import ctypes.util
+import io
 import os
 import select
+import socket
 import stat
 import time
 from ctypes import POINTER, Structure, addressof, byref, c_bool, c_char_p, c_size_t, c_uint8, c_uint32, c_void_p, cast
@@ -104,6 +106,7 @@ _CALLS = [
     ("seal", _Written, _BUFFER + [c_size_t]),
     ("unseal", _Written, _SOURCE),
 ]
+_MOST = 4096  # the bytes of a read, other than of a port
 _loaded: Optional[ctypes.CDLL] = None
 
 
@@ -382,23 +385,39 @@ def _read(source: Any) -> Optional[bytes]:
     if hasattr(source, "in_waiting"):  # a port of pyserial
         piece = source.read(max(1, source.in_waiting))
     elif hasattr(source, "read1"):
-        piece = source.read1(4096)
+        piece = source.read1(_MOST)
     else:
-        piece = source.read(4096)
+        piece = source.read(_MOST)
     return piece
 
 
-def _pieces(source: Any, ends: bool, is_over: Callable[[], bool] = lambda: False) -> Iterator[bytes]:
+def _shows(source: Any, descriptor: Optional[int], ends: bool) -> bool:
+    """Whether a wait for the descriptor is a wait for the source: it is blocking or a port, and no timeout of a read is the end."""
+    if descriptor is None or not hasattr(select, "poll"):
+        return False
+    is_port = hasattr(source, "in_waiting")
+    is_known = is_port or (isinstance(getattr(source, "raw", source), (io.FileIO, socket.SocketIO)) and os.get_blocking(descriptor))
+    return is_known and not (ends and (is_port or os.isatty(descriptor)))
+
+
+def _pieces(source: Any, ends: bool, is_over: Optional[Callable[[], bool]] = None) -> Iterator[bytes]:
     """What a file object, a socket's file or a serial port gives, as it comes, until it ends or nobody wants more.
 
     Where a read gives nothing and the stream goes on, it waits before it reads again, so that a source that never waits costs no processor.
+    Where it may be over, it waits before it reads, if it can: a read that waits would take what comes when nobody wants it any more.
     """
     descriptor = _descriptor(source)
     is_port = hasattr(source, "in_waiting")
     never_waits = descriptor is not None and not is_port and hasattr(os, "get_blocking") and not os.get_blocking(descriptor)
-    is_ready = False
-    while not is_over():
+    waits = is_over is not None and _shows(source, descriptor, ends)
+    is_buffered = isinstance(source, io.BufferedReader)
+    is_ready, may_hold = False, is_buffered  # the latter: bytes that came before, of which the descriptor shows nothing
+    while is_over is None or not is_over():
+        if waits and not may_hold and not is_ready:
+            is_ready = (is_port and source.in_waiting > 0) or _is_ready(descriptor)
+            continue
         piece = _read(source)
+        may_hold = is_buffered and piece is not None and len(piece) == _MOST
         if piece:
             is_ready = False
             yield piece

@@ -16,6 +16,7 @@ import pickle
 import random
 import select
 import signal
+import socket
 import struct
 import subprocess
 import sys
@@ -723,6 +724,44 @@ def test_typed(folder, wire):
         raise AssertionError("not refused")
 
 
+def test_closed(folder, wire):
+    """What comes after a receiver was closed is for the next one: no read of the first still waits for it."""
+    path = os.path.join(folder, "closed.rs")
+    pathlib.Path(path).touch()
+    here, there = os.openpty()
+    tty.setraw(here), tty.setraw(there)
+    taken, given = os.pipe()
+    one, other = socket.socketpair()
+    pipe, of_socket = os.fdopen(taken, "rb"), one.makefile("rb")
+    raw, port = os.fdopen(os.dup(here), "rb", buffering=0), Port(here, 20)
+    port.fileno = lambda: here
+    for source, ends, writes in ((pipe, True, given), (of_socket, True, other.fileno()), (port, False, there), (raw, False, there)):
+        for value in range(1, 4):
+            receiver = typed.TypedReceiver(path, "u8", wire=wire)
+            heard = receiver.listen(source, ends)
+            late = threading.Timer(0.3, os.write, (writes, b"\2%c\0" % value))  # by then a read that waits does so
+            late.start()
+            assert in_time(lambda: next(heard)) == {"value": value}, (source, value)
+            time.sleep(0.1)
+            receiver.close(), late.join()
+    held = [b"\2\7\0"]  # a port's own bytes, of which its descriptor shows nothing
+
+    class Holds(Port):
+        in_waiting = property(lambda self: len(held) * 3)
+
+        def fileno(self):
+            return here
+
+        def read(self, size=1):
+            return held.pop()
+
+    with typed.TypedReceiver(path, "u8", wire=wire) as receiver:
+        assert in_time(lambda: next(receiver.listen(Holds(here, 20), ends=False))) == {"value": 7}
+    pipe.close(), of_socket.close(), raw.close(), one.close(), other.close()
+    for descriptor in (given, here, there):
+        os.close(descriptor)
+
+
 INTERRUPTED = """
 import signal, sys, time
 from frames import typed
@@ -798,11 +837,13 @@ def main():
             test_inside(sys.argv[1])
             test_raised(sys.argv[1])
             test_value_field(sys.argv[1], None)
+            test_closed(sys.argv[1], None)
             test_typed_threads(sys.argv[1])
         if wire:
             os.environ["WIRE"] = wire
             test_typed(sys.argv[1], wire)
             test_value_field(sys.argv[1], wire)
+            test_closed(sys.argv[1], wire)
         test_both(rng, sys.argv[1])
 
 
