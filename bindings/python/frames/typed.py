@@ -298,7 +298,11 @@ class _Process:
         self._failure: Optional[BaseException] = None
         self._is_used = False
         # in a session of its own, so that Ctrl-C at a terminal ends the caller alone, whose `close` then ends the program
-        self._process = subprocess.Popen(words, stdin=subprocess.PIPE, stdout=subprocess.PIPE, stderr=self._said, start_new_session=True)
+        try:
+            self._process = subprocess.Popen(words, stdin=subprocess.PIPE, stdout=subprocess.PIPE, stderr=self._said, start_new_session=True)
+        except BaseException:
+            self._said.close()
+            raise
 
     def _begin(self) -> None:
         if self._is_used:

@@ -803,6 +803,13 @@ def test_killed(folder):
     pathlib.Path(killed).write_text("#!/bin/sh\nread -r _\necho '{\"value\":7}'\nexec sleep 60\n", encoding="utf-8")
     with typed.TypedReceiver(path, "u8", wire=killed) as receiver:
         assert next(receiver.listen(io.BytesIO(b"\n"))) == {"value": 7}
+    try:  # one that can't be started leaves no file open
+        before = os.listdir("/proc/self/fd")
+        typed.TypedReceiver(path, "u8", wire=path)
+    except PermissionError:
+        assert os.listdir("/proc/self/fd") == before
+    else:
+        raise AssertionError("not raised")
     # Ctrl-C, which a terminal sends to all that runs there, is a KeyboardInterrupt, and no failure of the program
     there = subprocess.Popen([sys.executable, "-c", INTERRUPTED, path, killed], stdin=subprocess.PIPE, stdout=subprocess.PIPE, start_new_session=True)
     there.stdin.write(b"\n"), there.stdin.flush()
