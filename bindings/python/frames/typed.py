@@ -20,7 +20,7 @@ import sys
 import tempfile
 import threading
 from ctypes import POINTER, Structure, byref, c_char_p, c_size_t, c_uint8, c_void_p
-from typing import IO, Any, Dict, Generator, Iterable, List, Optional, Tuple, Union
+from typing import IO, Any, Dict, Generator, Iterable, List, NoReturn, Optional, Tuple, Union
 
 from . import _byte, _of, _pieces, _Room, _Single
 
@@ -225,8 +225,9 @@ def write(declarations: _Path, type_name: str, values: Iterable[Any], sentinel: 
     A value may be `{"value": ..}`, as a receiver returns it. If that is also a value of the type by itself, and another one, it is a
     `ValueError`: write `[value]` of the type `[Type; 1]`, which has the same bytes and one meaning.
 
-    A value that isn't of the type is a `ValueError`. A text, bytes or a dictionary in place of a list of values is a `TypeError`. Wrong
-    declarations or a wrong type are an `OSError`; if there is neither the library nor the program, a `FileNotFoundError`.
+    A value that isn't of the type is a `ValueError`. One that JSON doesn't have, such as bytes, is a `TypeError`, as is a text, bytes or a
+    dictionary in place of a list of values. Wrong declarations or a wrong type are an `OSError`; if there is neither the library nor the
+    program, a `FileNotFoundError`.
     """
     if isinstance(values, (str, dict, bytes, bytearray, memoryview)):  # whose letters, keys and bytes would be taken for values
         raise TypeError("a list of values is needed, not a value alone")
@@ -261,13 +262,18 @@ def _told(said: bytes) -> str:
     return said.decode(errors="replace").strip().replace(": `depth=` sets the limit", "")
 
 
+def _no_json(value: Any) -> NoReturn:
+    hint = ": write its `hex()`" if isinstance(value, (bytes, bytearray, memoryview)) else ""
+    raise TypeError(f"JSON has no {type(value).__name__}{hint}")
+
+
 def _line(value: Any) -> str:
     try:
         value = _as_objects(value)
     except RecursionError:  # also of a list that holds itself, of which json says that
         pass
     try:
-        return json.dumps(value, allow_nan=False) + "\n"
+        return json.dumps(value, allow_nan=False, default=_no_json) + "\n"
     except RecursionError:
         raise ValueError("the value is nested too deeply") from None
     except ValueError as error:

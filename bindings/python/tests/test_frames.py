@@ -613,6 +613,15 @@ def test_value_field(folder, wire):
     else:
         raise AssertionError("not refused")
     assert written("f32", "NaN") == written("f32", {"value": "NaN"})
+    for it in (b"\1\2", bytearray(b"\1\2"), memoryview(b"\1\2")):  # bytes are digits, and what to write is said
+        try:
+            written("Vec<u8>", it)
+        except TypeError as error:
+            assert "write its `hex()`" in str(error), error
+        else:
+            raise AssertionError("not refused")
+        assert written("Vec<u8>", it.hex()) == written("Vec<u8>", [1, 2])
+    assert refuses(TypeError, written, "Vec<u8>", {1, 2}) and refuses(TypeError, written, "BTreeMap<(u8, u8), u8>", {(1, 2): 3})
     loop, deep = [], functools.reduce(lambda held, _: [held], range(100000), 7)  # the latter deeper than json goes
     loop.append(loop)
     assert refuses(ValueError, written, "u8", loop) and refuses(ValueError, written, "u8", deep)
