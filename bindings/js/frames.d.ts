@@ -49,7 +49,7 @@ export function seal(message: Bytes): Uint8Array;
 export function unseal(message: Bytes): Uint8Array | undefined;
 /** The events of a stream, as they come. `return()`, as `break` calls it, ends it, also while it waits. A `ReadableStream` is unlocked, and keeps what wasn't read. */
 export function receive(
-  source: ReadableStream<Uint8Array> | AsyncIterable<Uint8Array> | Iterable<Uint8Array>,
+  source: ReadableStream<Bytes> | AsyncIterable<Bytes> | Iterable<Bytes>,
   /** Or a receiver of one's own, which keeps the frame that has begun; it has its own sentinel and form. */
   limit: number | Receiver,
   options?: Options & {
@@ -58,4 +58,4 @@ export function receive(
   },
 ): AsyncGenerator<Event, void, void>;
 /** The same as a stage of a pipe: `port.readable.pipeThrough(receiverStream(1024))`. */
-export function receiverStream(limit: number, options?: Options): TransformStream<Uint8Array, Event>;
+export function receiverStream(limit: number | Receiver, options?: Options): TransformStream<Bytes, Event>;

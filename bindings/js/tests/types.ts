@@ -14,8 +14,10 @@ async function uses(port: { readable: ReadableStream<Uint8Array>; writable: Writ
   }
   for await (const event of receive([new Uint8Array(1)], new Receiver(8))) damaged += event.length;
   const stream: ReadableStream<Event> = port.readable.pipeThrough(receiverStream(64));
+  const own: ReadableStream<Event> = port.readable.pipeThrough(receiverStream(new Receiver(64)));
+  for await (const event of receive([new ArrayBuffer(1), new DataView(new ArrayBuffer(1))], 8)) damaged += event.length;
   const receiver = new Receiver(64), found = receiver.push(new ArrayBuffer(3)), cut = receiver.finish();
-  return damaged + found.length + (cut ? cut.length : 0) + receiver.begun + crc32(decode(encode(new DataView(new ArrayBuffer(2))))) + (stream.locked ? 1 : 0);
+  return damaged + found.length + (cut ? cut.length : 0) + receiver.begun + crc32(decode(encode(new DataView(new ArrayBuffer(2))))) + (stream.locked || own.locked ? 1 : 0);
 }
 export function misuses(): void {
   // @ts-expect-error a limit is needed
@@ -28,6 +30,10 @@ export function misuses(): void {
   new Sender().send("text");
   // @ts-expect-error a frame has no form, counted or plain
   encode(new Uint8Array(1), { plain: true });
+  // @ts-expect-error a source gives bytes one after another
+  receive(new Uint8Array(1), 8);
+  // @ts-expect-error nor does it give texts
+  receive(["text"], 8);
   // @ts-expect-error a message that was damaged has no bytes
   for (const event of new Receiver(8).push(new Uint8Array(1))) if (event.kind === "damaged") event.bytes;
 }
