@@ -8,8 +8,9 @@
  *     struct frames_small_receiver receiver = {0};   a new receiver for the sentinel zero; frames_small_new_receiver for another
  *     struct frames_small_sender sender = {0};       likewise
  *
- * What the caller must keep to: the buffer of a receiver is the same at each call; pointers aren't null unless their length is 0; no call
- * is made inside another one with the same receiver or sender, such as by `put` or an interrupt.
+ * What the caller must keep to: the buffer of a receiver is the same at each call; pointers aren't null unless their length is 0; a length
+ * is at most SIZE_MAX / 2, as that of a read that failed (-1) isn't; no call is made inside another one with the same receiver or sender,
+ * such as by `put` or an interrupt.
  *
  * What is proved and what isn't. The functions between the lines `PROVED` and `END` are a transcription of the crate frames_small, which is
  * proved; `.ci/small` translates that crate line by line and compares. The tests for null pointers and the struct of an event aren't in
