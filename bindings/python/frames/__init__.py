@@ -311,12 +311,12 @@ class Receiver(_Single):
 
         After an exception, such as `MemoryError` or `KeyboardInterrupt`, the receiver continues after the next sentinel.
         """
-        piece = _bytes(piece)
+        view = piece if type(piece) is bytes else memoryview(piece)
         with self._lock:
             self._refuse_inside()
             try:
                 self._is_pushing = True
-                return self._pushed(piece)
+                return self._pushed(bytes(view))  # which may find no memory for a copy
             except BaseException:  # else the end of a frame, the front of which is lost, may be heard as a message
                 self._state.count, self._state.past = 0, 1
                 raise

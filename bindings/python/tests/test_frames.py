@@ -201,6 +201,11 @@ def test_raised(folder):
     finally:
         frames.Damaged = damaged
     assert receiver.push(line[5:] + b"\4\2hi\0") == [b"hi"]
+    # nor is the front of a frame one with what comes after bytes that there was no memory to take
+    huge = (ctypes.c_uint8 * (1 << 60)).from_address(ctypes.addressof(ctypes.c_uint8()))
+    assert receiver.push(frames.Sender().send(b"abcdefgh")[:6]) == [] and refuses(MemoryError, receiver.push, huge)
+    assert receiver.push(b"XYZWV\0\4\2hi\0") == [b"hi"]
+    assert receiver.push(b"\4\2h") == [] and refuses(TypeError, receiver.push, "i\0") and receiver.push(b"i\0") == [b"hi"]  # no bytes: nothing changes
     if folder:
         path, loads = os.path.join(folder, "raised.rs"), typed._answer
         pathlib.Path(path).touch()
