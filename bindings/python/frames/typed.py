@@ -142,7 +142,7 @@ class _Stream:
 
     def push(self, piece: bytes, ends: bool = False, begins: bool = False) -> List[Dict[str, Any]]:
         """The answers that these bytes bring. Threads push one after another: the room and what is left over are one receiver's."""
-        piece = bytes(memoryview(piece))
+        view = memoryview(piece)
         with self._lock:
             if self._is_pushing:  # by a signal handler
                 raise RuntimeError("a call of a receiver inside another one")
@@ -150,7 +150,7 @@ class _Stream:
                 self._is_pushing = True
                 if begins:  # what a `listen` left over is no part of this stream
                     self._begin()
-                self._left += piece  # which is read again, if memory ends before it is answered
+                self._take(view)  # which is read again, if memory ends before it is answered
                 return self._answered(ends)
             finally:
                 self._is_pushing = False
@@ -159,6 +159,13 @@ class _Stream:
 
     def _begin(self) -> None:
         self._left, self._before, self._terms.inside = b"", 0, 0
+
+    def _take(self, view: memoryview) -> None:
+        try:
+            self._left += bytes(view)
+        except BaseException:  # they are lost: what comes next isn't the end of the frame that began before them
+            self._left, self._before, self._terms.inside = b"", self._before + len(self._left) + view.nbytes, 1
+            raise
 
     def _answered(self, ends: bool) -> List[Dict[str, Any]]:
         self._terms.ends = ends

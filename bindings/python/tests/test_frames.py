@@ -24,6 +24,7 @@ import termios
 import threading
 import time
 import tty
+import types
 import typing
 import zipfile
 
@@ -218,6 +219,11 @@ def test_raised(folder):
             typed._answer = loads
         heard = list(receiver.listen(io.BytesIO(stream[8:])))
         assert heard == [{"value": [9, 2, 7]}, {"value": [1, 2, 3]}], heard
+        # nor is a value made of what comes before and after bytes that there was no memory to take
+        pieces = [stream[:3], huge]
+        source = types.SimpleNamespace(read=lambda size: pieces.pop(0))
+        assert refuses(MemoryError, list, receiver.listen(source))
+        assert [it for it in receiver.listen(io.BytesIO(b"\5\6\0" + stream[1:])) if "value" in it] == heard
         # nor is a stream that was answered, or wasn't, in front of the next one
         try:
             typed._answer = fails
