@@ -136,11 +136,23 @@ export class Receiver {
     this.#begun = receiving.get(BUFFER, receiving.number(0));
     this.#state = receiving.get(0, 16);
   }
-  /** What these bytes bring about, in order. If it throws because memory ran out, all of them were taken, or none. */
+  /** The instance with space for so many bytes more, and that space. If there is none, they are lost, and so is the frame that they end. */
+  #spaceFor(more) {
+    try {
+      const it = this.#held(), room = Math.min(this.#limit, it.number(0) + more); // no more comes between two delimiters in this call
+      it.reserve(BUFFER + room);
+      return [it, room];
+    } catch (error) {
+      if (held === this) held = undefined;
+      this.#begun = new Uint8Array(0);
+      this.#state.fill(0, 0, 8);
+      this.#state[8] = 1; // as past the limit
+      throw error;
+    }
+  }
+  /** What these bytes bring about, in order. If it throws because memory ran out, they were taken, and a frame that has begun may be lost. */
   push(bytes) {
-    const [all, events, it] = [bytesOf(bytes), [], this.#held()];
-    const room = Math.min(this.#limit, it.number(0) + all.length); // no more comes between two delimiters in this call
-    it.reserve(BUFFER + room);
+    const all = bytesOf(bytes), events = [], [it, room] = this.#spaceFor(all.length);
     let failure;
     for (let from = 0; from < all.length; from += CHUNK) {
       const chunk = all.subarray(from, from + CHUNK);

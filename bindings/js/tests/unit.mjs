@@ -228,6 +228,19 @@ function noMemory() {
   try { assert.throws(() => receiver.push(Uint8Array.of(...HI, ...line.subarray(0, 5))), RangeError); } finally { Uint8Array.prototype.slice = slice; }
   assert.deepEqual(receiver.push(line.subarray(5)).map(({ bytes }) => [...bytes]), [[9, 9, 3, 1, 88]]);
 }
+/** Where there is no memory for a chunk, the front of a frame before it and the end of one after it are no message. */
+async function noSpace() {
+  const own = await import("../frames.mjs?space"), { grow } = WebAssembly.Memory.prototype; // with instances of its own, which are small
+  await own.load(process.env.FRAMES_WASM ? readFileSync(process.env.FRAMES_WASM) : undefined);
+  const line = new own.Sender().send(new TextEncoder().encode("abcdefgh")), chunks = [line.subarray(0, 6), new Uint8Array(1 << 24).fill(7), Uint8Array.of(88, 89, 90, 87, 86, ...HI)];
+  const receiver = new own.Receiver(1 << 28, { sentinel: 0 }), kinds = async (source) => { const found = []; for await (const event of own.receive(source, receiver)) found.push(event.bytes?.length); return found; };
+  const other = new own.Receiver(8);
+  other.push(HI.subarray(0, 4));
+  WebAssembly.Memory.prototype.grow = () => { throw new RangeError("no memory"); };
+  try { await assert.rejects(kinds(chunks.slice(0, 2)), /no memory for/); } finally { WebAssembly.Memory.prototype.grow = grow; }
+  assert.deepEqual(other.push(HI.subarray(4)).map((it) => it.kind), ["message"]);
+  assert.deepEqual(await kinds(chunks.slice(2)), [2]);
+}
 /** Files that are dropped in a row or at once: each has a receiver and a report of its own, and tables come first. */
 async function dropped() {
   const said = [], slow = (bytes, name) => Object.assign(new File([], name), {
@@ -347,6 +360,7 @@ await ends();
 many();
 await large();
 noMemory();
+await noSpace();
 await dropped();
 await keeps();
 lines();
