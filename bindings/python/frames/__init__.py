@@ -309,19 +309,32 @@ class Receiver(_Single):
     def push(self, piece: bytes) -> List[Event]:
         """The events of these bytes, in order: messages as `bytes`, `Damaged`, `TooLong`.
 
-        After an exception, such as `MemoryError` or `KeyboardInterrupt`, the receiver continues after the next sentinel.
+        After an exception, such as `MemoryError` or `KeyboardInterrupt`, the receiver continues after the next sentinel. After one of
+        misuse nothing has changed, nor after one that a signal handler raises just before the call has begun.
         """
-        view = piece if type(piece) is bytes else memoryview(piece)
-        with self._lock:
-            self._refuse_inside()
-            try:
-                self._is_pushing = True
-                return self._pushed(bytes(view))  # which may find no memory for a copy
-            except BaseException:  # else the end of a frame, the front of which is lost, may be heard as a message
-                self._state.count, self._state.past = 0, 1
-                raise
-            finally:
-                self._is_pushing = False
+        is_begun = False
+        try:
+            view = piece if type(piece) is bytes else memoryview(piece)
+            with self._lock:
+                self._refuse_inside()
+                is_begun = True
+                try:
+                    self._is_pushing = True
+                    return self._pushed(bytes(view))  # which may find no memory for a copy
+                except BaseException:
+                    self._skip()
+                    raise
+                finally:
+                    self._is_pushing = False
+        except BaseException as error:
+            if not is_begun and not isinstance(error, (BufferError, RuntimeError, TypeError, ValueError)):  # these: misuse, which changes nothing
+                with self._lock:
+                    self._skip()
+            raise
+
+    def _skip(self) -> None:
+        """What comes up to the next sentinel is no frame: it may be the end of one, the front of which is lost."""
+        self._state.count, self._state.past = 0, 1
 
     def _pushed(self, piece: bytes) -> List[Event]:
         events: List[Event] = []

@@ -206,6 +206,12 @@ def test_raised(folder):
     huge = (ctypes.c_uint8 * (1 << 60)).from_address(ctypes.addressof(ctypes.c_uint8()))
     assert receiver.push(frames.Sender().send(b"abcdefgh")[:6]) == [] and refuses(MemoryError, receiver.push, huge)
     assert receiver.push(b"XYZWV\0\4\2hi\0") == [b"hi"]
+    # nor where a signal handler raises before the bytes are taken
+    assert receiver.push(frames.Sender().send(b"abcdefgh")[:6]) == []
+    receiver._refuse_inside = lambda: signal.default_int_handler(signal.SIGINT, None)
+    assert refuses(KeyboardInterrupt, receiver.push, b"??")
+    del receiver._refuse_inside
+    assert receiver.push(b"XYZWV\0\4\2hi\0") == [b"hi"]
     assert receiver.push(b"\4\2h") == [] and refuses(TypeError, receiver.push, "i\0") and receiver.push(b"i\0") == [b"hi"]  # no bytes: nothing changes
     if folder:
         path, loads = os.path.join(folder, "raised.rs"), typed._answer
