@@ -5,8 +5,10 @@ ghost use Rattle.line_io.specs.Transfers.{Failed};
 ghost use Rattle.link.specs.Listening.{ReceiverFitsInMemory};
 ghost use Rattle.journal.specs.Appending.{OnRead, put_before};
 ghost use Rattle.journal.specs.Logs.{log_place};
-ghost use Rattle.journal.specs.Reading.{HaltsBehind, OpenCause};
+ghost use Rattle.journal.specs.Reading.{HaltsBehind, OpenCause, OpenedUntil};
 ghost use Rattle.journal.specs.Store.{Settles};
+ghost use Rattle.journal_scan.specs.Checks.{StopsAfter};
+ghost use Rattle.journal_scan.specs.declared.checking.CheckError.{CheckError};
 ghost use Rattle.journal_scan.specs.Opening.{IsOpenedBy, IsReadErrorOf};
 
 use crate::checking::{CheckError, Report, check};
@@ -35,7 +37,8 @@ fn read_error(e: CheckError) -> ReadError
 /// nothing, whatever its number. Returns the log, and the report of the check.
 ///
 /// # Errors
-/// The store is returned with the reason. What it has got, and what is settled, is as for `Journal::open`.
+/// The store is returned with the reason. What it has got, and what is settled, is as for `Journal::open`; what the watcher
+/// received, as for `check`.
 ///
 /// # Requires
 /// N is at least 2, and a receiver of N bytes fits in memory (`ReceiverFitsInMemory`); a concrete N costs nothing.
@@ -58,6 +61,10 @@ pub fn open_by<T: DeserializeOwned + Exact, S: Store, W: Watcher<T>, const N: us
     ensures safe { IfErr result (λ e. S.settled store ≤ S.settled e.store) }
     ensures settled { IfErr result (λ e.
         OnRead e.cause (Settles (S.line e.store).told (S.settled e.store))) }
+    ensures so_far { IfErr result (λ e. OpenedUntil (λ c. (cause : CheckError)
+        × IsReadErrorOf cause c × StopsAfter W.told W.halts W.counted T.form.takes T.form.reads
+        T.form.growing N (S.line e.store).told watcher.old watcher.new cause)
+        watcher.old watcher.new e.cause) }
 {
     let mut store = store;
     if put(&mut store, &[0]) == 0 {
