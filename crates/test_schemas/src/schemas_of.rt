@@ -206,11 +206,11 @@ const WRONG: [Row; 9] = [
     ),
     (
         "// message\nstruct A([u8; N]);",
-        "line 2: `A.0`: `N` isn't a length in plain digits: write them\n",
+        "line 2: `A.0`: `N` is no length: write a number of at most 4294967295\n",
     ),
     (
         "// message\nstruct A(ArrayVec<u8, N>);",
-        "line 2: `A.0`: `N` isn't a length in plain digits: write them\n",
+        "line 2: `A.0`: `N` is no length: write a number of at most 4294967295\n",
     ),
     (
         "// message\nstruct A(LE<u8>);",

@@ -138,7 +138,7 @@ impl Builder<'_> {
             (Some(number), _) => return number.value,
             (None, (NO_NAME, _)) if words.len() == 1 => self.refuse(
                 first.name,
-                "` isn't a length in plain digits: write them",
+                "` is no length: write a number of at most 4294967295",
             ),
             (None, (NO_NAME, _)) => self.wrong(&[
                 "a length is a number, the name of one, or computed of those: write the number",
