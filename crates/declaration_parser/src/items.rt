@@ -226,7 +226,7 @@ impl<'a> Walk<'a> {
     fn read_item(&mut self, it: &mut Item, words: Words) -> Words {
         let rest = words.behind_first();
         let next = self.tokens.first(rest);
-        let named = next.is_name;
+        let named = next.is_name && !matches!(next.word, Word::As | Word::BeforeValue | Word::In);
         let kind = match self.tokens.front(words) {
             Word::Module if named => return self.read_module(it, rest),
             Word::Function if named => return self.read_body(Kind::Body, words),
@@ -254,7 +254,10 @@ impl<'a> Walk<'a> {
             _ => words,
         };
         let has_value = matches!(kind, ItemKind::Constant | ItemKind::Static);
-        if has_value && !matches!(self.tokens.front(words.behind_first()), Word::Colon) {
+        // a path may follow `*const` and `&raw const`
+        let is_path = matches!(self.tokens.nth(words, 2).word, Word::Colon)
+            && !matches!(self.tokens.nth(words, 3).word, Word::Colon);
+        if has_value && (is_path || !matches!(self.tokens.nth(words, 1).word, Word::Colon)) {
             return;
         }
         let ends = if kind == ItemKind::Type {
