@@ -8,6 +8,9 @@ use declaration_parser::tokens::{Word, word_of};
 pub(super) const BROUGHT_IN: &str =
     "` is brought in by a `use`: name the file of its declaration too (a crate is called as its folder), or write the type that is on the wire";
 
+const MISNAMED: &str =
+    "` is in a module with `#[path]`, which isn't searched: write its declaration into a module without one, or the type that is on the wire";
+
 pub(super) const BY_STAR: &str =
     "` may be what a `use` with `*` or a macro brings in: write its whole path, or name the file of its declaration too";
 
@@ -124,7 +127,7 @@ impl<'a> Scopes<'a> {
             found = found.both(match it.kind {
                 Kind::Module => Meaning::Module(place),
                 Kind::Outline => self.file_in(scope, name),
-                Kind::Misnamed => Meaning::Wrong(BROUGHT_IN),
+                Kind::Misnamed => Meaning::Wrong(MISNAMED),
                 _ => Meaning::Nothing,
             });
             is_conditional = is_conditional || it.kind == Kind::Conditional;
@@ -388,7 +391,7 @@ impl<'a> Scopes<'a> {
         let mut found = Meaning::Nothing;
         for (place, it) in self.scopes.iter().enumerate() {
             if it.kind == Kind::Misnamed && it.name == name {
-                return Meaning::Wrong(BROUGHT_IN);
+                return Meaning::Wrong(MISNAMED);
             }
             if is_within(&self.scopes, Step::Module(name), place)
                 && !self.are_of_two_crates(scope, place)
