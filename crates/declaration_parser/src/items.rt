@@ -260,12 +260,10 @@ impl<'a> Walk<'a> {
         if has_value && (is_path || !matches!(self.tokens.nth(words, 1).word, Word::Colon)) {
             return;
         }
-        let ends = if kind == ItemKind::Type {
-            BODY
-        } else {
-            &[Word::Semicolon]
+        let rest = match kind {
+            ItemKind::Type => self.tokens.type_up_to(words, BODY),
+            _ => self.tokens.up_to(words, &[Word::Semicolon]),
         };
-        let rest = self.tokens.up_to(words, ends);
         let whole = words.before(rest);
         item.kind = kind;
         item.words = whole;
