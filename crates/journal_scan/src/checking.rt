@@ -24,7 +24,7 @@ use thiserror::Error;
 /// ```
 #[derive(Clone, Copy, PartialEq, Eq, Debug, Drop, Error)]
 pub enum CheckError {
-    /// A read failed, or memory for a value or a range of missing numbers couldn't be allocated.
+    /// A read failed, or memory for a buffer, a value or a range of missing numbers couldn't be allocated.
     #[error("{0}")]
     Read(ScanError),
     /// The watcher halted.
