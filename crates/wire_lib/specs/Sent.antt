@@ -38,9 +38,10 @@ pub data LineMade : Type 0 where
 abbrev pub MeansNothing : Sending → List ℕ → Type 0
 MeansNothing s line = NoneOf (Fits s.schema.now s.depth s.place) (MeansText s.schema.now s.depth s.place line)
 
--- a line means a value whose frame is past the limit
+-- a line means a value of the type whose frame is past the limit
 abbrev pub IsTooLong : Sending → List ℕ → Type 0
-IsTooLong s line = (v : Value) × MeansText s.schema.now s.depth s.place line v × (65536 < length (frame_for s.sentinel (message_with s.summed (short (tree_of v)))))
+IsTooLong s line = (v : Value) × MeansText s.schema.now s.depth s.place line v × IsOfType s.depth s.schema.now.nodes.items s.place v
+    × (65536 < length (frame_for s.sentinel (message_with s.summed (short (tree_of v)))))
 
 -- a line to refuse
 abbrev pub IsUnsendable : Sending → List ℕ → Type 0
