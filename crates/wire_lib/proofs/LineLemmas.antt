@@ -24,11 +24,26 @@ use Rattle.json.specs.Token.{Token}
 use Rattle.json.specs.Tree.{json_tokens}
 use Rattle.wire_json.specs.Printed.{Shows}
 use Rattle.wire_lib.specs.Sent.{LacksFeed}
-use Rattle.wire_lib.specs.Said.{IsLineOf, IsTextFor, SaysLine, known_to, end_said, value_line}
+use Rattle.wire_lib.specs.Said.{OnlyAppended, IsLineOf, IsTextFor, SaysLine, known_to, end_said, value_line}
 use Rattle.wire_lib.proofs.FeedLemmas.{text_lacks}
 use Rattle.wire_json.specs.TokenLaws.{text_shown, text_read, text_utf8}
 use Rattle.std.proofs.lemmas.Result.{on_ok_weaker}
 use Rattle.wire_lib.specs.Received.{held_by, read_by, as_list, place_to, IsLineAt, AreSaid, TellsEach, TellsEnd}
+
+-- nothing was appended
+pub only_none : (lines : List ℕ) → OnlyAppended lines lines
+only_none lines = ([], sym (append-nil lines))
+
+-- bytes were appended, and then others
+pub only_then : (a b c : List ℕ) → OnlyAppended a b → OnlyAppended b c → OnlyAppended a c
+only_then a b c p q =
+    (p.0 ++ q.0, q.1 ∙ ap (λ x. x ++ q.0) p.1 ∙ append_assoc a p.0 q.0)
+
+-- bytes were appended, or memory was out
+pub only_maybe : (b : Bool) (lines lines' bytes : List ℕ)
+    → lines' ≡ cond b (lines ++ bytes) lines → OnlyAppended lines lines'
+only_maybe true lines lines' bytes e = (bytes, e)
+only_maybe false lines lines' bytes e = ([], e ∙ sym (append-nil lines))
 
 -- the parts of a value's line, one after another
 pub value_appended : (lines first second third text part : List ℕ)

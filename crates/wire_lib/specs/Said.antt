@@ -9,6 +9,10 @@ use Rattle.wire_json.specs.Printed.{Prints}
 use Rattle.wire_lib.specs.Sent.{LacksFeed}
 use Rattle.wire_lib.specs.declared.receive.Reading.{Reading}
 
+-- bytes may have been appended to others, which stand unchanged
+abbrev pub OnlyAppended : List ℕ → List ℕ → Type 0
+OnlyAppended lines lines' = (more : List ℕ) × (lines' ≡ lines ++ more)
+
 -- The line of a value, by the text of its JSON.
 abbrev pub value_line : List ℕ → List ℕ
 value_line text = codes "{\"value\":" ++ (text ++ codes "}\n")

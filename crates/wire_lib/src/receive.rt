@@ -5,7 +5,7 @@ ghost use Rattle.link.specs.Receivers.{IsBehind, SameTerms};
 ghost use Rattle.link.specs.Pushes.{Answered, IsStretchOf};
 ghost use Rattle.link.specs.declared.receiver.Answer.{Answer as Answers};
 ghost use Rattle.schema_table.specs.declared.value.Value.{Value as Values};
-ghost use Rattle.wire_lib.specs.Said.{IsTextFor, value_line, stretch_line, known_to, end_said, SaysLine};
+ghost use Rattle.wire_lib.specs.Said.{OnlyAppended, IsTextFor, value_line, stretch_line, known_to, end_said, SaysLine};
 ghost use Rattle.wire_lib.specs.Received.{HasTold, held_by, read_by, reading_of, skip_of, is_a_value, are_all_values, added_at_end, TellsEach, TellsEnd};
 
 use crate::table::TableReader;
@@ -121,6 +121,7 @@ impl<'a> LinesOfFrames<'a> {
             (end_said answer.now (self.old.at - 1)
             (known_to self.old.at self.old.reading.sentinel left.now))
             lines.old.items lines.new.items) }
+        ensures only { OnlyAppended lines.old.items lines.new.items }
         ensures same { self.new ≡ record self.old { text = self.new.text } }
     {
         let last = self.at.saturating_sub(1);
@@ -151,6 +152,7 @@ impl<'a> LinesOfFrames<'a> {
             × HasTold self.new passed (stream ++ take used rest.now) (answers ++ more)
             × TellsEach (reading_of self.old) passed (stream ++ rest.now) answers more
             lines.old.items lines.new.items) }
+        ensures only { OnlyAppended lines.old.items lines.new.items }
         ensures within { IfOk result (λ used. used ≤ length rest.now) }
         ensures forward { 0 < length rest.now → IfOk result (λ used. 0 < used) }
         ensures reading { reading_of self.new ≡ reading_of self.old }
@@ -181,6 +183,7 @@ impl<'a> LinesOfFrames<'a> {
             × HasTold self.new passed (stream ++ piece.now) (answers ++ more)
             × TellsEach (reading_of self.old) passed (stream ++ piece.now) answers more
             lines.old.items lines.new.items) }
+        ensures only { OnlyAppended lines.old.items lines.new.items }
         ensures reading { reading_of self.new ≡ reading_of self.old }
         ensures skip { skip_of self.new ≡ skip_of self.old }
     {
@@ -213,7 +216,7 @@ impl<'a> LinesOfFrames<'a> {
     /// brought its last byte. `too_long` has the position up to which the chunk shows the bytes.
     ///
     /// # Errors
-    /// Out of memory; the lines before that have been appended.
+    /// Out of memory; the lines before that have been appended, and maybe a part of one more.
     ///
     /// # Allocates
     /// What `lines` grows by. A value at a time is freed.
@@ -224,6 +227,7 @@ impl<'a> LinesOfFrames<'a> {
             (answers ++ more)
             × TellsEach (reading_of self.old) passed (stream ++ drop (skip_of self.old) piece.now)
             answers more lines.old.items lines.new.items) }
+        ensures only { OnlyAppended lines.old.items lines.new.items }
         ensures reading { reading_of self.new ≡ reading_of self.old }
         ensures skip { skip_of self.new ≡ skip_of self.old - length piece.now }
     {
@@ -246,6 +250,7 @@ impl<'a> LinesOfFrames<'a> {
             → HasTold self.entry passed stream answers
             → TellsEnd (reading_of self.entry) passed stream (added_at_end self.entry stream)
             lines.old.items lines.new.items) }
+        ensures only { OnlyAppended lines.old.items lines.new.items }
     {
         let begun = self.receiver.begun_bytes() as u64;
         let from = self.at.saturating_sub(begun);
@@ -304,8 +309,9 @@ pub(crate) fn put_value_line(
     text: &mut Vec<u8>,
     lines: &mut Vec<u8>,
 ) -> Result<(), AllocError>
-    ensures { OnOk result ((said : List ℕ) × IsTextFor reading.entry value.now said
+    ensures line { OnOk result ((said : List ℕ) × IsTextFor reading.entry value.now said
         × (lines.new.items ≡ lines.old.items ++ value_line said)) }
+    ensures only { OnlyAppended lines.old.items lines.new.items }
 {
     write_value(reading, value, text)?;
     lines.extend_from_slice(b"{\"value\":")?;
@@ -321,7 +327,9 @@ pub(crate) fn put_stretch_line(
     to: u64,
     lines: &mut Vec<u8>,
 ) -> Result<(), AllocError>
-    ensures { OnOk result (lines.new.items ≡ lines.old.items ++ stretch_line what.now from to) }
+    ensures line { OnOk result
+        (lines.new.items ≡ lines.old.items ++ stretch_line what.now from to) }
+    ensures only { OnlyAppended lines.old.items lines.new.items }
 {
     let line = format!(in alloc; "{{\"{what}\":{{\"from\":{from},\"to\":{to}}}}}\n")?;
     lines.extend_from_slice(line.as_bytes())

@@ -1,6 +1,7 @@
 //! Lines of JSON as a stream of frames.
 ghost use Rattle.std.specs.Prelude.{◌≡◌, ℕ, ◌<◌, ◌≤◌, ◌&&◌, false, List, [], ◌∷◌, ◌++◌, length, take, string_bytes, IfOk, OnOk};
 ghost use Rattle.wire_json.specs.Refused.{IfWrong, refusal_text};
+ghost use Rattle.wire_lib.specs.Said.{OnlyAppended};
 ghost use Rattle.wire_lib.specs.Sent.{IsFrameToSend, IsUnsendable, LineMade, IsTextMade, IsLineMade, IsLineWith, AreLinesMade, last_line, is_framed, are_all_framed, number_behind, sending_of, begun_line, HasMade, AppendedApart};
 
 use crate::raw::message_of;
@@ -32,7 +33,8 @@ type Sent = Result<(), AllocError>;
 
 /// Appends bytes.
 fn append(to: &mut Vec<u8>, bytes: &[u8]) -> Sent
-    ensures { OnOk result (to.new.items ≡ to.old.items ++ bytes.now) }
+    ensures items { OnOk result (to.new.items ≡ to.old.items ++ bytes.now) }
+    ensures only { OnlyAppended to.old.items to.new.items }
 {
     to.extend_from_slice(bytes)
 }
@@ -103,6 +105,7 @@ impl<'a> FramesOfLines<'a> {
             × AppendedApart frames.old.items frames.new.items (string_bytes wrongs.old)
             (string_bytes wrongs.new) (m ∷ [])
             × (self.new.is_good ≡ (self.old.is_good && is_framed m))) }
+        ensures only { OnlyAppended frames.old.items frames.new.items }
         ensures number { self.new.number ≡ number_behind self.old.number }
         ensures same { (self.new.sending ≡ self.old.sending)
             × (self.new.line.items ≡ self.old.line.items) }
@@ -133,6 +136,7 @@ impl<'a> FramesOfLines<'a> {
             (string_bytes wrongs.new) (m ∷ [])
             × (self.new.is_good ≡ (self.old.is_good && is_framed m))
             × (self.new.line.items ≡ [])) }
+        ensures only { OnlyAppended frames.old.items frames.new.items }
         ensures number { OnOk result (self.new.number ≡ number_behind self.old.number) }
         ensures sending { sending_of self.new ≡ sending_of self.old }
     {
@@ -159,6 +163,7 @@ impl<'a> FramesOfLines<'a> {
             × HasMade self.new (text ++ take used rest.now) (made ++ more)
             × AppendedApart frames.old.items frames.new.items (string_bytes wrongs.old)
             (string_bytes wrongs.new) more) }
+        ensures only { OnlyAppended frames.old.items frames.new.items }
         ensures within { IfOk result (λ used. used ≤ length rest.now) }
         ensures forward { 0 < length rest.now → IfOk result (λ used. 0 < used) }
         ensures sending { sending_of self.new ≡ sending_of self.old }
@@ -189,6 +194,7 @@ impl<'a> FramesOfLines<'a> {
             × HasMade self.new (text ++ piece.now) (made ++ more)
             × AppendedApart frames.old.items frames.new.items (string_bytes wrongs.old)
             (string_bytes wrongs.new) more) }
+        ensures only { OnlyAppended frames.old.items frames.new.items }
         ensures sending { sending_of self.new ≡ sending_of self.old }
     {
         let mut rest = piece;
@@ -202,13 +208,14 @@ impl<'a> FramesOfLines<'a> {
 
     /// Sends what is left as the last line.
     fn send_rest(&mut self, frames: &mut Vec<u8>, wrongs: &mut String) -> Sent
-        ensures { OnOk result ((text : List ℕ) (made : List LineMade)
+        ensures made { OnOk result ((text : List ℕ) (made : List LineMade)
             → HasMade self.old text made → (last : List LineMade)
             × AreLinesMade (sending_of self.old) (length made)
             (last_line (begun_line self.old)) last
             × AppendedApart frames.old.items frames.new.items (string_bytes wrongs.old)
             (string_bytes wrongs.new) last
             × (self.new.is_good ≡ are_all_framed (made ++ last))) }
+        ensures only { OnlyAppended frames.old.items frames.new.items }
     {
         if self.line.is_empty() {
             return Ok(());
@@ -225,13 +232,14 @@ impl<'a> FramesOfLines<'a> {
     /// # Allocates
     /// What `frames` and `wrongs` grow by. The last value and its frame are freed.
     pub fn finish(mut self, frames: &mut Vec<u8>, wrongs: &mut String) -> Result<bool, AllocError>
-        ensures { IfOk result (λ good. (text : List ℕ) (made : List LineMade)
+        ensures made { IfOk result (λ good. (text : List ℕ) (made : List LineMade)
             → HasMade self.entry text made → (last : List LineMade)
             × AreLinesMade (sending_of self.entry) (length made) (last_line (begun_line self.entry))
             last
             × AppendedApart frames.old.items frames.new.items (string_bytes wrongs.old)
             (string_bytes wrongs.new) last
             × (good ≡ are_all_framed (made ++ last))) }
+        ensures only { OnlyAppended frames.old.items frames.new.items }
     {
         self.send_rest(frames, wrongs)?;
         Ok(self.is_good)

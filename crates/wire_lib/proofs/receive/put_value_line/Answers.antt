@@ -2,8 +2,8 @@ use Rattle.std.proofs.lemmas.Result.{on_ok_weaker}
 use Rattle.wire_lib.proofs.LineLemmas.{value_appended, on_appended}
 use Rattle.wire_lib.proofs.receive.put_value_line.Goals as goal
 
-pub returns : goal.returns
-returns c =
+pub returns-clause-line : goal.returns-clause-line
+returns-clause-line c =
     let text = c.write_value.new.text.items in
     on_ok_weaker c.extend_from_slice-3.result (λ third. (
       text,

@@ -24,7 +24,7 @@ returns-then-is_some-clause-told c passed stream answers h =
     let says : SaysLine r answer.Cut from at lines lines' = record {
       line = stretch_line (codes "cut") from at;
       is = refl;
-      appended = c.in_ok-put_stretch_line.ensures;
+      appended = c.in_ok-put_stretch_line.ensures.line;
     } in
     cut_at_end r passed at n stream lines lines' (begun 65536 s stream) refl
     (ap is_some (sym (c.finish.ensures 65536 s stream h.hears.after)) ∙ sym c.is_some.ensures

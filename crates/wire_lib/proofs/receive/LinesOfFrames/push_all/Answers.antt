@@ -2,7 +2,7 @@ use Rattle.std.proofs.Common.{◌≡◌, ℕ, List, [], ◌∷◌, ◌++◌, tak
 use Rattle.std.proofs.lemmas.List.{append-nil}
 use Rattle.wire_lib.specs.Received.{HasTold, TellsEach, reading_of}
 use Rattle.wire_lib.proofs.ToldLemmas.{told_none, told_then, parts_on}
-use Rattle.wire_lib.proofs.LineLemmas.{tells_none, tells_then}
+use Rattle.wire_lib.proofs.LineLemmas.{only_none, only_then, tells_none, tells_then}
 use Rattle.wire_lib.proofs.receive.LinesOfFrames.push_all.Goals as goal
 
 -- nothing is left
@@ -22,6 +22,7 @@ loop-rest-init c = (
     tells_none (reading_of c.args.self.now) passed (stream ++ c.args.piece.now) answers
         c.args.lines.now.items,
   ),
+  only_none c.args.lines.now.items,
 )
 
 pub loop-rest-preserved : goal.loop-rest-preserved
@@ -50,6 +51,8 @@ loop-rest-preserved c =
                 (subst (λ x. TellsEach (reading_of c.loop-rest.self) passed x (answers ++ told.0)
                 next.0 c.loop-rest.lines.items c.push_one.new.lines.items) whole next.2)),
           ),
+      only_then c.args.lines.now.items c.loop-rest.lines.items c.push_one.new.lines.items i.5
+          c.push_one.ensures.only,
     )
 
 pub returns-clause-told : goal.returns-clause-told

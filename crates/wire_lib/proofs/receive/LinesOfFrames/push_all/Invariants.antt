@@ -2,6 +2,7 @@ use Rattle.std.proofs.Common.{◌≡◌, ℕ, List, ◌++◌, length}
 use Rattle.link.specs.declared.receiver.Answer.{Answer}
 use Rattle.schema_table.specs.declared.value.Value.{Value}
 use Rattle.wire_lib.specs.Received.{HasTold, TellsEach, reading_of, skip_of}
+use Rattle.wire_lib.specs.Said.{OnlyAppended}
 use Rattle.wire_lib.proofs.receive.LinesOfFrames.push_all.Given as goal
 
 -- what is left of the piece, and that what came before it was told
@@ -12,6 +13,7 @@ invariant-loop-rest l =
     × ((passed : ℕ) (stream : List ℕ) (answers : List (Answer Value)) → HasTold l.fn.self passed stream answers
     → (more : List (Answer Value)) × HasTold l.self passed (stream ++ done) (answers ++ more)
     × TellsEach (reading_of l.fn.self) passed (stream ++ l.fn.piece) answers more l.fn.lines.items l.lines.items)
+    × OnlyAppended l.fn.lines.items l.lines.items
 
 abbrev pub decreases-loop-rest : goal.decreases-loop-rest
 decreases-loop-rest l = length l.rest

@@ -1,6 +1,7 @@
 use Rattle.std.proofs.Common.{◌≡◌, [], ◌++◌, take, refl, sym, ap, subst, ◌∙◌, rules, string_bytes}
 use Rattle.std.proofs.lemmas.List.{append-nil, append_assoc, nil_from_length}
 use Rattle.wire_lib.specs.Sent.{HasMade}
+use Rattle.wire_lib.proofs.LineLemmas.{only_none, only_then}
 use Rattle.wire_lib.proofs.SentLemmas.{appended_none, appended_then}
 use Rattle.wire_lib.proofs.ToldLemmas.{parts_on}
 use Rattle.wire_lib.proofs.send.FramesOfLines.push.Goals as goal
@@ -15,6 +16,7 @@ loop-rest-init c = (
     subst (λ x. HasMade c.args.self.now x (made ++ [])) (sym (append-nil text)) (subst (λ x. HasMade c.args.self.now text x) (sym (append-nil made)) h),
     appended_none c.args.frames.now.items (string_bytes c.args.wrongs.now),
   ),
+  only_none c.args.frames.now.items,
 )
 
 pub loop-rest-preserved : goal.loop-rest-preserved
@@ -33,6 +35,7 @@ loop-rest-preserved c =
                 (subst (λ x. HasMade c.push_line.new.self ((text ++ i.0) ++ take used rest) x) (append_assoc made told.0 next.0) next.1),
             appended_then _ _ _ _ _ _ told.0 next.0 told.2 next.2,
           ),
+      only_then _ _ _ i.4 c.push_line.ensures.only,
     )
 
 pub returns-clause-made : goal.returns-clause-made

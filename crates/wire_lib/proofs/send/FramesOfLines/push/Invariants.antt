@@ -1,5 +1,6 @@
 use Rattle.std.proofs.Common.{◌≡◌, ℕ, List, ◌++◌, length, string_bytes}
 use Rattle.wire_lib.specs.Sent.{LineMade, HasMade, AppendedApart}
+use Rattle.wire_lib.specs.Said.{OnlyAppended}
 use Rattle.wire_lib.proofs.send.FramesOfLines.push.Given as goal
 
 -- what is left of the piece, and what was made of what came before it
@@ -10,6 +11,7 @@ invariant-loop-rest l =
     × ((text : List ℕ) (made : List LineMade) → HasMade l.fn.self text made
     → (more : List LineMade) × HasMade l.self (text ++ done) (made ++ more)
     × AppendedApart l.fn.frames.items l.frames.items (string_bytes l.fn.wrongs) (string_bytes l.wrongs) more)
+    × OnlyAppended l.fn.frames.items l.frames.items
 
 abbrev pub decreases-loop-rest : goal.decreases-loop-rest
 decreases-loop-rest l = length l.rest

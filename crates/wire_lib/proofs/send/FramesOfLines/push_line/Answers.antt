@@ -11,7 +11,7 @@ returns-then-is_empty-clause-made c text made h =
     let rest = c.args.rest.now in
     let part = take at rest in
     let lacks : LacksFeed part = lacks_take at rest c.before_sentinel-at.ensures.within c.before_sentinel-at.ensures.none in
-    let line : c.append.new.to.items ≡ self.line.items ++ part = c.in_ok-append.ensures ∙ ap (λ p. self.line.items ++ p) c.split_at.ensures.front in (
+    let line : c.append.new.to.items ≡ self.line.items ++ part = c.in_ok-append.ensures.items ∙ ap (λ p. self.line.items ++ p) c.split_at.ensures.front in (
       [],
       subst (λ x. HasMadeBy self.sending x self.number self.is_good (text ++ part) (made ++ [])) (sym line) (made_on self.sending self.line.items part self.number self.is_good text made h lacks),
       appended_none c.args.frames.now.items (string_bytes c.args.wrongs.now),

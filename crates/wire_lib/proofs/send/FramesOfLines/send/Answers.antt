@@ -9,7 +9,7 @@ returns-in-Ok-clause-made c =
     let frames = c.args.frames.now.items in
     on_ok_weaker c.append.result
     (λ e. sent_framed self.sending c.saturating_add-self.result c.args.line.now frames c.append.new.to.items (string_bytes c.args.wrongs.now) c.in-Ok.frame.items self.is_good c.in-Ok.ensures.sent (e ∙ ap (λ x. frames ++ x) c.deref.ensures.value))
-    c.append.ensures
+    c.append.ensures.items
 
 pub returns-in-Err-Wrong-clause-made : goal.returns-in-Err-Wrong-clause-made
 returns-in-Err-Wrong-clause-made c =

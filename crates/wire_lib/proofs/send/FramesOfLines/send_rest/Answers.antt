@@ -4,8 +4,8 @@ use Rattle.wire_lib.proofs.SentLemmas.{last_made}
 use Rattle.std.proofs.lemmas.Result.{on_ok_weaker}
 use Rattle.wire_lib.proofs.send.FramesOfLines.send_rest.Goals as goal
 
-pub returns : goal.returns
-returns c =
+pub returns-clause-made : goal.returns-clause-made
+returns-clause-made c =
     let self = c.args.self.now in
     let some : 0 < length self.line.items = search rules in
     let same : c.deref.result.now ≡ self.line.items = search rules in
