@@ -2,6 +2,7 @@ pub mod DamageLemmas
 pub mod DrawnLemmas
 pub mod FeedLemmas
 pub mod LineLemmas
+pub mod RawLemmas
 pub mod ResentLemmas
 pub mod SeenLemmas
 pub mod SentLemmas

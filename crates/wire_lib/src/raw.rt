@@ -1,8 +1,12 @@
 //! Messages without frames.
-ghost use Rattle.std.specs.Prelude.{◌≡◌, true, IfOk, OnOk};
+ghost use Rattle.std.specs.Prelude.{◌≡◌, ◌≢◌, ◌⊎◌, ◌↔◌, true, false, codes, IfOk, IfErr, IsTrue};
 ghost use Rattle.postcard_de.specs.Answer.{ReadsFront};
+ghost use Rattle.postcard_tree.specs.Spelling.{short};
+ghost use Rattle.postcard_tree.specs.declared.error.Error.TheVariants.{OutOfMemory};
+ghost use Rattle.schema_table.specs.Values.{tree_of};
 ghost use Rattle.wire_lib.specs.Received.{read_by};
-ghost use Rattle.wire_lib.specs.Raw.{ShowsWhole, IsMessageToSend};
+ghost use Rattle.wire_lib.specs.Raw.{ShowsWhole, ShowsFront, ShowsDamage, ReadsNone, IsMessageToSend};
+ghost use Rattle.wire_lib.specs.Said.{OnlyAppended};
 ghost use Rattle.wire_json.specs.Refused.{IfWrong};
 ghost use Rattle.wire_lib.specs.Sent.{MeansNothing};
 
@@ -18,7 +22,9 @@ use wire_json::parse::parse;
 use wire_json::wrong::ParseError;
 
 /// Whether a message is the encoding of a value.
-fn is_written(reading: Reading<'_>, value: &Value, message: &[u8]) -> Result<bool, AllocError> {
+fn is_written(reading: Reading<'_>, value: &Value, message: &[u8]) -> Result<bool, AllocError>
+    ensures { IfOk result (λ b. IsTrue b ↔ message.now ≡ short (tree_of value.now)) }
+{
     match to_allocvec(reading.alloc, value) {
         Ok(written) => Ok(*written == *message),
         Err(_) => Err(AllocError),
@@ -26,7 +32,9 @@ fn is_written(reading: Reading<'_>, value: &Value, message: &[u8]) -> Result<boo
 }
 
 /// The word for a message that isn't a value: `damaged` or `too_deep`.
-fn what_of(reading: Reading<'_>, error: Error, message: &[u8]) -> &'static str {
+fn what_of(reading: Reading<'_>, error: Error, message: &[u8]) -> &'static str
+    ensures { (result.now ≡ codes "damaged") ⊎ (result.now ≡ codes "too_deep") }
+{
     let is_deep = Cell::new(false);
     let table = TableReader {
         nodes: &reading.schema.nodes,
@@ -43,7 +51,9 @@ fn what_of(reading: Reading<'_>, error: Error, message: &[u8]) -> &'static str {
 
 /// The value at the start of a message, and the bytes after it.
 fn take_kept<'a>(reading: Reading<'_>, message: &'a [u8]) -> postcard::Result<(Value, &'a [u8])>
-    ensures { IfOk result (λ p. ReadsFront (read_by reading.entry) message.now p.1.now p.0) }
+    ensures value { IfOk result
+        (λ p. ReadsFront (read_by reading.entry) message.now p.1.now p.0) }
+    ensures none { IfErr result (λ e. e ≢ OutOfMemory → ReadsNone reading.entry message.now) }
 {
     let Reading {
         alloc,
@@ -71,8 +81,12 @@ fn put_taken(
     lines: &mut Vec<u8>,
 ) -> Result<bool, AllocError>
     requires { ReadsFront (read_by reading) message.now rest.now value.now }
-    ensures { IfOk result (λ good. good ≡ true
+    ensures good { IfOk result (λ good. good ≡ true
         → ShowsWhole reading.entry message.now lines.old.items lines.new.items) }
+    ensures other { IfOk result (λ good. good ≡ false
+        → ShowsFront reading.entry message.now lines.old.items lines.new.items
+        ⊎ ShowsDamage reading.entry message.now lines.old.items lines.new.items) }
+    ensures only { OnlyAppended lines.old.items lines.new.items }
 {
     let alloc = reading.alloc;
     let to = message.len() as u64;
@@ -108,6 +122,10 @@ pub fn put_message(
 ) -> Result<bool, AllocError>
     ensures good { IfOk result (λ good. good ≡ true
         → ShowsWhole reading.entry message.now lines.old.items lines.new.items) }
+    ensures other { IfOk result (λ good. good ≡ false
+        → ShowsFront reading.entry message.now lines.old.items lines.new.items
+        ⊎ ShowsDamage reading.entry message.now lines.old.items lines.new.items) }
+    ensures only { OnlyAppended lines.old.items lines.new.items }
 {
     match take_kept(reading, message) {
         Ok((value, rest)) => put_taken(reading, &value, rest, message, text, lines),
