@@ -1,5 +1,5 @@
 -- What a table of messages keeps.
-use Rattle.std.specs.Prelude.{◌≡◌, ℕ, ◌+◌, ◌-◌, List, ◌∷◌, length, drop, max, String}
+use Rattle.std.specs.Prelude.{◌≡◌, ℕ, ◌+◌, ◌-◌, List, ◌∷◌, length, drop, map, max, String, string_bytes}
 use Rattle.std.specs.Global.{Global}
 use Rattle.wire_lib.specs.Rates.{capped, HasTimed, newest}
 use Rattle.wire_lib.specs.declared.watching.table.Row.{Row}
@@ -19,3 +19,7 @@ pub record IsNoted (text : String Global) (window : ℕ) (old new : Row) : Type 
 -- the last n of these, or all if there are fewer
 abbrev pub last_of : {A : Type 0} → ℕ → List A → List A
 last_of n xs = drop (length xs - n) xs
+
+-- the names of the kinds that rows are of
+abbrev pub row_names : List Row → List (List ℕ)
+row_names rows = map (λ row. string_bytes row.name) rows

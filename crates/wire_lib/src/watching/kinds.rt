@@ -1,7 +1,8 @@
 //! The kinds of messages of a type: the variants of an enum, else the type itself.
-ghost use Rattle.std.specs.Prelude.{◌≡◌, ℕ, IfOk};
-ghost use Rattle.std.specs.List.{All};
-ghost use Rattle.wire_lib.specs.Kinds.{kind_in};
+ghost use Rattle.std.specs.Prelude.{◌≡◌, ℕ, IfOk, string_bytes};
+ghost use Rattle.std.specs.List.{All, slice_get};
+ghost use Rattle.wire_lib.specs.Kinds.{kind_in, kinds_of, type_name as name_in};
+ghost use Rattle.wire_lib.specs.Tables.{row_names};
 
 use crate::receive::Reading;
 use crate::watching::table::Row;
@@ -19,6 +20,7 @@ const MESSAGE: &str = "message";
 /// A row for a kind of this name.
 fn row(alloc: Global, name: &str) -> Result<Row, AllocError>
     ensures none { IfOk result (λ row. row.count ≡ 0) }
+    ensures name { IfOk result (λ row. string_bytes row.name ≡ name.now) }
 {
     Ok(Row::new(String::from_str(alloc, name)?, alloc))
 }
@@ -32,20 +34,23 @@ fn row(alloc: Global, name: &str) -> Result<Row, AllocError>
 /// The rows, and their names.
 pub fn rows_of(alloc: Global, schema: &Schema, place: usize) -> Result<Vec<Row>, AllocError>
     ensures none { IfOk result (λ rows. All (λ row. row.count ≡ 0) rows.items) }
+    ensures kinds { IfOk result (λ rows. row_names rows.items ≡ kinds_of schema.now place) }
 {
     let mut rows = Vec::new(alloc);
-    if let Some(Names::Variants(names)) = schema.names.get(place) {
-        for name in names {
-            rows.push(row(alloc, name.as_str())?)?;
-        }
-    } else {
+    let Some(Names::Variants(names)) = schema.names.get(place) else {
         rows.push(row(alloc, type_name(schema, place))?)?;
+        return Ok(rows);
+    };
+    for name in names {
+        rows.push(row(alloc, name.as_str())?)?;
     }
     Ok(rows)
 }
 
 /// The name of the type at that index, or `message` if it has none.
-fn type_name(schema: &Schema, place: usize) -> &str {
+fn type_name(schema: &Schema, place: usize) -> &str
+    ensures { result.now ≡ name_in (slice_get schema.now.types.items place) }
+{
     match schema.types.get(place) {
         Some(it) => it.name.as_str(),
         None => MESSAGE,

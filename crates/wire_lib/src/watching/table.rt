@@ -1,7 +1,7 @@
 //! What is kept of a stream: of each kind of messages the number, the rate and the last one's text; and the last damages.
 ghost use Rattle.std.specs.Prelude.{◌≡◌, ℕ, ◌+◌, ◌<◌, ◌≤◌, List, [], ◌∷◌, ◌++◌, length, slice_set, slice_index_or, OnOk};
 ghost use Rattle.wire_lib.specs.Rates.{capped, HasTimed};
-ghost use Rattle.wire_lib.specs.Tables.{IsNoted, last_of};
+ghost use Rattle.wire_lib.specs.Tables.{IsNoted, last_of, row_names};
 
 use crate::watching::rate::Rate;
 use std::alloc::{AllocError, Global};
@@ -65,6 +65,7 @@ impl Table {
             × (old ≡ slice_index_or self.old.rows.items kind old) × IsNoted last window old new
             × (self.new.rows.items ≡ slice_set self.old.rows.items kind new) }
         ensures none { length self.old.rows.items ≤ kind → self.new.rows ≡ self.old.rows }
+        ensures kinds { row_names self.new.rows.items ≡ row_names self.old.rows.items }
         ensures damaged { self.new.damaged ≡ self.old.damaged }
         ensures damages { self.new.damages ≡ self.old.damages }
     {

@@ -7,6 +7,8 @@ ghost use Rattle.link.specs.declared.receiver.Answer.{Answer as Answers};
 ghost use Rattle.schema_table.specs.declared.value.Value.{Value as Values};
 ghost use Rattle.wire_lib.specs.Damages.{IsDamageWord};
 ghost use Rattle.wire_lib.specs.Fronts.{dots_after, damage_said};
+ghost use Rattle.wire_lib.specs.Kinds.{kinds_of};
+ghost use Rattle.wire_lib.specs.Tables.{row_names};
 ghost use Rattle.wire_lib.specs.Received.{held_by, read_by, are_all_values};
 ghost use Rattle.wire_lib.specs.Rates.{CountsOneMore};
 ghost use Rattle.wire_lib.specs.Seen.{HasSeen, HasCounted, CountsToo, CountsMessage, KeepsDamage, KeepsText, KeepsAll, StandsStill, reading_of, added_by_end};
@@ -57,6 +59,8 @@ impl<'a> Viewer<'a> {
     pub fn new(reading: Reading<'a>) -> Result<Viewer<'a>, AllocError>
         ensures seen { IfOk result (λ v. HasSeen v [] []) }
         ensures reading { IfOk result (λ v. reading_of v ≡ reading.entry) }
+        ensures kinds { IfOk result (λ v. row_names v.table.rows.items
+            ≡ kinds_of reading.entry.schema.now reading.entry.place) }
         ensures damages { IfOk result (λ v. v.table.damages.items ≡ []) }
     {
         let alloc = reading.alloc;
@@ -85,6 +89,7 @@ impl<'a> Viewer<'a> {
         lines: &mut Vec<u8>,
     ) -> Result<(), AllocError>
         ensures counted { OnOk result (CountsMessage value.now self.old.table self.new.table) }
+        ensures kinds { row_names self.new.table.rows.items ≡ row_names self.old.table.rows.items }
         ensures damages { self.new.table.damages ≡ self.old.table.damages }
         ensures same { StandsStill self.old self.new }
     {
@@ -132,6 +137,7 @@ impl<'a> Viewer<'a> {
         ensures kept { OnOk result (length self.old.table.damages.items ≤ 3 → KeepsText answer.now
             (self.old.at - 1 - stretch) stretch self.old.front.items self.old.table
             self.new.table) }
+        ensures kinds { row_names self.new.table.rows.items ≡ row_names self.old.table.rows.items }
         ensures same { StandsStill self.old self.new }
     {
         match answer {
@@ -157,6 +163,7 @@ impl<'a> Viewer<'a> {
             → HasSeen self.old stream answers → (more : List (Answers Values))
             × HasSeen self.new (stream ++ take used rest.now) (answers ++ more)) }
         ensures reading { reading_of self.new ≡ reading_of self.old }
+        ensures kinds { row_names self.new.table.rows.items ≡ row_names self.old.table.rows.items }
         ensures within { IfOk result (λ used. used ≤ length rest.now) }
         ensures forward { IfOk result (λ used. 0 < used) }
     {
@@ -197,6 +204,7 @@ impl<'a> Viewer<'a> {
             → HasSeen self.old stream answers → (more : List (Answers Values))
             × HasSeen self.new (stream ++ piece.now) (answers ++ more)) }
         ensures reading { reading_of self.new ≡ reading_of self.old }
+        ensures kinds { row_names self.new.table.rows.items ≡ row_names self.old.table.rows.items }
     {
         let mut rest = piece;
         while !rest.is_empty() {

@@ -9,7 +9,7 @@ empty [] e = refl
 empty (x ∷ xs) e = absurd (omega arith)
 
 pub loop-rest-init : goal.loop-rest-init
-loop-rest-init c = ([], refl, refl, λ stream answers h. ([], seen_none c.args.self.now stream answers h))
+loop-rest-init c = ([], refl, refl, λ stream answers h. ([], seen_none c.args.self.now stream answers h), refl)
 
 pub loop-rest-preserved : goal.loop-rest-preserved
 loop-rest-preserved c =
@@ -25,6 +25,7 @@ loop-rest-preserved c =
             seen.0 ++ next.0,
             seen_then c.push_one.new.self stream i.0 (take used rest) answers seen.0 next.0 next.1,
           ),
+      c.push_one.ensures.kinds ∙ i.4,
     )
 
 pub returns-clause-seen : goal.returns-clause-seen

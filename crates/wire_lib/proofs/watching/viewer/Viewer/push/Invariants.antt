@@ -2,6 +2,7 @@ use Rattle.std.proofs.Common.{◌≡◌, ℕ, List, ◌++◌, length}
 use Rattle.link.specs.declared.receiver.Answer.{Answer}
 use Rattle.schema_table.specs.declared.value.Value.{Value}
 use Rattle.wire_lib.specs.Seen.{HasSeen, reading_of}
+use Rattle.wire_lib.specs.Tables.{row_names}
 use Rattle.wire_lib.proofs.watching.viewer.Viewer.push.Given as goal
 
 -- what is left of the piece, and that what came before it was seen
@@ -10,6 +11,7 @@ invariant-loop-rest l =
     (done : List ℕ) × (l.fn.piece ≡ done ++ l.rest) × (reading_of l.self ≡ reading_of l.fn.self)
     × ((stream : List ℕ) (answers : List (Answer Value)) → HasSeen l.fn.self stream answers
     → (more : List (Answer Value)) × HasSeen l.self (stream ++ done) (answers ++ more))
+    × (row_names l.self.table.rows.items ≡ row_names l.fn.self.table.rows.items)
 
 abbrev pub decreases-loop-rest : goal.decreases-loop-rest
 decreases-loop-rest l = length l.rest

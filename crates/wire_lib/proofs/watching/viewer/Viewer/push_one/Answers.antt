@@ -84,3 +84,9 @@ returns-in_ok-keep_front-in-Ok-Some-clause-seen c stream answers h =
             (subst (λ x. HasKept v.reading x front new.table behind xs) (sym c.hear.ensures.same.at) kept);
       },
     )
+
+pub returns-in_ok-keep_front-in-Ok-None-clause-kinds : goal.returns-in_ok-keep_front-in-Ok-None-clause-kinds
+returns-in_ok-keep_front-in-Ok-None-clause-kinds c = refl
+
+pub returns-in_ok-keep_front-in-Ok-Some-clause-kinds : goal.returns-in_ok-keep_front-in-Ok-Some-clause-kinds
+returns-in_ok-keep_front-in-Ok-Some-clause-kinds c = c.hear.ensures.kinds
