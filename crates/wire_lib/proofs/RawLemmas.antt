@@ -8,7 +8,7 @@ use Rattle.schemas.specs.SchemaLaws.{schema_laws}
 use Rattle.link.specs.Judged.{front_laws}
 use Rattle.wire_lib.specs.declared.receive.Reading.{Reading}
 use Rattle.wire_lib.specs.Received.{read_by}
-use Rattle.wire_lib.specs.Raw.{ReadsNone, HoldsNoValue, ShowsFront, ShowsDamage}
+use Rattle.wire_lib.specs.Raw.{ReadsNone, ShowsFront, ShowsDamage}
 use Rattle.wire_lib.specs.Said.{stretch_line}
 use Rattle.wire_lib.specs.Summed.{summed_laws}
 
@@ -34,10 +34,13 @@ pub damaged : (r : Reading) (message lines lines' what : List ℕ) → ReadsNone
     → lines' ≡ lines ++ stretch_line what 0 (length message)
     → ShowsFront r message lines lines' ⊎ ShowsDamage r message lines lines'
 damaged r message lines lines' what none word said =
-    inr (λ rest v h. absurd (none rest v h), elim word [
-      inl e ↦ inl (said ∙ ap (λ x. lines ++ stretch_line x 0 (length message)) e)
-      | inr e ↦ inr (said ∙ ap (λ x. lines ++ stretch_line x 0 (length message)) e)
-    ])
+    inr (
+      λ rest v h. absurd (none rest v h),
+      elim word [
+        | inl e ↦ inl (said ∙ ap (λ x. lines ++ stretch_line x 0 (length message)) e)
+        | inr e ↦ inr (said ∙ ap (λ x. lines ++ stretch_line x 0 (length message)) e)
+      ],
+    )
 
 -- two lines were appended, one after the other
 pub both_said : (lines first both a b : List ℕ) → first ≡ lines ++ a → both ≡ first ++ b → both ≡ lines ++ (a ++ b)

@@ -1,4 +1,4 @@
-use Rattle.std.proofs.Common.{◌≡◌, ◌≢◌, ◌-◌, ◌<◌, ◌++◌, true, codes, length, inl, subst, rules}
+use Rattle.std.proofs.Common.{◌≡◌, ◌≢◌, ◌-◌, ◌++◌, true, codes, length, inl, subst, rules}
 use Rattle.postcard_tree.specs.Spelling.{short}
 use Rattle.schema_table.specs.Values.{tree_of}
 use Rattle.wire_lib.specs.Said.{stretch_line}
@@ -16,13 +16,13 @@ pub returns-clause-other : goal.returns-clause-other
 returns-clause-other c _ =
     let from : c.saturating_sub-from.result ≡ length c.args.message.now - length c.args.rest.now = search rules in
     inl (record {
-  value = c.args.value.now;
-  rest = c.args.rest.now;
-  read = c.requires;
-  some_left = search rules;
-  exact = λ e. elim c.else-reading.branch [ else-reading-via-then-reading+in_ok-is_written+else-not-branch w ↦ search rules | else-reading-via-else-reading w ↦ search rules ];
-  text = c.in_ok-put_value_line.ensures.line.0;
-  is_text = c.in_ok-put_value_line.ensures.line.1;
-  appended = both_said _ _ _ _ _ c.in_ok-put_value_line.ensures.line.2
-      (subst (λ x. c.put_stretch_line-2.new.lines.items ≡ c.put_value_line.new.lines.items ++ stretch_line (codes "rest") x (length c.args.message.now)) from c.in_ok-put_stretch_line-2.ensures.line);
-})
+      value = c.args.value.now;
+      rest = c.args.rest.now;
+      read = c.requires;
+      some_left = search rules;
+      exact = λ e. elim c.else-reading.branch [ else-reading-via-then-reading+in_ok-is_written+else-not-branch w ↦ search rules | else-reading-via-else-reading w ↦ search rules ];
+      text = c.in_ok-put_value_line.ensures.line.0;
+      is_text = c.in_ok-put_value_line.ensures.line.1;
+      appended = both_said _ _ _ _ _ c.in_ok-put_value_line.ensures.line.2
+          (subst (λ x. c.put_stretch_line-2.new.lines.items ≡ c.put_value_line.new.lines.items ++ stretch_line (codes "rest") x (length c.args.message.now)) from c.in_ok-put_stretch_line-2.ensures.line);
+    })
