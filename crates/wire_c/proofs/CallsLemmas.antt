@@ -1,5 +1,5 @@
 -- The records of a call's contract, from the clauses of `wire_lib`.
-use Rattle.std.proofs.Common.{◌≡◌, ℕ, Bool, true, false, List, [], drop, sym, subst, ap, ◌∙◌}
+use Rattle.std.proofs.Common.{◌≡◌, ℕ, Bool, true, false, List, [], drop, sym, subst, ap, ◌∙◌, if◌then◌else◌}
 use Rattle.schema_table.specs.declared.value.Value.{Value}
 use Rattle.link.specs.Listening.{HasGiven}
 use Rattle.link.specs.declared.receiver.Answer.{Answer}
@@ -50,13 +50,16 @@ none_told r ends passed stream before after e same =
 -- what is read by terms
 pub reads_by : (terms : WireTerms) (r : Reading) (stream lines : List ℕ) (passed : ℕ) (inside ends : Bool)
     → TellsStream r passed ends stream lines → r.sentinel ≡ terms.sentinel → r.strict ≡ is_set terms.strict
-    → r.summed ≡ is_set terms.crc32 → ends ≡ is_set terms.ends → inside ≡ is_set terms.inside
+    → r.summed ≡ is_set terms.crc32 → r.hex ≡ is_set terms.hex
+    → r.depth ≡ (if is_set terms.crc32 then 61 else 60) → ends ≡ is_set terms.ends → inside ≡ is_set terms.inside
     → passed ≡ skipped_in inside terms.sentinel stream → ReadsStream terms stream lines
-reads_by terms r stream lines passed inside ends t a b c e f g = record {
+reads_by terms r stream lines passed inside ends t a b c h d e f g = record {
   reading = r;
   sentinel = a;
   strict = b;
   summed = c;
+  hex = h;
+  depth = d;
   lines_are = subst (λ k. TellsStream r k (is_set terms.ends) stream lines)
       (g ∙ ap (λ i. skipped_in i terms.sentinel stream) f)
       (subst (λ x. TellsStream r passed x stream lines) e t);
@@ -64,24 +67,26 @@ reads_by terms r stream lines passed inside ends t a b c e f g = record {
 
 -- what is written by terms, where all lines are frames
 pub writes_by : (terms : WireTerms) (s : Sending) (text frames wrongs : List ℕ) (good : Bool)
-    → s.sentinel ≡ terms.sentinel → s.summed ≡ is_set terms.crc32 → good ≡ true
+    → s.sentinel ≡ terms.sentinel → s.summed ≡ is_set terms.crc32 → s.depth ≡ 60 → good ≡ true
     → MakesFrames s text frames wrongs good → WritesFrames terms text frames
-writes_by terms s text frames wrongs good a b e m = record {
+writes_by terms s text frames wrongs good a b d e m = record {
   sending = s;
   sentinel = a;
   summed = b;
+  depth = d;
   wrongs = wrongs;
   frames_are = subst (λ g. MakesFrames s text frames wrongs g) e m;
 }
 
 -- what is said of the lines, where one isn't a frame
 pub refuses_by : (terms : WireTerms) (s : Sending) (text frames wrongs : List ℕ) (good : Bool)
-    → s.sentinel ≡ terms.sentinel → s.summed ≡ is_set terms.crc32 → good ≡ false
+    → s.sentinel ≡ terms.sentinel → s.summed ≡ is_set terms.crc32 → s.depth ≡ 60 → good ≡ false
     → MakesFrames s text frames wrongs good → RefusesLines terms text wrongs
-refuses_by terms s text frames wrongs good a b e m = record {
+refuses_by terms s text frames wrongs good a b d e m = record {
   sending = s;
   sentinel = a;
   summed = b;
+  depth = d;
   frames = frames;
   wrongs_are = subst (λ g. MakesFrames s text frames wrongs g) e m;
 }

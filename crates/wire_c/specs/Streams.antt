@@ -71,5 +71,9 @@ pub record ReadsStream (terms : WireTerms) (stream lines : List ℕ) : Type 0 wh
   pub strict : reading.strict ≡ is_set terms.strict
   -- with a checksum or not
   pub summed : reading.summed ≡ is_set terms.crc32
+  -- bytes as hexadecimal digits or not
+  pub hex : reading.hex ≡ is_set terms.hex
+  -- with at most so many nested nodes, and the one of a checksum
+  pub depth : reading.depth ≡ (if is_set terms.crc32 then 61 else 60)
   -- the lines
   pub lines_are : TellsStream reading (skipped_in (is_set terms.inside) terms.sentinel stream) (is_set terms.ends) stream lines

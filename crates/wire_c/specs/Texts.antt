@@ -39,6 +39,8 @@ pub record WritesFrames (terms : WireTerms) (text frames : List ℕ) : Type 0 wh
   pub sentinel : sending.sentinel ≡ terms.sentinel
   -- with a checksum or not
   pub summed : sending.summed ≡ is_set terms.crc32
+  -- with at most so many nested nodes
+  pub depth : sending.depth ≡ 60
   -- no line is refused
   pub wrongs : List ℕ
   pub frames_are : MakesFrames sending text frames wrongs true
@@ -52,6 +54,8 @@ pub record RefusesLines (terms : WireTerms) (text wrongs : List ℕ) : Type 0 wh
   pub sentinel : sending.sentinel ≡ terms.sentinel
   -- with a checksum or not
   pub summed : sending.summed ≡ is_set terms.crc32
+  -- with at most so many nested nodes
+  pub depth : sending.depth ≡ 60
   -- the frames of the other lines, which nobody gets
   pub frames : List ℕ
   pub wrongs_are : MakesFrames sending text frames wrongs false

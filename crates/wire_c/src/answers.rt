@@ -1,5 +1,5 @@
 //! Results by numbers, and a text in front of the caller's room.
-ghost use Rattle.std.specs.Prelude.{◌≡◌, ◌≢◌, ◌<◌, ◌≤◌, length, take};
+ghost use Rattle.std.specs.Prelude.{◌≡◌, ◌≢◌, ◌<◌, ◌≤◌, length, take, false};
 ghost use Rattle.wire_c.specs.Flags.{is_set};
 ghost use Rattle.wire_c.specs.Texts.{IsTextOfRefusal};
 ghost use Rattle.wire_c.specs.Status.{done, no_room, refused};
@@ -42,6 +42,9 @@ pub(crate) fn said(
     ensures unchanged { status ≢ no_room → result.status ≡ no_room → room.new ≡ room.old }
     ensures not_done { status ≢ done → result.status ≢ done }
     ensures unused { result.status ≢ status → result.used ≡ 0 }
+    ensures outside { result.status ≢ status → is_set result.inside ≡ false }
+    ensures range { status ≤ 4 → result.status ≤ 4 }
+    ensures out { is_inside ≡ false → is_set result.inside ≡ false }
     ensures none { used ≡ 0 → result.used ≡ 0 }
     ensures same { length room.new ≡ length room.old }
 {
@@ -67,6 +70,8 @@ pub(crate) fn said(
 // Why a call has no result: the lines that say so, if there are some.
 pub(crate) fn failed(failure: WireFailure, room: &mut [u8]) -> WireSaid
     ensures status { result.status ≢ done }
+    ensures range { result.status ≤ 4 }
+    ensures outside { is_set result.inside ≡ false }
     ensures refused { result.status ≡ refused → IsTextOfRefusal failure (take result.length room.new) }
     ensures longer { result.status ≡ no_room → length room.old < result.length }
     ensures within { result.status ≢ no_room → result.length ≤ length room.new }

@@ -39,7 +39,9 @@ pub extern "C" fn wire_c_read(
     ensures longer { result.status ≡ no_room → length room.old < result.length }
     ensures within { result.status ≢ no_room → result.length ≤ length room.new }
     ensures too_short { result.status ≡ no_room → room.new ≡ room.old }
-    ensures failed { result.status ≢ done → result.used ≡ 0 }
+    ensures failed { result.status ≢ done
+        → (result.used ≡ 0) × (is_set result.inside ≡ false) }
+    ensures range { result.status ≤ 4 }
 {
     let told = Told {
         alloc,
@@ -77,7 +79,8 @@ pub extern "C" fn wire_c_write(
     ensures longer { result.status ≡ no_room → length room.old < result.length }
     ensures within { result.status ≢ no_room → result.length ≤ length room.new }
     ensures too_short { result.status ≡ no_room → room.new ≡ room.old }
-    ensures used { result.used ≡ 0 }
+    ensures used { (result.used ≡ 0) × (is_set result.inside ≡ false) }
+    ensures range { result.status ≤ 4 }
 {
     let told = Told {
         alloc,

@@ -1,5 +1,6 @@
 //! From declarations to the type of the messages.
-ghost use Rattle.std.specs.Prelude.{IfErr};
+ghost use Rattle.std.specs.Prelude.{◌≡◌, IfOk, IfErr, if◌then◌else◌};
+ghost use Rattle.wire_c.specs.Flags.{is_set};
 ghost use Rattle.wire_c.specs.Texts.{IsUnrefused};
 
 use crate::terms::{Told, is_flag};
@@ -69,7 +70,8 @@ fn read_words(told: Told<'_>) -> Result<(Schema, usize), WireFailure>
 
 /// The type that is written. Lists of elements that take no bytes are bounded, as `wire` bounds them without a word.
 pub(crate) fn written_type(told: Told<'_>) -> Result<TypeAt, WireFailure>
-    ensures { IfErr result IsUnrefused }
+    ensures depth { IfOk result (λ it. it.depth ≡ 60) }
+    ensures unrefused { IfErr result IsUnrefused }
 {
     let (mut schema, place) = match read_words(told) {
         Ok(it) => it,
@@ -87,7 +89,9 @@ pub(crate) fn written_type(told: Told<'_>) -> Result<TypeAt, WireFailure>
 
 /// The type that is read: with its checksum, if there is one.
 pub(crate) fn read_type_of(told: Told<'_>) -> Result<TypeAt, WireFailure>
-    ensures { IfErr result IsUnrefused }
+    ensures depth { IfOk result
+        (λ it. it.depth ≡ (if is_set told.entry.terms.crc32 then 61 else 60)) }
+    ensures unrefused { IfErr result IsUnrefused }
 {
     let TypeAt {
         mut schema,

@@ -6,7 +6,7 @@ pub returns : goal.returns
 returns c =
     let p = c.in_ok-push.ensures.made [] [] c.new-sender.ensures.made in
     let new = c.push.new.self in
-    let f = c.in_ok-is_good.ensures c.args.lines.now p.0 p.1 in
+    let f = c.in_ok-is_good.ensures.made c.args.lines.now p.0 p.1 in
     let e = c.in_ok-push.ensures.sending ∙ c.new-sender.ensures.sending in
     let frames = c.push.new.frames.items in
     let wrongs = string_bytes c.push.new.wrongs in record {
