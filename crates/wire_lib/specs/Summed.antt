@@ -1,8 +1,13 @@
 -- Messages with a checksum after the value.
-use Rattle.std.specs.Prelude.{◌≡◌, ℕ, ◌-◌, Bool, true, false, List, ◌++◌, length, take, drop}
+use Rattle.std.specs.Prelude.{◌≡◌, ℕ, ◌+◌, ◌-◌, Bool, true, false, List, [], ◌∷◌, ◌++◌, length, take, drop, Vec}
+use Rattle.std.specs.Global.{Global}
 use Rattle.postcard_tree.specs.Tree.{Tree}
 use Rattle.postcard_tree.specs.Spelling.{short}
 use Rattle.postcard_tree.specs.Fixed.{little_endian}
+use Rattle.schema_table.specs.declared.integer.IntegerType.TheVariants as types
+use Rattle.schema_table.specs.declared.node.Node.TheVariants as node
+use Rattle.schema_table.specs.declared.schema.Names.TheVariants as names
+use Rattle.schema_table.specs.declared.schema.Schema.{Schema}
 use Rattle.link.specs.Judged.{FrontLaws}
 use Rattle.sealed.specs.Checksum.{sum_of_bytes}
 
@@ -40,3 +45,17 @@ summed_laws summed laws = record {
 abbrev pub message_with : Bool → List ℕ → List ℕ
 message_with false bytes = bytes
 message_with true bytes = with_sum bytes
+
+-- The type of messages of another type, each followed by its checksum, was added to a table at this index.
+pub record AddsSummed (old new : Schema) (place whole : ℕ) : Type 0 where
+  -- the types of its parts: the other one, and four bytes
+  pub parts : Vec ℕ Global
+  pub parts_are : parts.items ≡ place ∷ length old.nodes.items ∷ []
+  -- two types were added
+  pub nodes : new.nodes.items ≡ old.nodes.items ++ node.LE types.U32 ∷ node.Struct parts ∷ []
+  -- the second one is shown as the other
+  pub named : new.names.items ≡ old.names.items ++ names.Nothing ∷ names.Newtype ∷ []
+  -- the declared types are unchanged
+  pub same : new.types ≡ old.types
+  -- the index is that of the second one
+  pub there : whole ≡ length old.nodes.items + 1

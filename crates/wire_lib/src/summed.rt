@@ -2,7 +2,7 @@
 ghost use Rattle.std.specs.Prelude.{◌≡◌, ◌⊎◌, OnOk, Decides, IfOk, IfErr};
 ghost use Rattle.postcard_tree.specs.declared.error.Error.TheVariants.{OutOfMemory, DeserializeBadCrc};
 ghost use Rattle.schema_table.specs.Values.{tree_of};
-ghost use Rattle.wire_lib.specs.Summed.{EndsInSum, IsSummed, with_sum};
+ghost use Rattle.wire_lib.specs.Summed.{AddsSummed, EndsInSum, IsSummed, with_sum};
 
 use postcard::fixint::LE;
 use postcard::{Error, to_allocvec};
@@ -58,7 +58,9 @@ pub(crate) fn put_sum(message: &mut Vec<u8>) -> Result<(), AllocError>
 ///
 /// # Allocates
 /// What the table grows by: two types.
-pub fn add_summed(alloc: Global, schema: &mut Schema, place: usize) -> Result<usize, AllocError> {
+pub fn add_summed(alloc: Global, schema: &mut Schema, place: usize) -> Result<usize, AllocError>
+    ensures { IfOk result (AddsSummed schema.old schema.new place) }
+{
     let mut parts = Vec::new(alloc);
     parts.push(place)?;
     parts.push(schema.nodes.len())?;
