@@ -102,8 +102,8 @@ impl Marking {
             let first = tokens.first(words);
             match first.word {
                 Word::Mark => marking.add_comment(tokens, first),
-                // more conditions may make a `cfg`
-                Word::Condition | Word::Conditional => marking.is_conditional = true,
+                // more conditions may make a `cfg`, and `r#cfg` is one
+                Word::Condition | Word::Conditional | Word::Raw => marking.is_conditional = true,
                 Word::Derive => marking.add_derived(tokens, tokens.held(words), condition),
                 _ => {}
             }

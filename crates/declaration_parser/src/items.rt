@@ -86,7 +86,8 @@ pub struct Walk<'a> {
 }
 
 impl Item {
-    /// Whether an attribute of this name is before it, under a condition or none. One that more conditions make may be any.
+    /// Whether an attribute of this name is before it, under a condition or none. One that more conditions make, or that is written `r#name`,
+    /// may be any.
     pub fn has(&self, tokens: &Tokens, name: Word) -> bool {
         let mut walk = AttributeWalk::of(self.attributes);
         for _ in 0..=self.attributes.len() {
@@ -94,7 +95,7 @@ impl Item {
                 break;
             };
             let word = tokens.front(words);
-            if word == name || matches!(word, Word::Conditional) {
+            if word == name || matches!(word, Word::Conditional | Word::Raw) {
                 return true;
             }
         }

@@ -83,7 +83,9 @@ impl Parser<'_, '_> {
                 Word::Condition | Word::Conditional if !is_item => {
                     self.at.refuse(first.name, ON_SOME_DEVICES);
                 }
-                _ if is_harmless(tokens, words, attributes, is_item) => {}
+                // `r#cfg` is a condition too
+                _ if first.word != Word::Raw
+                    && is_harmless(tokens, words, attributes, is_item) => {}
                 _ => self.at.refuse(first.name, UNKNOWN),
             }
         }
