@@ -9,7 +9,7 @@ use crate::items::behind_public;
 use crate::texts::is_listed;
 use crate::tokens::{NO_NAME, Name, Tokens, Word, Words};
 use crate::words::{
-    MOST_FIELDS, NO_MARK, OF_IMPLEMENTATIONS, ONLY_FIELD, OTHER_DERIVE, TWICE, USED,
+    MOST_FIELDS, NO_MARK, OF_IMPLEMENTATIONS, ONLY_FIELD, OPEN, OTHER_DERIVE, TWICE, USED,
 };
 use by_hand::Implemented;
 use std::alloc::Global;
@@ -116,10 +116,18 @@ impl<'a, 'b> Parser<'a, 'b> {
         }
     }
 
-    /// Takes a discriminant or a field's default, which isn't sent.
+    /// Takes a discriminant or a field's default, which isn't sent. A `<` in it that begins no shift may hide where it ends.
     fn pass_value(&mut self) {
-        if self.at.take(Word::Equals) {
-            self.at.rest = self.at.tokens.up_to(self.at.rest, &[Word::Comma]);
+        if !self.at.take(Word::Equals) {
+            return;
+        }
+        let (tokens, value) = (self.at.tokens, self.at.rest);
+        let rest = tokens.up_to(value, &[Word::Comma]);
+        let less = tokens.up_to(value.before(rest), &[Word::Less]);
+        let is_shift = less.from != value.from && tokens.nth(less, 1).word == Word::Less;
+        self.at.rest = rest;
+        if !less.is_empty() && !is_shift && tokens.type_up_to(value, &[Word::Comma]) != rest {
+            self.refuse_word("<", OPEN);
         }
     }
 

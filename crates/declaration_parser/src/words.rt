@@ -52,6 +52,8 @@ pub const UNKNOWN: &str =
 pub const OTHER_DERIVE: &str =
     "` may send something else than the fields, as a number or a text: where the type is a field, write what is on the wire";
 
+pub const OPEN: &str = "` begins what a comma is in, which isn't followed here: write the number";
+
 pub const TWICE: &str =
     "` is declared twice here: give one of them another name, since names aren't sent";
 
