@@ -25,14 +25,16 @@ impl AttributeWalk {
         if !self.parts.is_empty() {
             let (words, rest) = tokens.first_part(self.parts);
             self.parts = rest;
-            return Some((words, self.condition));
+            return Some((tokens.behind_attributes(words), self.condition));
         }
         if self.rest.is_empty() {
             return None;
         }
         let behind = self.rest.behind_first();
-        let comment = (self.rest.before(behind), behind);
-        let (mut words, rest) = tokens.attribute(self.rest).unwrap_or(comment);
+        let (mut words, rest) = match tokens.attribute(self.rest) {
+            Some((inside, rest)) => (tokens.behind_attributes(inside), rest),
+            None => (self.rest.before(behind), behind),
+        };
         self.rest = rest;
         if matches!(tokens.front(words), Word::Conditional) {
             (self.condition, self.parts) = tokens.first_part(tokens.held(words));
@@ -50,6 +52,19 @@ impl Tokens {
             (Word::Hash, Word::Bracket) => self.group(brackets),
             _ => None,
         }
+    }
+
+    /// What follows the attributes and marks at the start. A comment may be such an attribute wherever it stands.
+    pub fn behind_attributes(&self, words: Words) -> Words {
+        let mut rest = words;
+        for _ in 0..words.len() {
+            rest = match (self.attribute(rest), self.front(rest)) {
+                (Some((_, behind)), _) => behind,
+                (None, Word::Mark) => rest.behind_first(),
+                _ => break,
+            };
+        }
+        rest
     }
 
     /// What a call of a macro, or an attribute of all that a file has, holds at the start, and what follows it. The words before

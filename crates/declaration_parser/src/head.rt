@@ -48,8 +48,9 @@ impl Marking {
     fn add_derived(&mut self, tokens: &Tokens, paths: Words, condition: Words) {
         let mut rest = paths;
         for _ in 0..paths.len() {
-            let (path, behind) = tokens.first_part(rest);
+            let (part, behind) = tokens.first_part(rest);
             rest = behind;
+            let path = tokens.behind_attributes(part);
             let name = derive_of(tokens, path).unwrap_or_default();
             let text = tokens.text(name.name);
             let is_written = text.starts_with("Serialize");

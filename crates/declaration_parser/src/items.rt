@@ -103,19 +103,6 @@ impl Item {
     }
 }
 
-/// What follows the attributes and marks at the start.
-fn behind_attributes(tokens: &Tokens, words: Words) -> Words {
-    let mut rest = words;
-    for _ in 0..words.len() {
-        rest = match (tokens.attribute(rest), tokens.front(rest)) {
-            (Some((_, behind)), _) => behind,
-            (None, Word::Mark) => rest.behind_first(),
-            _ => break,
-        };
-    }
-    rest
-}
-
 impl<'a> Walk<'a> {
     /// The items and scopes of files. The first scopes are those of the files, and have no names.
     pub fn of(alloc: Global, tokens: &'a Tokens) -> Walk<'a> {
@@ -172,7 +159,7 @@ impl<'a> Walk<'a> {
     /// Adds the item at the start, and gives the tokens to go on with: in its words, if there may be attributes in them.
     fn read_front(&mut self, tokens: Words) -> Words {
         self.leave(tokens.from);
-        let words = behind_attributes(self.tokens, tokens);
+        let words = self.tokens.behind_attributes(tokens);
         let attributes = tokens.before(words);
         let mut item = Item {
             place: self.items.len(),

@@ -16,6 +16,7 @@ impl<'a> Scopes<'a> {
         let mut kept = Vec::new(self.alloc);
         let mut rest = words;
         for _ in 0..words.len() {
+            rest = tokens.behind_attributes(rest);
             let token = tokens.first(rest);
             rest = rest.behind_first();
             match token.word {
