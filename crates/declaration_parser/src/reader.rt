@@ -36,6 +36,11 @@ fn behind_shebang(text: &str) -> &str {
     }
 }
 
+/// Whether Rust takes a character as a blank: also marks of the direction of writing.
+fn is_blank(character: char) -> bool {
+    character.is_whitespace() || matches!(character, '\u{200e}' | '\u{200f}')
+}
+
 fn first_line(text: &str) -> &str {
     text.lines().next().unwrap_or("")
 }
@@ -172,7 +177,7 @@ impl<'a> Reader<'a> {
     fn read_next(&mut self) {
         let text = self.rest;
         match first_letter(text) {
-            Some(first) if first.is_whitespace() => _ = self.take_to(behind_one(text)),
+            Some(first) if is_blank(first) => _ = self.take_to(behind_one(text)),
             Some('"') => self.read_text(text, None),
             Some('\'') => self.read_token(behind_quoted(text)),
             Some(first) if is_of_word(first) => self.read_word(),
