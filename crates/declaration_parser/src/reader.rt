@@ -28,12 +28,13 @@ struct Reader<'a> {
     faults: Faults,
 }
 
-/// A text without a first line that says what runs it. An attribute of the file isn't one.
+/// A text without a first line that says what runs it. An attribute of the file isn't one, before which there may be comments.
 fn behind_shebang(text: &str) -> &str {
-    match text.strip_prefix("#!") {
-        Some(rest) if !rest.trim_start().starts_with('[') => behind(text, first_line(text).len()),
-        _ => text,
+    let rest = text.strip_prefix("#!").unwrap_or("[").trim_start();
+    if rest.starts_with('[') || rest.starts_with("//") || rest.starts_with("/*") {
+        return text;
     }
+    behind(text, first_line(text).len())
 }
 
 /// Whether Rust takes a character as a blank: also marks of the direction of writing.
