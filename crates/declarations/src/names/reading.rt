@@ -218,10 +218,10 @@ impl<'a> Scopes<'a> {
         let tokens = self.tokens;
         let name = tokens.first(item.words).name;
         let text = tokens.text(name);
-        // which declare no type and no length
-        if text.starts_with("assert_")
-            || text.starts_with("const_assert")
-            || is_listed(text, "compile_error global_asm thread_local")
+        // which declare no type and no length, unless they are these files' own
+        let is_check = text.starts_with("assert_") || text.starts_with("const_assert");
+        if (is_check || is_listed(text, "compile_error global_asm thread_local"))
+            && !self.has_rules(name)
         {
             return;
         }
