@@ -298,9 +298,9 @@ impl<'a> Walk<'a> {
                 self.add_elsewhere(item.attributes, name);
                 self.add_scope(Kind::Misnamed, name, 0)
             }
-            (Some((_, after)), _) => {
+            (Some((inside, after)), _) => {
                 self.scope = self.add_scope(Kind::Module, name, after.from);
-                if is_misnamed && !is_moved {
+                if (is_misnamed || is_moved_within(self.tokens, inside)) && !is_moved {
                     self.moved = after.from;
                 }
                 return rest.behind_first();
@@ -308,6 +308,19 @@ impl<'a> Walk<'a> {
         };
         rest
     }
+}
+
+/// Whether what a module begins with moves its files, as `#![path = ".."]` does.
+fn is_moved_within(tokens: &Tokens, words: Words) -> bool {
+    let mut rest = words;
+    for _ in 0..words.len() {
+        match tokens.passed_over(rest) {
+            Some((inside, _)) if tokens.has_word(inside, Word::Path) => return true,
+            Some((_, behind)) => rest = behind,
+            None => break,
+        }
+    }
+    false
 }
 
 /// What follows `pub`, with what it is limited to. A type in parentheses may follow it too, as in `pub (crate::Id)`.
