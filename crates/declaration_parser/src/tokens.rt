@@ -395,6 +395,17 @@ impl Tokens {
         false
     }
 
+    /// Whether a name follows one of these words anywhere.
+    pub fn follows(&self, name: Name, words: &[Word]) -> bool {
+        for place in 0..self.all.len() {
+            let (first, next) = (self.at(place), self.at(place.saturating_add(1)));
+            if next.name == name && words.contains(&first.word) {
+                return true;
+            }
+        }
+        false
+    }
+
     /// Whether a word is among words.
     pub fn has_word(&self, words: Words, word: Word) -> bool {
         for place in words.from..words.to {

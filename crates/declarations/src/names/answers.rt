@@ -9,6 +9,7 @@ use super::{Item, Kind, NO_NAME, Name, Path, Scopes, What};
 use crate::known::{is_known, is_primitive};
 use declaration_parser::faults::Faults;
 use declaration_parser::texts::is_among;
+use declaration_parser::tokens::Word;
 
 const UNMARKED: &str =
     "` isn't declared and marked here: write `// message` before its declaration, if its fields are what is sent";
@@ -208,7 +209,7 @@ impl<'a> Scopes<'a> {
         }
     }
 
-    /// Whether the first name of a path leads to one of these crates, or out of the files, and no `use` says otherwise.
+    /// Whether the first name of a path leads to one of these crates, or out of the files, and no `use` or trait says otherwise.
     pub fn is_foreign(&self, scope: usize, root: Name, crates: &[&str]) -> bool {
         let file = self.file_of(scope);
         for it in &self.imports {
@@ -220,5 +221,6 @@ impl<'a> Scopes<'a> {
         }
         let meaning = self.seen(scope, root, Space::Roots);
         matches!(meaning, Meaning::Known(_) | Meaning::Outside)
+            && !self.tokens.follows(root, &[Word::Implementation])
     }
 }
