@@ -105,7 +105,8 @@ impl Implemented {
             return Words::default();
         }
         let path = of.behind_first();
-        path.before(tokens.up_to(path, &[Word::Less, Word::Where]))
+        // a `<` at the start begins a path, as in `<Lamp as Kept>::State`
+        path.before(tokens.up_to(path.behind_first(), &[Word::Less, Word::Where]))
     }
 
     /// Whether a type of this name was found.
