@@ -20,6 +20,9 @@ pub(super) struct Said {
     pub(super) layout: Layout,
 }
 
+/// What precedes the name of a type of these files.
+const OWN: &[Word] = &[Word::Struct, Word::Enum, Word::Alias, Word::As];
+
 /// The ways of arrays.
 const ARRAYS: &str = "BigArray serde_big_array::BigArray serde_arrays";
 
@@ -35,12 +38,14 @@ fn layout_of(way: &str) -> Option<Layout> {
     }
 }
 
-/// How many of these fields a transparent type sends, as serde sees it: by the names of their types.
+/// How many of these fields a transparent type sends, as serde sees it: by the names of their types. One of these files called
+/// `PhantomData` counts too, since serde leaves it out.
 fn sent_of(tokens: &Tokens, fields: &[Field]) -> usize {
     let mut count: usize = 0;
     for field in fields {
         let path = field.of.before(tokens.up_to(field.of, &[Word::Less]));
-        if tokens.text(tokens.last(path).name) != "PhantomData" {
+        let name = tokens.last(path).name;
+        if tokens.text(name) != "PhantomData" || tokens.follows(name, OWN) {
             count = count.saturating_add(1);
         }
     }
