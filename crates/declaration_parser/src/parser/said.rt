@@ -89,8 +89,8 @@ impl Parser<'_, '_> {
                     self.at.refuse(first.name, ON_SOME_DEVICES);
                 }
                 // `r#cfg` is a condition too
-                _ if first.word != Word::Raw
-                    && is_harmless(tokens, words, attributes, is_item) => {}
+                _ if first.word != Word::Raw && is_harmless(tokens, words, attributes, is_item) =>
+                    {}
                 _ => self.at.refuse(first.name, UNKNOWN),
             }
         }
