@@ -120,8 +120,8 @@ pub fn check<T: DeserializeOwned + Exact, S: Store, W: Watcher<T>>(
     ensures quiet { OnOk result ((S.line store.new).faults ≡ (S.line store.old).faults) }
     ensures cause { IfErr result (λ e. CheckCause (Failed (S.line store.old) (S.line store.new))
         (HaltsBehind W.told W.halts watcher.old) e) }
-    ensures so_far { IfErr result (λ e. StopsAfter W.told W.halts W.counted T.form.takes T.form.reads
-        T.form.growing limit (S.line store.old).told watcher.old watcher.new e) }
+    ensures so_far { IfErr result (λ e. StopsAfter W.told W.halts W.counted T.form.takes
+        T.form.reads T.form.growing limit (S.line store.old).told watcher.old watcher.new e) }
     ensures calm { IfErr result
         (λ e. UnlessFault e ((S.line store.new).faults ≡ (S.line store.old).faults)) }
     ensures more { (S.line store.old).faults ≤ (S.line store.new).faults }
