@@ -183,7 +183,7 @@ module _ {V A : Type 0} (holds : List ℕ → Tree → Type 0) (reads : Tree →
   ends_by (Some ReadFault) false k n m f e = cc
   ends_by (Some NoMemory) false k n m f e = inr (m, subst (λ y. EndsAtLoss holds reads limit s y stream) (all_kept old list answers o k) (f refl))
 
-module _ {D H V : Type 0} (inside : D → Filled) (judging : Judging V) (hears : H → List (Answer V) → H → Type 0) (enough : H → Bool) (settled : H → Type 0) (room : ℕ) (r : Reception D) (h k : H) (answers : List (Answer V)) (bytes : List ℕ) (limit s : ℕ) (stream : List ℕ) (had : List (Answer V)) (heard : Hears inside judging.holds judging.reads limit s r had stream) where
+module _ {D H V : Type 0} (inside : D → Filled) (judging : Judging V) (hears : H → List (Answer V) → H → Type 0) (enough : H → Bool) (settled : H → Type 0) (room : ℕ) (line now : LineState) (end : Option End) (r : Reception D) (h k : H) (answers : List (Answer V)) (bytes : List ℕ) (limit s : ℕ) (stream : List ℕ) (had : List (Answer V)) (heard : Hears inside judging.holds judging.reads limit s r had stream) where
   -- nothing was read
   early_none : (xs : List (Answer V)) → bytes ≡ [] → HasAllButLast judging.holds judging.reads limit s room (had ++ xs) (stream ++ bytes)
   early_none xs e = record {
@@ -197,7 +197,7 @@ module _ {D H V : Type 0} (inside : D → Filled) (judging : Judging V) (hears :
     said = refl;
   }
 
-  early_as : (w : WasAsked inside judging hears enough settled room r h k answers bytes)
+  early_as : (w : WasAsked inside judging hears enough settled room line now end r h k answers bytes)
       (xs later : List (Answer V)) → xs ≡ w.early ++ later
       → HasAllButLast judging.holds judging.reads limit s room (had ++ xs) (stream ++ bytes)
   early_as w xs later e = record {
@@ -206,21 +206,21 @@ module _ {D H V : Type 0} (inside : D → Filled) (judging : Judging V) (hears :
     early = had ++ w.early;
     later = later;
     parts = ap (λ y. stream ++ y) w.parts ∙ sym (append_assoc stream w.before w.last);
-    short = w.short;
+    short = w.read.short;
     given = w.given limit s stream had heard;
     said = ap (λ y. had ++ y) e ∙ sym (append_assoc had w.early later);
   }
 
   -- the answers to what was read before the last read are the first of all
-  pub early_of : IsAsked inside judging hears enough settled room r h k answers bytes
+  pub early_of : IsAsked inside judging hears enough settled room line now end r h k answers bytes
       → HasAllButLast judging.holds judging.reads limit s room (had ++ answers) (stream ++ bytes)
-  early_of (inl e) = early_none answers e
+  early_of (inl e) = early_none answers e.2
   early_of (inr w) = early_as w answers w.later w.said
 
   -- and a list that keeps what it hears, until an answer finds no memory, has them
   module _ {A : Type 0} (list : H → Vec (Answer V) A) (full : H → Bool) (keeps : (x y : H) (a : List (Answer V)) → hears x a y → KeepsFirst (list x) (list y) (full x) (full y) a) (same : (x : H) → enough x ≡ full x) where
-    pub early_kept : (list h).items ≡ [] → IsAsked inside judging hears enough settled room r h k answers bytes → HasAllButLast judging.holds judging.reads limit s room (had ++ (list k).items) (stream ++ bytes)
-    early_kept e (inl f) = early_none (list k).items f
+    pub early_kept : (list h).items ≡ [] → IsAsked inside judging hears enough settled room line now end r h k answers bytes → HasAllButLast judging.holds judging.reads limit s room (had ++ (list k).items) (stream ++ bytes)
+    early_kept e (inl f) = early_none (list k).items f.2
     early_kept e (inr w) =
         let p = keeps h w.asked w.early w.heard in
         let q = keeps w.asked k w.later w.hears_on in

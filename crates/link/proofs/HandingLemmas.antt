@@ -1,6 +1,6 @@
 -- How answers are handed on and kept, push by push, also behind a value that had no memory.
-use Rattle.std.proofs.Common.{◌≡◌, ◌-◌, ◌<◌, ◌≤◌, ◌+◌, Bool, false, ℕ, arith, List, [], ◌∷◌, ◌++◌, length, take, Option, Some, None, Result, Ok, Err, refl, sym, ap, ◌∙◌, subst, inl, inr, append_assoc, append-nil, length-append, length-take-le, true, drop, is_err, IsErr, OnOk, OnErr, take-append-drop, nat_lt, if◌then◌else◌}
-use Rattle.line_io.specs.Device.{LineState, Gave}
+use Rattle.std.proofs.Common.{◌≡◌, ◌-◌, ◌<◌, ◌≤◌, ◌+◌, Bool, false, ℕ, zero, suc, arith, List, [], ◌∷◌, ◌++◌, length, take, Option, Some, None, Result, Ok, Err, refl, sym, ap, ◌∙◌, subst, inl, inr, append_assoc, append-nil, length-append, length-take-le, true, drop, is_err, IsErr, OnOk, OnErr, take-append-drop, nat_lt, if◌then◌else◌}
+use Rattle.line_io.specs.Device.{LineState, Gave, read_faults}
 use Rattle.line_io.specs.Calls.{Gave-then, Failed-later}
 use Rattle.postcard_tree.specs.Tree.{Tree}
 use Rattle.link.specs.Filled.{Filled}
@@ -10,7 +10,7 @@ use Rattle.link.specs.Listening.{KeepsAnswer, Hears, IsHeard, Loss, through, ans
 use Rattle.line_io.specs.declared.transfers.End.{End}
 use Rattle.line_io.specs.declared.transfers.End.TheVariants.{Ended, ReadFault, NoMemory as NoneLeft}
 use Rattle.link.specs.declared.reception.Reception.{Reception}
-use Rattle.link.specs.Each.{Handed, HearerLaws, UsesFew, last_call, Adds, AddsBy, IsHeardNow, WasAsked, IsAsked}
+use Rattle.link.specs.Each.{Handed, HearerLaws, UsesFew, last_call, Adds, AddsBy, IsHeardNow, LastRead, WasAsked, IsAsked}
 use Rattle.link.specs.declared.receiver.Answer.{Answer}
 use Rattle.link.specs.declared.receiver.NoMemory.{NoMemory}
 use Rattle.link.specs.Lemmas.Givens.{none_begun, none_given}
@@ -33,14 +33,14 @@ module _ {H V : Type 0} (hears : H → List (Answer V) → H → Type 0) (laws :
   pub handed_as : (h k : H) (P Q : List (Answer V) → Type 0) → Handed hears h k P → ((xs : List (Answer V)) → P xs → Q xs) → Handed hears h k Q
   handed_as h k P Q p f = record { answers = p.answers; heard = p.heard; so = f p.answers p.so }
 
-module _ {D H V : Type 0} (inside : D → Filled) (judging : Judging V) (hears : H → List (Answer V) → H → Type 0) (enough : H → Bool) (settled : H → Type 0) (room : ℕ) (r : Reception D) (h k : H) where
+module _ {D H V : Type 0} (inside : D → Filled) (judging : Judging V) (hears : H → List (Answer V) → H → Type 0) (enough : H → Bool) (settled : H → Type 0) (room : ℕ) (line now : LineState) (r : Reception D) (h k : H) where
   -- it was asked before a read
-  pub was_asked : (m : Reception D) (l : H) (a b : List ℕ) (more : List (Answer V)) (p : Adds inside judging hears a r m h k) → hears k more l → enough k ≡ false → (settled h → settled k) → length b ≤ room → WasAsked inside judging hears enough settled room r h l (p.answers ++ more) (a ++ b)
-  was_asked m l a b more p q n still short = record {
+  pub was_asked : (end : Option End) (m : Reception D) (l : H) (a b : List ℕ) (more : List (Answer V)) (p : Adds inside judging hears a r m h k) → hears k more l → enough k ≡ false → (settled h → settled k) → LastRead room line now end a b → WasAsked inside judging hears enough settled room line now end r h l (p.answers ++ more) (a ++ b)
+  was_asked end m l a b more p q n still read = record {
     before = a;
     last = b;
     parts = refl;
-    short = short;
+    read = read;
     early = p.answers;
     later = more;
     said = refl;
@@ -53,13 +53,13 @@ module _ {D H V : Type 0} (inside : D → Filled) (judging : Judging V) (hears :
   }
 
   -- and the end added answers
-  pub still_asked : (laws : HearerLaws hears) (l : H) (a : List (Answer V)) (bytes : List ℕ) (more : List (Answer V)) → IsAsked inside judging hears enough settled room r h k a bytes → hears k more l → IsAsked inside judging hears enough settled room r h l (a ++ more) bytes
-  still_asked laws l a bytes more (inl e) q = inl e
-  still_asked laws l a bytes more (inr w) q = inr (record {
+  pub still_asked : (laws : HearerLaws hears) (end : End) (l : H) (a : List (Answer V)) (bytes : List ℕ) (more : List (Answer V)) → IsAsked inside judging hears enough settled room line now (Some end) r h k a bytes → hears k more l → IsAsked inside judging hears enough settled room line now (Some end) r h l (a ++ more) bytes
+  still_asked laws end l a bytes more (inl e) q = let no = e.0 in cc
+  still_asked laws end l a bytes more (inr w) q = inr (record {
     before = w.before;
     last = w.last;
     parts = w.parts;
-    short = w.short;
+    read = w.read;
     early = w.early;
     later = w.later ++ more;
     said = ap (λ x. x ++ more) w.said ∙ append_assoc w.early w.later more;
@@ -128,9 +128,19 @@ uses_then u v w last p q = record {
 pub taken_some : (n : ℕ) (room : List ℕ) → (n ≡ 0 → ⊥) → n ≤ length room → 0 < length (take n room)
 taken_some n room some bound = omega (arith, length-take-le n room bound, some)
 
+-- a buffer that was read into: the bytes at its front, and behind them what it held
+pub read_front : (n : ℕ) (new old : List ℕ) → n ≤ length new → drop n new ≡ drop n old → new ≡ take n new ++ drop (length (take n new)) old
+read_front n new old l past = sym (take-append-drop n new) ∙ ap (λ x. take n new ++ x) (past ∙ ap (λ k. drop k old) (sym (length-take-le n new l)))
+
 -- a read that took bytes
 pub uses_read : (u w : LineState) (bytes : List ℕ) → Gave u w bytes → w.calls_left ≡ u.calls_left - 1 → 0 < length bytes → UsesFew u w 0
 uses_read u w bytes g z l = record { bytes = bytes; gave = g; few = omega (arith, z, l) }
+
+-- one read is one fault at most
+pub one_read : (calls : ℕ) (answer : Option ℕ) → read_faults calls answer ≤ 1
+one_read zero answer = omega arith
+one_read (suc calls) None = omega arith
+one_read (suc calls) (Some n) = omega arith
 
 -- the last read
 pub uses_last : (u w : LineState) (bytes : List ℕ) → Gave u w bytes → w.calls_left ≡ u.calls_left - 1 → UsesFew u w 1

@@ -1,12 +1,12 @@
 -- What bytes and runs do to a receiver, and what it says of where it stands.
-use Rattle.std.proofs.Common.{◌≡◌, ℕ, zero, ◌<◌, ◌≤◌, Bool, true, false, List, [], ◌∷◌, length, take, min, Some, None, refl, sym, ap, subst, arith, eq-eqb, ne_eqb, IsTrue, nat_eq, eqb-true, suc, ◌+◌, ◌++◌, drop, get_or, ◌∙◌, length-append, length-drop, take-append-drop}
+use Rattle.std.proofs.Common.{◌≡◌, ℕ, zero, ◌<◌, ◌≤◌, Bool, true, false, List, [], ◌∷◌, length, take, Some, None, refl, sym, ap, subst, arith, eq-eqb, IsTrue, nat_eq, eqb-true, suc, ◌+◌, ◌++◌, drop, get_or, ◌∙◌, length-append, take-append-drop}
 use Rattle.std.proofs.lemmas.List.{length-take-le}
 use Rattle.cobs.specs.Frames.{NoZero}
 use Rattle.cobs.specs.InPlace.{stretch, written_over}
 use Rattle.cobs.specs.Sentinel.{masked}
 use Rattle.link.specs.Link.{Begun, kept, over, begun_length, finished}
 use Rattle.link.specs.Receivers.{Has, IsAtBy}
-use Rattle.link.specs.Lemmas.MaskLaws.{masked_length, nonzero as unlike, NoZero-append}
+use Rattle.link.specs.Lemmas.MaskLaws.{masked_length, NoZero-append}
 use Rattle.link.specs.declared.receiver.Answer.TheVariants.{Cut}
 use Rattle.link.specs.Steps.{event_at, ended, RunsOn}
 use Rattle.link.specs.Finds.{IsSpan}

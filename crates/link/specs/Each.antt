@@ -1,5 +1,5 @@
 -- What is handed on while a stream is read.
-use Rattle.std.specs.Prelude.{◌≡◌, ℕ, ◌+◌, ◌≤◌, ◌⊎◌, List, [], ◌++◌, length, Bool, true, false, Option, Some, None, Result, IsErr}
+use Rattle.std.specs.Prelude.{◌≡◌, ℕ, ◌+◌, ◌-◌, ◌≤◌, ◌⊎◌, List, [], ◌++◌, length, Bool, true, false, Option, Some, None, Result, IsErr}
 use Rattle.line_io.specs.Device.{LineState, Gave}
 use Rattle.postcard_tree.specs.Tree.{Tree}
 use Rattle.link.specs.Filled.{Filled}
@@ -69,6 +69,30 @@ abbrev pub last_call : Option End → ℕ
 last_call None = 0
 last_call (Some end) = 1
 
+-- at the reader's end, and at a fault, a read brings no bytes
+abbrev pub BringsNone : Option End → List ℕ → Type 0
+BringsNone None bytes = Unit {0}
+BringsNone (Some Ended) bytes = bytes ≡ []
+BringsNone (Some ReadFault) bytes = bytes ≡ []
+BringsNone (Some NoMemory) bytes = Unit {0}
+
+-- The last read of some bytes: one call of the reader, which brought these, no more than the buffer holds.
+pub record LastRead (room : ℕ) (line later : LineState) (end : Option End) (before last : List ℕ) : Type 0 where
+  -- where the reader was before that call
+  pub then : LineState
+  -- the reads before it brought the bytes before
+  pub gave : Gave line then before
+  -- none of them was a fault
+  pub quiet : then.faults ≡ line.faults
+  -- it brought the last bytes
+  pub brought : Gave then later last
+  -- it is one call
+  pub once : later.calls_left ≡ then.calls_left - 1
+  -- it brought no more than the buffer holds
+  pub short : length last ≤ room
+  -- and nothing at the reader's end, or at a fault
+  pub none : BringsNone end last
+
 -- The reader gave bytes, and no more calls of it were used than these are, and the last one. (Of one that tells nothing these are any
 -- bytes: there it says nothing.)
 pub record UsesFew (old new : LineState) (last : ℕ) : Type 0 where
@@ -135,16 +159,16 @@ module _ {D H V : Type 0} (inside : D → Filled) (judging : Judging V)
 
   -- A hearer was asked before the last read, of at most so many bytes: it hadn't had enough, and what it had been handed are the
   -- answers that the bytes before that read add.
-  pub record WasAsked (enough : H → Bool) (settled : H → Type 0) (room : ℕ) (r : Reception D)
-      (h k : H) (answers : List (Answer V)) (bytes : List ℕ) : Type 0 where
+  pub record WasAsked (enough : H → Bool) (settled : H → Type 0) (room : ℕ) (line now : LineState) (end : Option End)
+      (r : Reception D) (h k : H) (answers : List (Answer V)) (bytes : List ℕ) : Type 0 where
     -- the bytes of all reads but the last
     pub before : List ℕ
     -- the bytes of the last read
     pub last : List ℕ
     -- these are all bytes
     pub parts : bytes ≡ before ++ last
-    -- the last read brought no more than the buffer holds
-    pub short : length last ≤ room
+    -- the last read is one call
+    pub read : LastRead room line now end before last
     -- the results that were reported before the last read
     pub early : List (Answer V)
     -- the results that were reported after it
@@ -166,11 +190,12 @@ module _ {D H V : Type 0} (inside : D → Filled) (judging : Judging V)
         → Hears inside judging.holds judging.reads limit z r given stream
         → HasGiven judging.holds judging.reads limit z (given ++ early) (stream ++ before)
 
-  -- so of each read: nothing was read, or it was asked before the last
-  abbrev pub IsAsked : (H → Bool) → (H → Type 0) → ℕ → Reception D → H → H → List (Answer V)
-      → List ℕ → Type 0
-  IsAsked enough settled room r h k answers bytes =
-      (bytes ≡ []) ⊎ WasAsked enough settled room r h k answers bytes
+  -- so of each read: there was none, or it was asked before the last
+  abbrev pub IsAsked : (H → Bool) → (H → Type 0) → ℕ → LineState → LineState → Option End
+      → Reception D → H → H → List (Answer V) → List ℕ → Type 0
+  IsAsked enough settled room line now end r h k answers bytes =
+      ((end ≡ None) × (now ≡ line) × (bytes ≡ []) × (k ≡ h))
+      ⊎ WasAsked enough settled room line now end r h k answers bytes
 
   -- The same to the reader's end: behind whatever the receiver had heard, what was handed on are the answers that the bytes add, with
   -- what the end adds; or those to what stands before a value that had no memory. The hearer was asked before each read of 1024 bytes.
@@ -191,7 +216,7 @@ module _ {D H V : Type 0} (inside : D → Filled) (judging : Judging V)
         × (end ≡ Some NoMemory
         → EndsAtLoss judging.holds judging.reads limit z (given ++ more) (stream ++ bytes)))
     -- the hearer was asked before each read
-    pub asked : IsAsked enough settled 1024 r h k hands.answers bytes
+    pub asked : IsAsked enough settled 1024 line later end r h k hands.answers bytes
 
 -- How contracts know a hearer: what answers make of it, whether it has had enough, and that it puts nothing off.
 pub record Hearing (H V : Type 0) : Type 1 where
@@ -227,6 +252,21 @@ abbrev pub ListensTo : {D H V : Type 0} → (D → Filled) → Judging V
     → (H → List (Answer V) → H → Type 0) → ListenerPlace D H → ListenerPlace D H → Option End → Type 0
 ListensTo inside judging hears before after end = Listens inside judging hears
     before.line after.line before.receiver after.receiver before.hearer after.hearer end
+
+-- The same by one read into a buffer of so many bytes: one call, which brings nothing at the reader's end or at a fault.
+abbrev pub ListensOnce : {D H V : Type 0} → (D → Filled) → Judging V
+    → (H → List (Answer V) → H → Type 0) → ℕ → ListenerPlace D H → ListenerPlace D H → Option End → Type 0
+ListensOnce inside judging hears room before after end =
+    (l : ListensTo inside judging hears before after end)
+    × (length l.bytes ≤ room) × BringsNone end l.bytes
+
+-- The same read by read, into a buffer of so many bytes; the hearer was asked before each.
+abbrev pub ListensUntil : {D H V : Type 0} → (D → Filled) → Judging V → Hearing H V → ℕ
+    → ListenerPlace D H → ListenerPlace D H → Option End → Type 0
+ListensUntil inside judging h room before after end =
+    (l : ListensTo inside judging h.hears before after end)
+    × IsAsked inside judging h.hears h.enough h.settled room before.line after.line end
+    before.receiver before.hearer after.hearer l.adds.answers l.bytes
 
 -- The same to the reader's end, or until the hearer had enough, with what the end adds.
 abbrev pub ListensOut : {D H V : Type 0} → (D → Filled) → Judging V → Hearing H V

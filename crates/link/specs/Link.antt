@@ -19,7 +19,7 @@ pub use Rattle.link.specs.Judged.{Judging, IsJudged, ReadsStretch, FrontLaws, fr
 -- What is received of all that a reader gives, by how the reading ended; at its end, after a fault, out of memory.
 pub use Rattle.link.specs.Listening.{IsReceivedBy, IsReceivedByOwned, ordinary, strictly, Receives, IsReceived, HasGiven, HasAnswered, HasBegun, EndsFor, IsFilled, IsUnmade, HasAllButLast, AnswersBeginProperly, KeepsAnswer}
 -- What a hearer owes; what was handed on to it while a reader was read; and behind values that found no memory.
-pub use Rattle.link.specs.Each.{HearerLaws, Handed, Adds, Listens, HearsOut, ListensTo, ListensOut, ListenerPlace, listener_place, Hearing, hearing, MayLackMemory, UsesFew, IsAsked, WasAsked, HasReadNow, IsReceivedNow, last_call, uses_few, HeardAnyhow, heard_anyhow}
+pub use Rattle.link.specs.Each.{HearerLaws, Handed, Adds, Listens, HearsOut, ListensTo, ListensOnce, ListensUntil, ListensOut, ListenerPlace, listener_place, Hearing, hearing, MayLackMemory, UsesFew, IsAsked, WasAsked, LastRead, BringsNone, HasReadNow, IsReceivedNow, last_call, uses_few, HeardAnyhow, heard_anyhow}
 pub use Rattle.link.specs.Listening.{Hears, Loss, Recovers, EndsAtLoss}
 -- What the documented loop over an accumulator gives, and reading in place.
 pub use Rattle.link.specs.Gathering.{AccumulatorFitsInMemory, AreGatheredBy, AreLooped, AreThoseFor}

@@ -11,16 +11,16 @@
 //! Each asks the hearer for a pause after the results of a read, also if the read lost a value. `listen_with` doesn't ask whether the
 //! hearer has enough; the other two ask before each read. At a fault nothing more is passed. `listen_with` and `listen_until_with` pass
 //! nothing at the reader's end: `restart` or `finish` says what the end adds.
-ghost use Rattle.std.specs.Prelude.{◌≡◌, ℕ, ◌-◌, ◌<◌, ◌≤◌, Bool, true, false, List, [], ◌∷◌, ◌++◌, length, Some, None, OnOk, OnErr, IfErr};
+ghost use Rattle.std.specs.Prelude.{◌≡◌, ℕ, ◌+◌, ◌-◌, ◌<◌, ◌≤◌, Bool, true, false, List, [], ◌∷◌, ◌++◌, length, drop, Some, None, OnOk, OnErr, IfErr};
 ghost use Rattle.line_io.specs.Device.{Gave};
 ghost use Rattle.link.specs.Steps.{Course};
 ghost use Rattle.link.specs.Finds.{IsTaken, lent_message};
 ghost use Rattle.link.specs.Receivers.{SameTerms};
 ghost use Rattle.link.specs.Lending.{StandsFurther};
 ghost use Rattle.link.specs.Listening.{Hears, IsHeard, IsKeptDue, StopsAt};
-ghost use Rattle.link.specs.Each.{Handed, HandsOn, Withholds, HearerLaws, Adds, AddsBy, ListensBy, ListensTo, IsAsked, ListensOut, MayLackMemory, hearing, listener_place};
+ghost use Rattle.link.specs.Each.{Handed, HandsOn, Withholds, HearerLaws, Adds, AddsBy, ListensBy, ListensOnce, ListensUntil, IsAsked, BringsNone, ListensOut, MayLackMemory, hearing, listener_place};
 ghost use Rattle.link.specs.declared.receiver.Answer.{Answer};
-ghost use Rattle.line_io.specs.declared.transfers.End.TheVariants.{ReadFault, NoMemory as LacksMemory};
+ghost use Rattle.line_io.specs.declared.transfers.End.TheVariants.{Ended, ReadFault, NoMemory as LacksMemory};
 
 use crate::decoding::Decoding;
 use crate::judging::MessageReader;
@@ -199,11 +199,17 @@ impl<D: Decoding> Reception<D> {
         requires { 0 < length room.old }
         ensures heard { (l : ListensBy D.inside (M.judging messages.now) H.hears goes_on
             (R.line reader.old) (R.line reader.new) self.old self.new hearer.old hearer.new result)
-            × (length l.bytes ≤ length room.old) }
+            × (length l.bytes ≤ length room.old) × BringsNone result l.bytes }
+        ensures buffer { (bytes : List ℕ) × Gave (R.line reader.old) (R.line reader.new) bytes
+            × (length bytes ≤ length room.old)
+            × (room.new ≡ bytes ++ drop (length bytes) room.old) }
         ensures calls { (R.line reader.new).calls_left ≡ (R.line reader.old).calls_left - 1 }
+        ensures once { (R.line reader.new).faults ≤ (R.line reader.old).faults + 1 }
         ensures spent { (R.line reader.old).calls_left ≡ 0 → result ≡ Some ReadFault }
         ensures memory { MayLackMemory (M.judging messages.now).growing result }
         ensures fault { result ≡ Some ReadFault → hearer.new ≡ hearer.old }
+        ensures kept { result ≡ Some ReadFault → self.new ≡ self.old }
+        ensures ended { result ≡ Some Ended → (self.new ≡ self.old) × (hearer.new ≡ hearer.old) }
         ensures settled { H.settled hearer.old → H.settled hearer.new }
         ensures same { SameTerms D.inside self.old self.new }
     {
@@ -237,9 +243,11 @@ impl<D: Decoding> Reception<D> {
         ensures heard { (l : ListensBy D.inside (M.judging messages.now) H.hears goes_on
             (R.line reader.old) (R.line reader.new) self.old self.new hearer.old hearer.new result)
             × IsAsked D.inside (M.judging messages.now) H.hears H.enough H.settled (length room.old)
+            (R.line reader.old) (R.line reader.new) result
             self.old hearer.old hearer.new l.adds.answers l.bytes }
         ensures enough { result ≡ None → H.enough hearer.new ≡ true }
         ensures fault { result ≡ Some ReadFault → H.enough hearer.new ≡ false }
+        ensures once { (R.line reader.new).faults ≤ (R.line reader.old).faults + 1 }
         ensures settled { H.settled hearer.old → H.settled hearer.new }
         ensures memory { MayLackMemory (M.judging messages.now).growing result }
         ensures same { SameTerms D.inside self.old self.new }
@@ -287,11 +295,12 @@ impl<D: Decoding> Reception<D> {
     /// Reads once into a buffer of the caller, reports the results, and returns `None`; or why reading ended.
     ///
     /// At least one byte was read if it returns `None`. So a loop makes at most one call of the reader a byte, and one that ends
-    /// the reading. The buffer may be kept for all reads, and its length bounds what one read brings.
+    /// the reading. The buffer may be kept for all reads, and its length bounds what one read brings. The bytes that came are at its
+    /// start, as they came; the rest of it is unchanged.
     ///
     /// # Errors
     /// - `ReadFault`: a read failed. Receiver and hearer are unchanged, so a reader that had nothing yet may be listened to again.
-    /// - `Ended`: the reader's end. `restart` or `finish` says what the end adds.
+    /// - `Ended`: the reader's end. Receiver and hearer are unchanged; `restart` or `finish` says what the end adds.
     /// - `NoMemory`: values could not be allocated. Only these are missing; everything else was reported, and listening may
     ///   continue.
     ///
@@ -322,15 +331,19 @@ impl<D: Decoding> Reception<D> {
         room: &mut [u8],
     ) -> Option<End>
         requires { 0 < length room.old }
-        ensures heard { ListensTo D.inside (M.judging messages.now) H.hears
+        ensures heard { ListensOnce D.inside (M.judging messages.now) H.hears (length room.old)
             (listener_place R.line reader.old self.old hearer.old)
             (listener_place R.line reader.new self.new hearer.new) result }
         ensures room { (bytes : List ℕ) × Gave (R.line reader.old) (R.line reader.new) bytes
-            × (length bytes ≤ length room.old) }
+            × (length bytes ≤ length room.old)
+            × (room.new ≡ bytes ++ drop (length bytes) room.old) }
         ensures calls { (R.line reader.new).calls_left ≡ (R.line reader.old).calls_left - 1 }
+        ensures once { (R.line reader.new).faults ≤ (R.line reader.old).faults + 1 }
         ensures spent { (R.line reader.old).calls_left ≡ 0 → result ≡ Some ReadFault }
         ensures memory { MayLackMemory (M.judging messages.now).growing result }
         ensures fault { result ≡ Some ReadFault → hearer.new ≡ hearer.old }
+        ensures kept { result ≡ Some ReadFault → self.new ≡ self.old }
+        ensures ended { result ≡ Some Ended → (self.new ≡ self.old) × (hearer.new ≡ hearer.old) }
         ensures settled { H.settled hearer.old → H.settled hearer.new }
         ensures same { SameTerms D.inside self.old self.new }
     {
@@ -370,11 +383,13 @@ impl<D: Decoding> Reception<D> {
         room: &mut [u8],
     ) -> Option<End>
         requires { 0 < length room.old }
-        ensures heard { ListensTo D.inside (M.judging messages.now) H.hears
+        ensures heard { ListensUntil D.inside (M.judging messages.now)
+            (hearing H.hears H.enough H.settled) (length room.old)
             (listener_place R.line reader.old self.old hearer.old)
             (listener_place R.line reader.new self.new hearer.new) result }
         ensures enough { result ≡ None → H.enough hearer.new ≡ true }
         ensures fault { result ≡ Some ReadFault → H.enough hearer.new ≡ false }
+        ensures once { (R.line reader.new).faults ≤ (R.line reader.old).faults + 1 }
         ensures settled { H.settled hearer.old → H.settled hearer.new }
         ensures memory { MayLackMemory (M.judging messages.now).growing result }
         ensures same { SameTerms D.inside self.old self.new }
@@ -419,6 +434,7 @@ impl<D: Decoding> Reception<D> {
             (listener_place R.line reader.new self.new hearer.new) result }
         ensures enough { result ≡ None → H.enough hearer.new ≡ true }
         ensures fault { result ≡ Some ReadFault → H.enough hearer.new ≡ false }
+        ensures once { (R.line reader.new).faults ≤ (R.line reader.old).faults + 1 }
         ensures settled { H.settled hearer.old → H.settled hearer.new }
         ensures memory { MayLackMemory (M.judging messages.now).growing result }
         ensures same { SameTerms D.inside self.old self.new }

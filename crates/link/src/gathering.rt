@@ -1,5 +1,5 @@
 //! Receiving by postcard's accumulator.
-ghost use Rattle.std.specs.Prelude.{◌≡◌, ◌<◌, OnOk, OnErr, List, [], ◌∷◌, ℕ};
+ghost use Rattle.std.specs.Prelude.{◌≡◌, ◌+◌, ◌<◌, ◌≤◌, OnOk, OnErr, List, [], ◌∷◌, ℕ};
 ghost use Rattle.cobs.specs.Sentinel.{masked};
 ghost use Rattle.postcard.specs.Gathers.{held_of, sentinel_of};
 ghost use Rattle.line_io.specs.Transfers.{HasRead};
@@ -85,6 +85,7 @@ fn collect<T: DeserializeOwned, R: Inlet, const N: usize>(
         (held_of accumulator.new) values.old.items values.new.items result }
     ensures full { result ≡ LacksMemory → IsFilled values.new }
     ensures calls { UsesFew (R.line reader.old) (R.line reader.new) 1 }
+    ensures once { (R.line reader.new).faults ≤ (R.line reader.old).faults + 1 }
 {
     let mut room = [0u8; ROOM];
     loop {
@@ -116,7 +117,7 @@ fn gathered_alike<T: Readable>()
 ///
 /// # Errors
 /// `end` is `ReadFault`, or `NoMemory` if the list could not be extended: the values before are there, and none is missing of those
-/// of the bytes before the last read of up to 1024. A value that can't be allocated is left out.
+/// of the bytes before the last read of up to 1024. A value that can't be allocated is left out. No read follows one that failed.
 ///
 /// # Requires
 /// N is at least 1, and an accumulator of N bytes fits in memory (`AccumulatorFitsInMemory`); a concrete N costs nothing.
@@ -138,6 +139,7 @@ pub fn receive_by_accumulator<T: DeserializeOwned, R: Inlet, const N: usize>(
     ensures received { AreGatheredBy T.form N 0 R.line reader result }
     ensures full { result.end ≡ LacksMemory → IsFilled result.values }
     ensures calls { UsesFew (R.line reader) (R.line result.reader) 1 }
+    ensures once { (R.line result.reader).faults ≤ (R.line reader).faults + 1 }
 {
     receive_by_accumulator_with_sentinel::<T, R, N>(alloc, reader, 0)
 }
@@ -162,6 +164,7 @@ pub fn receive_by_accumulator_with_sentinel<T: DeserializeOwned, R: Inlet, const
     ensures received { AreGatheredBy T.form N sentinel R.line reader result }
     ensures full { result.end ≡ LacksMemory → IsFilled result.values }
     ensures calls { UsesFew (R.line reader) (R.line result.reader) 1 }
+    ensures once { (R.line result.reader).faults ≤ (R.line reader).faults + 1 }
 {
     let mut reader = reader;
     let mut accumulator = CobsAccumulator::<N>::new_with_sentinel(sentinel);

@@ -1,5 +1,5 @@
 //! Receiving everything that a reader gives.
-ghost use Rattle.std.specs.Prelude.{◌≡◌, ℕ, []};
+ghost use Rattle.std.specs.Prelude.{◌≡◌, ℕ, ◌+◌, ◌≤◌, []};
 ghost use Rattle.link.specs.Receivers.{IsBehind};
 ghost use Rattle.link.specs.Listening.{ReceiverFitsInMemory, IsReceivedBy, IsReceivedByOwned, IsUnmade, ordinary, strictly};
 ghost use Rattle.link.specs.Firsts.{listed_end};
@@ -65,6 +65,7 @@ fn receive_by<V: Drop, M: MessageReader<V>, R: Inlet, D: Decoding>(
 ) -> Received<V, R>
     ensures received { (limit s : ℕ) → IsBehind D.inside limit s receiver.old []
         → IsReceivedBy (M.judging messages.now) limit s R.line reader result }
+    ensures once { (R.line result.reader).faults ≤ (R.line reader).faults + 1 }
 {
     messages.show();
     let mut reader = reader;
@@ -84,7 +85,7 @@ fn receive_by<V: Drop, M: MessageReader<V>, R: Inlet, D: Decoding>(
 /// Receives everything that a reader gives, until it ends or fails, with frames of at most N bytes.
 ///
 /// It reads chunks of up to 1024 bytes; their sizes change no result. At most one call of the reader a byte, and one that ends the
-/// reading. To act on each message as it comes use `receive_each_with`.
+/// reading; none follows a fault. To act on each message as it comes use `receive_each_with`.
 ///
 /// # Errors
 /// `end` is `ReadFault` or `NoMemory`; `answers` then are the first ones, as `Received` says.
@@ -108,6 +109,7 @@ pub fn receive<T: DeserializeOwned, R: Inlet, const N: usize>(
 ) -> Received<T, R>
     requires { ReceiverFitsInMemory N.row }
     ensures received { IsReceivedBy (ordinary T.form) N 0 R.line reader result }
+    ensures once { (R.line result.reader).faults ≤ (R.line reader).faults + 1 }
 {
     receive_with_sentinel::<T, R, N>(alloc, reader, 0)
 }
@@ -129,6 +131,7 @@ pub fn receive_with_sentinel<T: DeserializeOwned, R: Inlet, const N: usize>(
 ) -> Received<T, R>
     requires { ReceiverFitsInMemory N.row }
     ensures received { IsReceivedBy (ordinary T.form) N sentinel R.line reader result }
+    ensures once { (R.line result.reader).faults ≤ (R.line reader).faults + 1 }
 {
     let mut receiver = Receiver::<N>::new_with_sentinel(sentinel);
     receive_by(alloc, &Ordinary(OfType), reader, &mut receiver)
@@ -150,6 +153,7 @@ pub fn receive_strict<T: DeserializeOwned + Exact, R: Inlet, const N: usize>(
 ) -> Received<T, R>
     requires { ReceiverFitsInMemory N.row }
     ensures received { IsReceivedBy (strictly T.form) N 0 R.line reader result }
+    ensures once { (R.line result.reader).faults ≤ (R.line reader).faults + 1 }
 {
     receive_strict_with_sentinel::<T, R, N>(alloc, reader, 0)
 }
@@ -171,6 +175,7 @@ pub fn receive_strict_with_sentinel<T: DeserializeOwned + Exact, R: Inlet, const
 ) -> Received<T, R>
     requires { ReceiverFitsInMemory N.row }
     ensures received { IsReceivedBy (strictly T.form) N sentinel R.line reader result }
+    ensures once { (R.line result.reader).faults ≤ (R.line reader).faults + 1 }
 {
     let mut receiver = Receiver::<N>::new_with_sentinel(sentinel);
     receive_by(alloc, &Strict(OfType), reader, &mut receiver)
@@ -207,6 +212,7 @@ pub fn receive_owned<T: DeserializeOwned, R: Inlet>(
     sentinel: u8,
 ) -> Received<T, R>
     ensures received { IsReceivedByOwned (ordinary T.form) limit sentinel R.line reader result }
+    ensures once { (R.line result.reader).faults ≤ (R.line reader).faults + 1 }
 {
     match OwnedReceiver::new(alloc, limit, sentinel) {
         Ok(mut receiver) => receive_by(alloc, &Ordinary(OfType), reader, &mut receiver),
@@ -228,6 +234,7 @@ pub fn receive_owned_strict<T: DeserializeOwned + Exact, R: Inlet>(
     sentinel: u8,
 ) -> Received<T, R>
     ensures received { IsReceivedByOwned (strictly T.form) limit sentinel R.line reader result }
+    ensures once { (R.line result.reader).faults ≤ (R.line reader).faults + 1 }
 {
     match OwnedReceiver::new(alloc, limit, sentinel) {
         Ok(mut receiver) => receive_by(alloc, &Strict(OfType), reader, &mut receiver),

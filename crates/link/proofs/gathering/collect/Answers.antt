@@ -1,7 +1,7 @@
-use Rattle.std.proofs.Common.{[], ◌++◌, take, refl, sym, ◌∙◌, arith, length-take-le}
+use Rattle.std.proofs.Common.{[], ◌++◌, take, refl, sym, ◌∙◌, arith, length-take-le, None}
 use Rattle.line_io.specs.Calls.{Gave-none, Gave-then, read_quiet}
 use Rattle.postcard.specs.Gathers.{sentinel_of}
-use Rattle.link.proofs.HandingLemmas.{on_ok, on_err, uses_then, uses_read, uses_last, taken_some}
+use Rattle.link.proofs.HandingLemmas.{on_ok, on_err, uses_then, uses_read, uses_last, taken_some, one_read}
 use Rattle.link.proofs.FetchingLemmas.{gathers_no_bytes, gathers_more}
 use Rattle.link.proofs.gathering.collect.Goals as goal
 
@@ -45,3 +45,12 @@ loop-n-preserved g c =
 
 pub returns-then-is_err-clause-calls : goal.returns-then-is_err-clause-calls
 returns-then-is_err-clause-calls g c = uses_then _ _ _ _ c.loop-n.invariant.0 (uses_last _ _ _ c.in-Some.ensures.bytes c.in-Some.ensures.calls)
+
+pub returns-in-None-clause-once : goal.returns-in-None-clause-once
+returns-in-None-clause-once g c = omega (arith, c.in-None.ensures.faults, c.loop-n.invariant.3, one_read (g.R.Inlet.line c.loop-n.reader).calls_left None)
+
+pub returns-in-Some-eq0-clause-once : goal.returns-in-Some-eq0-clause-once
+returns-in-Some-eq0-clause-once g c = omega (arith, read_quiet _ _ _ _ _ c.in-Some-eq0.ensures.faults c.loop-n.invariant.3)
+
+pub returns-then-is_err-clause-once : goal.returns-then-is_err-clause-once
+returns-then-is_err-clause-once g c = omega (arith, read_quiet _ _ _ _ _ c.in-Some.ensures.faults c.loop-n.invariant.3)

@@ -1,4 +1,4 @@
-use Rattle.std.proofs.Common.{ℕ, List, take, ◌∙◌, refl, subst}
+use Rattle.std.proofs.Common.{ℕ, List, take, ◌∙◌, subst}
 use Rattle.cobs.specs.Frames.{Frame}
 use Rattle.link.proofs.ReceivingLemmas.{has_nothing, some_bytes}
 use Rattle.link.proofs.reception.Reception.close.Goals as goal

@@ -1,4 +1,4 @@
-use Rattle.std.proofs.Common.{◌≡◌, ℕ, ◌+◌, ◌≤◌, List, length}
+use Rattle.std.proofs.Common.{◌≡◌, ℕ, ◌+◌, ◌≤◌, List, length, None}
 use Rattle.line_io.specs.Device.{Gave}
 use Rattle.link.specs.Link.{Adds, IsAsked, SameTerms}
 use Rattle.link.proofs.reception.Reception.listen_each.Given as goal
@@ -10,7 +10,7 @@ invariant-loop-alloc g l =
     × ((g.R.Inlet.line l.reader).faults ≡ (g.R.Inlet.line l.fn.reader).faults)
     × ((g.R.Inlet.line l.fn.reader).calls_left ≤ (g.R.Inlet.line l.reader).calls_left + length bytes + 0)
     × (a : Adds g.D.Decoding.inside (g.M.MessageReader.judging l.fn.messages) g.H.Hearer.hears bytes l.fn.self l.self l.fn.hearer l.hearer)
-    × IsAsked g.D.Decoding.inside (g.M.MessageReader.judging l.fn.messages) g.H.Hearer.hears g.H.Hearer.enough g.H.Hearer.settled (length l.fn.room) l.fn.self l.fn.hearer l.hearer a.answers bytes)
+    × IsAsked g.D.Decoding.inside (g.M.MessageReader.judging l.fn.messages) g.H.Hearer.hears g.H.Hearer.enough g.H.Hearer.settled (length l.fn.room) (g.R.Inlet.line l.fn.reader) (g.R.Inlet.line l.reader) None l.fn.self l.fn.hearer l.hearer a.answers bytes)
     × SameTerms g.D.Decoding.inside l.fn.self l.self
     × (g.H.Hearer.settled l.fn.hearer → g.H.Hearer.settled l.hearer)
 

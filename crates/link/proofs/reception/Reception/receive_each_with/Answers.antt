@@ -9,7 +9,7 @@ returns-in-Some-clause-received g c =
     let h = c.in-Some.ensures.heard.0 in
     let q = c.conclude_each.ensures.handed in
     let judging = g.M.MessageReader.judging c.args.messages.now in
-    let asked = still_asked g.D.Decoding.inside judging g.H.Hearer.hears g.H.Hearer.enough g.H.Hearer.settled _ _ _ _ g.H.Hearer.laws _ h.adds.answers h.bytes q.answers c.in-Some.ensures.heard.1 q.heard in record {
+    let asked = still_asked g.D.Decoding.inside judging g.H.Hearer.hears g.H.Hearer.enough g.H.Hearer.settled _ _ _ _ _ _ g.H.Hearer.laws c.in-Some.end _ h.adds.answers h.bytes q.answers c.in-Some.ensures.heard.1 q.heard in record {
       bytes = h.bytes;
       read = h.read;
       few = h.few;
@@ -20,7 +20,7 @@ returns-in-Some-clause-received g c =
             let bytes = stream ++ h.bytes in
             let heard = h.adds.so limit s stream given had in
             let kept = subst (λ xs. IsKeptDue judging.holds judging.reads limit s c.in-Some.end xs bytes) (append_assoc given h.adds.answers q.answers) (q.so limit s bytes (given ++ h.adds.answers) heard) in (
-              received judging.holds judging.reads limit s c.in-Some.end _ bytes (early_of g.D.Decoding.inside judging g.H.Hearer.hears g.H.Hearer.enough g.H.Hearer.settled _ _ _ _ _ h.bytes limit s stream given had asked) kept,
+              received judging.holds judging.reads limit s c.in-Some.end _ bytes (early_of g.D.Decoding.inside judging g.H.Hearer.hears g.H.Hearer.enough g.H.Hearer.settled _ _ _ _ _ _ _ _ h.bytes limit s stream given had asked) kept,
               stands_by g.D.Decoding.inside judging.holds judging.reads limit s c.in-Some.end _ _ bytes heard,
               lost_value judging.holds judging.reads limit s c.in-Some.end _ bytes kept,
             );

@@ -1,8 +1,6 @@
-use Rattle.std.proofs.Common.{◌≡◌, ◌+◌, ◌-◌, ◌<◌, ◌≤◌, length, refl, ◌∙◌, ap, subst, arith}
+use Rattle.std.proofs.Common.{◌≡◌, ◌+◌, ◌-◌, ◌<◌, length, refl, ◌∙◌, ap, subst, arith}
 use Rattle.cobs.specs.Frames.{NoZero}
-use Rattle.cobs.specs.InPlace.{written_over}
 use Rattle.cobs.specs.Sentinel.{masked}
-use Rattle.link.specs.Lemmas.MaskLaws.{masked_length}
 use Rattle.link.proofs.ReceivingLemmas.{kept_is, has_nothing, holds_run, runs_over}
 use Rattle.link.specs.Lemmas.RunLaws.{runs_past}
 use Rattle.link.proofs.reception.Reception.take_run.Goals as goal
