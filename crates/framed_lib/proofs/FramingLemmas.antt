@@ -1,5 +1,5 @@
 -- Which lines can be sent, by their lengths and by their frames.
-use Rattle.std.proofs.Common.{add-one, ◌≡◌, ℕ, ◌+◌, ◌<◌, ◌≤◌, Bool, true, false, List, [], ◌∷◌, ◌++◌, length, ap, ◌∙◌, arith, refl, inr}
+use Rattle.std.proofs.Common.{add-one, ◌≡◌, ℕ, ◌+◌, ◌<◌, ◌≤◌, true, false, List, [], ◌∷◌, ◌++◌, length, ap, ◌∙◌, arith, refl, inr}
 use Rattle.std.specs.Prelude.{Some, IsUtf8, take, drop, bit_xor, slice_set}
 use Rattle.std.proofs.lemmas.List.{length-append, length-drop, length-map, length-take, take_more_set, take-append-le}
 use borrow.Rule.Slice.PartMut.{put_mid}

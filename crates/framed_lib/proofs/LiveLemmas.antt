@@ -1,13 +1,14 @@
 -- What was written before the last read, from what a hearer was when it was asked.
-use Rattle.std.proofs.Common.{◌≡◌, ℕ, Bool, true, false, ◌&&◌, List, [], ◌++◌, Option, Some, refl, sym, ap, ◌∙◌, subst, inl, inr, ◌⊎◌}
-use Rattle.std.specs.Prelude.{Result, Ok, Err, OnOk, OnErr}
+use Rattle.std.proofs.Common.{◌≡◌, ℕ, Bool, true, false, ◌&&◌, List, [], ◌++◌, Option, Some, refl, sym, arith, length, ap, ◌∙◌, subst, inl, inr, ◌⊎◌}
+use Rattle.std.specs.Prelude.{Result, Ok, Err, OnOk, OnErr, IsErr}
+use Rattle.std.proofs.lemmas.List.{length-append}
 use Rattle.std.specs.declared.string.String.{String}
 use Rattle.line_io.specs.Device.{LineState, Wrote}
 use Rattle.line_io.specs.Calls.{Wrote-then, WentOut-none}
 use Rattle.line_io.specs.Transfers.{Writing, whole, broken}
 use Rattle.line_io.specs.declared.transfers.WriteFault.{WriteFault}
+use Rattle.line_io.specs.declared.transfers.End.{End}
 use Rattle.link.specs.Filled.{Filled}
-use Rattle.link.specs.Judged.{Judging}
 use Rattle.link.specs.Each.{IsAsked}
 use Rattle.link.specs.Listening.{Hears}
 use Rattle.link.specs.Firsts.{not_both as no_both}
@@ -22,16 +23,16 @@ use Rattle.framed_lib.proofs.OutputLemmas.{put-went}
 
 -- a receiver that was given nothing
 pub asked_for : {D H A : Type 0} (inside : D → Filled) (growing : Bool) (hears : H → List (Answer (String A)) → H → Type 0) (enough : H → Bool) (settled : H → Type 0) (r : Reception D) (strict : Bool) (sentinel : ℕ)
-    (h k : H) (answers : List (Answer (String A))) (bytes : List ℕ)
+    (line now : LineState) (end : Option End) (h k : H) (answers : List (Answer (String A))) (bytes : List ℕ)
     → Hears inside (holds_text strict) (reads_text {A = A}) 1024 sentinel r [] []
-    → IsAsked inside (record { holds = holds_text strict; reads = reads_text {A = A}; growing = growing }) hears enough settled 1024 r h k answers bytes
-    → IsAskedFor hears enough settled strict sentinel h k bytes
-asked_for inside growing hears enough settled r strict sentinel h k answers bytes none (inl e) = inl e
-asked_for inside growing hears enough settled r strict sentinel h k answers bytes none (inr w) = inr (record {
+    → IsAsked inside (record { holds = holds_text strict; reads = reads_text {A = A}; growing = growing }) hears enough settled 1024 line now end r h k answers bytes
+    → IsAskedFor hears enough settled strict sentinel line now end h k bytes
+asked_for inside growing hears enough settled r strict sentinel line now end h k answers bytes none (inl e) = inl e
+asked_for inside growing hears enough settled r strict sentinel line now end h k answers bytes none (inr w) = inr (record {
   before = w.before;
   last = w.last;
   parts = w.parts;
-  short = w.short;
+  read = w.read;
   early = w.early;
   later = w.later;
   given = w.given 1024 sentinel [] [] none;
@@ -65,14 +66,14 @@ module _ {A W : Type 0} (line : W → LineState) where
   goes_on asked k later new (Err x) f e a t ok (inr b) = let p = t.went a b.0 in (p.sent ++ b.1.front, Wrote-then _ _ _ _ _ p.went.wrote b.1.wrote)
 
   -- the lines of what it was told before the last read had gone out
-  pub written_live : (strict : Bool) (sentinel : ℕ) (old k : Telling W) (new : W) (bytes : List ℕ) (w : Result (Unit {0}) WriteFault)
+  pub written_live : (strict : Bool) (sentinel : ℕ) (from to : LineState) (end : Option End) (old k : Telling W) (new : W) (bytes : List ℕ) (w : Result (Unit {0}) WriteFault)
       → old.live ≡ true → old.failed ≡ false → old.held.items ≡ []
-      → IsAskedFor {A = A} (Tells line) (λ t. t.failed && t.live) IsSettled strict sentinel old k bytes
+      → IsAskedFor {A = A} (Tells line) (λ t. t.failed && t.live) IsSettled strict sentinel from to end old k bytes
       → OnOk w ((k.failed ≡ false) × Writing (line k.writer) (line new) whole k.held.items)
       → OnErr w (((k.failed ≡ true) × (new ≡ k.writer)) ⊎ ((k.failed ≡ false) × Writing (line k.writer) (line new) broken k.held.items))
-      → IsWrittenLive line strict sentinel old.writer new bytes
-  written_live strict sentinel old k new bytes w live failed empty (inl e) ok err = inl e
-  written_live strict sentinel old k new bytes w live failed empty (inr a) ok err =
+      → IsWrittenLive line strict sentinel from to end old.writer new bytes
+  written_live strict sentinel from to end old k new bytes w live failed empty (inl e) ok err = inl (e.0, e.1, e.2)
+  written_live strict sentinel from to end old k new bytes w live failed empty (inr a) ok err =
       let on : a.asked.live ≡ true = a.heard.live ∙ live in
       let good : a.asked.failed ≡ false = not_failed a.asked.failed a.asked.live on a.wants in
       let none : a.asked.held.items ≡ [] = settled_empty a.asked.held a.asked.failed (a.asked.held.items ≡ []) (a.settles (λ l. inl empty) on) good in
@@ -84,7 +85,7 @@ module _ {A W : Type 0} (line : W → LineState) where
         before = a.before;
         last = a.last;
         parts = a.parts;
-        short = a.short;
+        read = a.read;
         verdicts = a.given.verdicts;
         given = a.given.given;
         then = a.asked.writer;
@@ -92,3 +93,15 @@ module _ {A W : Type 0} (line : W → LineState) where
         more = rest.0;
         on = rest.1;
       })
+
+-- where a read failed, nothing was left to write, so no write failed
+pub fault_first : {W : Type 0} (line : W → LineState) (k : Telling W) (new : W) (w : Result (Unit {0}) WriteFault) → k.live ≡ true → (k.failed && k.live) ≡ false → IsSettled k
+    → OnErr w (((k.failed ≡ true) × (new ≡ k.writer)) ⊎ ((k.failed ≡ false) × Writing (line k.writer) (line new) broken k.held.items))
+    → IsErr w → ⊥
+fault_first line k new (Ok u) live enough settled err n = cc
+fault_first line k new (Err f) live enough settled (inl t) n = no_both k.failed t.0 (not_failed k.failed k.live live enough)
+fault_first line k new (Err f) live enough settled (inr b) n =
+    let none = settled_empty k.held k.failed (k.held.items ≡ []) (settled live) b.0 in
+    let left = b.1.some_left in
+    let parts = b.1.bytes_are in
+    omega (arith, left, ap length none, ap length parts, length-append b.1.front b.1.rest)

@@ -1,16 +1,16 @@
 -- How the work of a run ends.
-use Rattle.std.proofs.Common.{◌≡◌, ℕ, ◌+◌, ◌<◌, inl, inr, Bool, true, false, List, [], ◌++◌, length, refl, sym, ap, ◌∙◌, subst, arith, if◌then◌else◌, Option, Some, None}
-use Rattle.std.proofs.lemmas.List.{append-nil, length-append}
+use Rattle.std.proofs.Common.{◌≡◌, ℕ, ◌+◌, ◌<◌, ◌≤◌, inl, inr, Bool, true, false, List, [], ◌∷◌, ◌++◌, length, refl, sym, ap, ◌∙◌, subst, arith, if◌then◌else◌, Option, Some, None}
+use Rattle.std.proofs.lemmas.List.{append-nil, length-append, length-take}
 use Rattle.std.specs.List.{list_all}
 use Rattle.std.specs.Prelude.{Result, Ok, Err, IsErr, OnOk}
-use Rattle.line_io.specs.Device.{LineState}
+use Rattle.line_io.specs.Device.{LineState, Gave}
 use Rattle.line_io.specs.Transfers.{Fate, whole}
 use Rattle.line_io.specs.declared.transfers.End.{End}
 use Rattle.line_io.specs.declared.transfers.End.TheVariants.{Ended, ReadFault, NoMemory}
 use Rattle.line_io.specs.declared.transfers.WriteFault.{WriteFault}
 use Rattle.link.specs.Each.{HasReadNow, UsesFew, last_call}
 use Rattle.link.specs.Stream.{Verdict}
-use Rattle.framed_lib.specs.Lines.{AreAnswers, lines_of, is_value}
+use Rattle.framed_lib.specs.Lines.{AreAnswers, StandBeforeLoss, lines_of, is_value}
 use Rattle.framed_lib.specs.Program.{Program, WritesFirst, StandsFor, Due, CarriesOut}
 use Rattle.framed_lib.specs.Working.{Worked, TellsAnswers, outcome_of}
 
@@ -51,29 +51,35 @@ first : (strict : Bool) (sentinel : ℕ) {stream : List ℕ} (bytes rest : List 
 first strict sentinel bytes rest verdicts e a =
     record { front = bytes; rest = rest; stream_is = e; first = (verdicts, a, refl) }
 
+-- A value that was lost had bytes.
+lost-some : (strict : Bool) (sentinel : ℕ) (text : List ℕ) (verdicts : List Verdict)
+    → StandBeforeLoss strict sentinel text verdicts → 0 < length text
+lost-some strict sentinel text verdicts h =
+    omega (arith, ap length h.parts, length-append h.front h.rest, ap length h.lost.bytes, length-append h.lost.front (sentinel ∷ []), length-take h.used h.rest)
+
 module _ (strict : Bool) (sentinel : ℕ) (text : List ℕ) (r : Option End → List ℕ → Type 0)
     (w t : Fate → List ℕ → Type 0) (good : Bool) (quiet : t whole []) where
   -- the lines of the answers to bytes that were received; the reading may have ended because a write failed
   pub bytes-worked : (e : Option End) (written : Result (Unit {0}) WriteFault)
       → TellsAnswers strict sentinel e text good written w → r e text → (e ≡ None → IsErr written)
+      → (e ≡ Some ReadFault → IsErr written → ⊥)
       → Worked (Some strict) false sentinel r w t (outcome_of e written good)
-  bytes-worked (Some Ended) (Err fault) h q n =
+  bytes-worked (Some Ended) (Err fault) h q n f =
       let p = unpacked strict false sentinel text text h.verdicts good refl h.are h.values in
-      carried _ text _ [] (inl (_, p)) q h.broke quiet
-  bytes-worked (Some ReadFault) (Err fault) h q n =
-      carried _ text _ [] ((h.verdicts, h.are, refl), refl) q h.broke quiet
-  bytes-worked (Some NoMemory) (Err fault) h q n =
-      carried _ text _ [] ((h.verdicts, h.are, refl), refl) q h.broke quiet
-  bytes-worked None (Err fault) h q n =
-      carried _ text _ [] ((h.verdicts, h.are, refl), refl) q h.broke quiet
-  bytes-worked (Some Ended) (Ok u) h q n =
+      carried _ text _ [] (λ x. cc, inl (_, p)) q h.broke quiet
+  bytes-worked (Some ReadFault) (Err fault) h q n f = absurd (f refl refl)
+  bytes-worked (Some NoMemory) (Err fault) h q n f =
+      carried _ text _ [] (λ x. cc, ((h.verdicts, h.are, refl), refl)) q h.broke quiet
+  bytes-worked None (Err fault) h q n f =
+      carried _ text _ [] (λ x. cc, ((h.verdicts, h.are, refl), refl)) q h.broke quiet
+  bytes-worked (Some Ended) (Ok u) h q n f =
       let p = unpacked strict false sentinel text text h.verdicts good refl h.are h.values in
       carried _ text _ [] (refl, p) q h.went quiet
-  bytes-worked (Some ReadFault) (Ok u) h q n =
+  bytes-worked (Some ReadFault) (Ok u) h q n f =
       carried _ text _ [] (refl, ((h.verdicts, h.are, refl), refl)) q h.went quiet
-  bytes-worked (Some NoMemory) (Ok u) h q n =
-      carried _ text _ [] ((h.verdicts, h.are, refl), refl) q h.went quiet
-  bytes-worked None (Ok u) h q n =
+  bytes-worked (Some NoMemory) (Ok u) h q n f =
+      carried _ text _ [] ((h.verdicts, h.are, refl), refl, lost-some strict sentinel text h.verdicts h.are) q h.went quiet
+  bytes-worked None (Ok u) h q n f =
       let wrong : IsErr {T = Unit {0}} {E = WriteFault} (Ok u) = n refl in cc
 
   module _ (stream : List ℕ) (h : StandsFor true text stream) (q : r (Some Ended) text) where
@@ -88,13 +94,13 @@ module _ (strict : Bool) (sentinel : ℕ) (text : List ℕ) (r : Option End → 
     digits-worked (Some Ended) bytes (Err fault) s a =
         let h = (rw s at h) in
         let p = unpacked strict true sentinel text bytes a.verdicts good h a.are a.values in
-        carried _ text _ [] (inl (_, p)) q a.broke quiet
+        carried _ text _ [] (λ x. cc, inl (_, p)) q a.broke quiet
     digits-worked (Some NoMemory) bytes (Ok u) s a =
         let f = first strict sentinel bytes s.0 a.verdicts s.1 a.are in
         carried (Some Ended) text _ [] ((stream, h, f), refl) q a.went quiet
     digits-worked (Some NoMemory) bytes (Err fault) s a =
         let f = first strict sentinel bytes s.0 a.verdicts s.1 a.are in
-        carried _ text _ [] (inr ((stream, h, f), refl)) q a.broke quiet
+        carried _ text _ [] (λ x. cc, inr ((stream, h, f), refl)) q a.broke quiet
     digits-worked (Some ReadFault) bytes written s a = absurd s
     digits-worked None bytes written s a = absurd s
 
@@ -126,5 +132,25 @@ is-err (Err e) failed t f = refl
 pub read-whole : {old new : List ℕ} {P : List ℕ → Type 0} → old ≡ [] → ((text : List ℕ) × (new ≡ old ++ text) × P text) → P new
 read-whole {P = P} e (text, is, p) = subst P (sym (is ∙ ap (λ x. x ++ text) e)) p
 
-pub read-front : (P : List ℕ → Type 0) {old new : List ℕ} → old ≡ [] → ((text : List ℕ) × (lost : List ℕ) × (new ≡ old ++ text) × P (text ++ lost)) → (lost : List ℕ) × P (new ++ lost)
-read-front P e (text, lost, is, p) = (lost, subst (λ x. P (x ++ lost)) (sym (is ∙ ap (λ x. x ++ text) e)) p)
+-- the same where some of it found no place
+pub read-front : (P : List ℕ → Type 0) {old new : List ℕ} → old ≡ [] → (m : (text : List ℕ) × (lost : List ℕ) × (new ≡ old ++ text) × P (text ++ lost)) → 0 < length m.1
+    → (lost : List ℕ) × P (new ++ lost) × (0 < length (new ++ lost))
+read-front P {new = new} e (text, lost, is, p) some = (lost, subst (λ x. P (x ++ lost)) (sym (is ∙ ap (λ x. x ++ text) e)) p, omega (arith, some, length-append new lost))
+
+-- what was read into a vector, by few calls
+pub text-few : (u w : LineState) (old new text : List ℕ) → new ≡ old ++ text → Gave u w text
+    → u.calls_left + length old ≤ w.calls_left + length new + 1 → UsesFew u w 1
+text-few u w old new text is gave few =
+    record { bytes = text; gave = gave; few = omega (arith, few, ap length is, length-append old text) }
+
+-- the same where the last of it found no place
+pub front-few : (u w : LineState) (old new text lost : List ℕ) → new ≡ old ++ text
+    → Gave u w (text ++ lost) → u.calls_left + length old ≤ w.calls_left + length new + 1
+    → UsesFew u w 1
+front-few u w old new text lost is gave few =
+    record { bytes = text ++ lost; gave = gave; few = omega (arith, few, ap length is, length-append old text, length-append text lost) }
+
+-- few calls, however the reading ended
+pub most-few : (u w : LineState) (e : Option End) → UsesFew u w (last_call e) → UsesFew u w 1
+most-few u w None h = record { bytes = h.bytes; gave = h.gave; few = omega (arith, h.few) }
+most-few u w (Some end) h = h

@@ -1,5 +1,5 @@
 -- What the program writes, what it says, and its status.
-use Rattle.std.specs.Prelude.{◌≡◌, ℕ, ◌<◌, ◌≤◌, Bool, true, false, List, [], ◌∷◌, ◌++◌, ◌⊎◌, codes, if◌then◌else◌, Ok, IsErr, Option, Some, None}
+use Rattle.std.specs.Prelude.{◌≡◌, ◌≢◌, ℕ, ◌<◌, ◌≤◌, Bool, true, false, List, [], ◌∷◌, ◌++◌, length, ◌⊎◌, codes, if◌then◌else◌, Ok, IsErr, Option, Some, None}
 use Rattle.std.specs.List.{list_all}
 use Rattle.hex.specs.Hex.{encode_lower, decode_of}
 use Rattle.line_io.specs.Transfers.{Fate, whole, broken}
@@ -141,11 +141,11 @@ LacksBehind (Some strict) true sentinel text out =
     (stream : List ℕ) × StandsFor true text stream × WritesFirst strict sentinel stream out
 LacksBehind _ _ sentinel text out = ⊥
 
--- What is written and said for a text before 'no memory' is said, by how far it was read: to where no memory was found for more, or to its
--- end.
+-- What is written and said for a text before 'no memory' is said, by how far it was read: to where no memory was found for more, which is
+-- some of it, or to its end.
 abbrev pub RunsOutOfMemory : Option Bool → Bool → ℕ → Option End → List ℕ → List ℕ → List ℕ → Type 0
 RunsOutOfMemory way hex sentinel (Some NoMemory) text out said =
-    WritesSoFar way hex sentinel (Some NoMemory) text out × (said ≡ [])
+    WritesSoFar way hex sentinel (Some NoMemory) text out × (said ≡ []) × (0 < length text)
 RunsOutOfMemory way hex sentinel (Some Ended) text out said =
     LacksBehind way hex sentinel text out × (said ≡ [])
 RunsOutOfMemory way hex sentinel _ text out said = ⊥
@@ -218,9 +218,10 @@ module _ (way : Option Bool) (hex : Bool) (sentinel : ℕ)
   ReadFails = CarriesOut (λ end text out said.
       (end ≡ Some ReadFault) × IsToWrite way hex sentinel end text out said) whole
 
-  -- A write failed: the writer has a beginning.
+  -- A write failed, and no read before it: the writer has a beginning.
   abbrev pub WriteFails : (List ℕ → Type 0) → Type 0
-  WriteFails = CarriesOut (IsToWrite way hex sentinel) broken
+  WriteFails = CarriesOut (λ end text out said.
+      (end ≢ Some ReadFault) × IsToWrite way hex sentinel end text out said) broken
 
   -- Memory ran out: what was answered by then went out.
   abbrev pub LacksMemory : (List ℕ → Type 0) → Type 0

@@ -1,8 +1,8 @@
 //! The results of a stream, as texts.
-ghost use Rattle.std.specs.Prelude.{◌≡◌, ℕ, List, Some, None, true};
+ghost use Rattle.std.specs.Prelude.{◌≡◌, ℕ, List, Some, None, true, false};
 ghost use Rattle.framed_lib.specs.Lines.{holds_text, reads_text};
 ghost use Rattle.framed_lib.specs.Live.{IsAskedFor};
-ghost use Rattle.line_io.specs.declared.transfers.End.TheVariants.{NoMemory};
+ghost use Rattle.line_io.specs.declared.transfers.End.TheVariants.{NoMemory, ReadFault};
 ghost use Rattle.link.specs.Listening.{EndsAtLoss};
 ghost use Rattle.link.specs.Each.{Handed, HasReadNow, IsReceivedNow, UsesFew, last_call};
 
@@ -34,8 +34,11 @@ pub fn hand_texts<R: Inlet, H: Hearer<String>>(
         IsReceivedNow (holds_text strict) reads_text 1024 sentinel result answers bytes
         × (result ≡ Some NoMemory
         → EndsAtLoss (holds_text strict) reads_text 1024 sentinel answers bytes))
-        × IsAskedFor H.hears H.enough H.settled strict sentinel hearer.old hearer.new bytes }
+        × IsAskedFor H.hears H.enough H.settled strict sentinel
+        (R.line reader.old) (R.line reader.new) result hearer.old hearer.new bytes }
     ensures enough { result ≡ None → H.enough hearer.new ≡ true }
+    ensures fault { result ≡ Some ReadFault → H.enough hearer.new ≡ false }
+    ensures settled { H.settled hearer.old → H.settled hearer.new }
     ensures few { UsesFew (R.line reader.old) (R.line reader.new) (last_call result) }
 {
     let mut receiver = Receiver::<1024>::new_with_sentinel(sentinel);

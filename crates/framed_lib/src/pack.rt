@@ -1,6 +1,6 @@
 ghost use Rattle.std.specs.Prelude.{ℕ, false, List, None, OnOk, OnErr, IsTrue, IsUtf8};
 ghost use Rattle.line_io.specs.Transfers.{Writing, whole, broken};
-ghost use Rattle.link.specs.Each.{HasReadNow};
+ghost use Rattle.link.specs.Each.{HasReadNow, UsesFew};
 ghost use Rattle.link.specs.Run.{Send, session_line};
 ghost use Rattle.framed_lib.specs.Program.{framed_text};
 ghost use Rattle.framed_lib.specs.Sending.{lines_in, AreSendsOf};
@@ -64,9 +64,10 @@ pub fn pack<R: Inlet, W: Outlet, E: Outlet>(
     writer: &mut W,
     faults: &mut E,
 ) -> Result<u8, Stop>
-    ensures { Worked None hex sentinel (HasReadNow (R.line reader.old) (R.line reader.new))
+    ensures worked { Worked None hex sentinel (HasReadNow (R.line reader.old) (R.line reader.new))
         (Writing (W.line writer.old) (W.line writer.new))
         (Writing (E.line faults.old) (E.line faults.new)) result }
+    ensures calls { UsesFew (R.line reader.old) (R.line reader.new) 1 }
 {
     let mut text = Vec::new(alloc);
     match read_to_end(reader, &mut text) {

@@ -1,6 +1,6 @@
 ghost use Rattle.std.specs.Prelude.{◌≡◌, Bool, Some, false};
 ghost use Rattle.line_io.specs.Transfers.{Writing};
-ghost use Rattle.link.specs.Each.{HasReadNow};
+ghost use Rattle.link.specs.Each.{HasReadNow, UsesFew};
 ghost use Rattle.framed_lib.specs.Live.{AnswersLive};
 ghost use Rattle.framed_lib.specs.Program.{RunEnds, unpacking};
 ghost use Rattle.framed_lib.specs.Working.{Worked, SaysLast, Reports};
@@ -36,6 +36,7 @@ pub struct Ran<R, W, E> {
 ///
 /// With `hex` the framed side is hexadecimal text, written in lower case. A sentinel is on each side of a frame, whose bytes are XORed with
 /// it. Unpacking bytes, a run has written the lines of everything before the last read, of at most 1024 bytes, before it makes that read.
+/// At most one call of the reader a byte, and one that ends the reading.
 ///
 /// # Errors
 /// The status is 0; 1 if a line was refused or a result isn't a value; 2 if the text isn't hexadecimal; 3 if a device failed; 4 if out of
@@ -59,6 +60,7 @@ pub fn run<R: Inlet, W: Outlet, E: Outlet>(
     ensures live { (strict : Bool) → unpacking mode ≡ Some strict → hex ≡ false
         → AnswersLive R.line W.line strict sentinel
         (reader, writer) (result.reader, result.writer) }
+    ensures calls { UsesFew (R.line reader) (R.line result.reader) 1 }
 {
     let (writer, worked) = work(alloc, mode, hex, sentinel, &mut reader, writer, &mut faults);
     let status = report(&mut faults, worked);
@@ -86,6 +88,7 @@ fn work<R: Inlet, W: Outlet, E: Outlet>(
         (Writing (E.line faults.old) (E.line faults.new)) result.1 }
     ensures live { (strict : Bool) → unpacking mode ≡ Some strict → hex ≡ false
         → AnswersLive R.line W.line strict sentinel (reader.old, writer) (reader.new, result.0) }
+    ensures calls { UsesFew (R.line reader.old) (R.line reader.new) 1 }
 {
     match mode {
         Mode::Pack => {

@@ -1,5 +1,6 @@
 ghost use Rattle.std.specs.Prelude.{◌≡◌, ℕ, List, true, false, None, Some, IsErr};
 ghost use Rattle.line_io.specs.Transfers.{Writing};
+ghost use Rattle.line_io.specs.declared.transfers.End.TheVariants.{ReadFault};
 ghost use Rattle.link.specs.Each.{HasReadNow, UsesFew, last_call};
 ghost use Rattle.framed_lib.specs.Live.{AnswersLive};
 ghost use Rattle.framed_lib.specs.Working.{Worked, TellsAnswers, outcome_of};
@@ -56,6 +57,7 @@ fn tell_answers<R: Inlet, W: Outlet>(
         × TellsAnswers strict sentinel result.end bytes result.good result.written
         (Writing (W.line writer) (W.line result.writer)) }
     ensures stopped { result.end ≡ None → (live ≡ true) × IsErr result.written }
+    ensures first { live ≡ true → result.end ≡ Some ReadFault → IsErr result.written → ⊥ }
     ensures live { live ≡ true → AnswersLive R.line W.line strict sentinel
         (reader.old, writer) (reader.new, result.writer) }
     ensures few { UsesFew (R.line reader.old) (R.line reader.new) (last_call result.end) }
@@ -94,10 +96,11 @@ fn unpack_hex<R: Inlet, W: Outlet, E: Outlet>(
     writer: W,
     faults: &mut E,
 ) -> (W, Result<u8, Stop>)
-    ensures { Worked (Some strict) true sentinel
+    ensures worked { Worked (Some strict) true sentinel
         (HasReadNow (R.line reader.old) (R.line reader.new))
         (Writing (W.line writer) (W.line result.0))
         (Writing (E.line faults.old) (E.line faults.new)) result.1 }
+    ensures calls { UsesFew (R.line reader.old) (R.line reader.new) 1 }
 {
     let mut text = Vec::new(alloc);
     match read_to_end(reader, &mut text) {
@@ -133,6 +136,7 @@ pub fn unpack<R: Inlet, W: Outlet, E: Outlet>(
         (Writing (E.line faults.old) (E.line faults.new)) result.1 }
     ensures live { hex ≡ false → AnswersLive R.line W.line strict sentinel
         (reader.old, writer) (reader.new, result.0) }
+    ensures calls { UsesFew (R.line reader.old) (R.line reader.new) 1 }
 {
     if hex {
         return unpack_hex(alloc, strict, sentinel, reader, writer, faults);

@@ -11,7 +11,7 @@ returns-then-strict-clause-received g c =
       h.bytes,
       h.read,
       record { answers = h.hands.answers; heard = h.hands.heard; so = rw c.if-strict.true (so.0, so.2) },
-      rw c.if-strict.true (asked_for _ _ _ _ _ _ true c.args.sentinel _ _ h.hands.answers h.bytes (record { after = c.new_with_sentinel-receiver.ensures.after; given = none_given _ _ 1024 c.args.sentinel }) h.asked),
+      rw c.if-strict.true (asked_for _ _ _ _ _ _ true c.args.sentinel _ _ _ _ _ h.hands.answers h.bytes (record { after = c.new_with_sentinel-receiver.ensures.after; given = none_given _ _ 1024 c.args.sentinel }) h.asked),
     )
 
 pub returns-then-strict-clause-few : goal.returns-then-strict-clause-few
@@ -24,7 +24,7 @@ returns-clause-received g c =
       h.bytes,
       h.read,
       record { answers = h.hands.answers; heard = h.hands.heard; so = rw c.if-strict.false (so.0, so.2) },
-      rw c.if-strict.false (asked_for _ _ _ _ _ _ false c.args.sentinel _ _ h.hands.answers h.bytes (record { after = c.new_with_sentinel-receiver.ensures.after; given = none_given _ _ 1024 c.args.sentinel }) h.asked),
+      rw c.if-strict.false (asked_for _ _ _ _ _ _ false c.args.sentinel _ _ _ _ _ h.hands.answers h.bytes (record { after = c.new_with_sentinel-receiver.ensures.after; given = none_given _ _ 1024 c.args.sentinel }) h.asked),
     )
 
 pub returns-clause-few : goal.returns-clause-few

@@ -1,10 +1,10 @@
-use Rattle.std.proofs.Common.{sym, subst}
+use Rattle.std.proofs.Common.{subst}
 use Rattle.framed_lib.specs.Live.{AnswersLive}
 use Rattle.framed_lib.proofs.LiveLemmas.{some_is}
 use Rattle.framed_lib.proofs.run.work.Goals as goal
 
 pub returns-in-Pack-clause-worked : goal.returns-in-Pack-clause-worked
-returns-in-Pack-clause-worked g c = rw c.in-Pack.is c.pack-worked.ensures
+returns-in-Pack-clause-worked g c = rw c.in-Pack.is c.pack-worked.ensures.worked
 
 pub returns-in-Pack-clause-live : goal.returns-in-Pack-clause-live
 returns-in-Pack-clause-live g c = rw c.in-Pack.is (λ strict e h. cc)

@@ -5,7 +5,7 @@ use Rattle.line_io.specs.Transfers.{Writing, broken}
 use Rattle.framed_lib.specs.Lines.{answer_lines}
 use Rattle.framed_lib.proofs.OutputLemmas.{put-flush, put-went}
 use Rattle.framed_lib.proofs.LinesLemmas.{received, all-same}
-use Rattle.framed_lib.proofs.LiveLemmas.{written_live}
+use Rattle.framed_lib.proofs.LiveLemmas.{written_live, fault_first}
 use Rattle.framed_lib.proofs.WorkLemmas.{is-err}
 use Rattle.link.specs.Each.{gave_now}
 use Rattle.framed_lib.proofs.unpack.tell_answers.Goals as goal
@@ -35,9 +35,12 @@ returns-clause-told g c =
 pub returns-clause-live : goal.returns-clause-live
 returns-clause-live g c = λ on.
     let h = c.hand_texts-end.ensures.received in (
-      h.0,
-      gave_now _ _ _ h.0 h.1,
-      written_live g.W.Outlet.line c.args.strict c.args.sentinel _ c.hand_texts-end.new.hearer _ h.0 c.write_rest-written.result on refl c.new.ensures h.3 c.write_rest-written.ensures.ok c.write_rest-written.ensures.err,
+      c.hand_texts-end.result,
+      (
+        h.0,
+        gave_now _ _ _ h.0 h.1,
+        written_live g.W.Outlet.line c.args.strict c.args.sentinel _ _ _ _ c.hand_texts-end.new.hearer _ h.0 c.write_rest-written.result on refl c.new.ensures h.3 c.write_rest-written.ensures.ok c.write_rest-written.ensures.err,
+      ),
     )
 
 pub returns-clause-stopped : goal.returns-clause-stopped
@@ -46,3 +49,8 @@ returns-clause-stopped g c = λ none.
     let k = c.hand_texts-end.new.hearer in
     let both = and_parts k.failed k.live (c.hand_texts-end.ensures.enough none) in
     (sym h.2.heard.live ∙ both.1, is-err c.write_rest-written.result k.failed both.0 (on_ok_weaker c.write_rest-written.result (λ o. o.0) c.write_rest-written.ensures.ok))
+
+pub returns-clause-first : goal.returns-clause-first
+returns-clause-first g c = λ on fault.
+    let k = c.hand_texts-end.new.hearer in
+    fault_first g.W.Outlet.line k _ c.write_rest-written.result (c.hand_texts-end.ensures.received.2.heard.live ∙ on) (c.hand_texts-end.ensures.fault fault) (c.hand_texts-end.ensures.settled (λ l. inl c.new.ensures)) c.write_rest-written.ensures.err

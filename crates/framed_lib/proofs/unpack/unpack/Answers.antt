@@ -3,11 +3,11 @@ use Rattle.line_io.specs.Calls.{WentOut-none}
 use Rattle.line_io.specs.Transfers.{Writing}
 use Rattle.link.specs.Each.{HasReadNow}
 use Rattle.link.specs.Firsts.{not_both as no_both}
-use Rattle.framed_lib.proofs.WorkLemmas.{bytes-worked}
+use Rattle.framed_lib.proofs.WorkLemmas.{bytes-worked, most-few}
 use Rattle.framed_lib.proofs.unpack.unpack.Goals as goal
 
 pub returns-then-hex-clause-worked : goal.returns-then-hex-clause-worked
-returns-then-hex-clause-worked g c = rw c.if-hex.true c.unpack_hex.ensures
+returns-then-hex-clause-worked g c = rw c.if-hex.true c.unpack_hex.ensures.worked
 
 pub returns-then-hex-clause-live : goal.returns-then-hex-clause-live
 returns-then-hex-clause-live g c = λ bytes. absurd (no_both c.args.hex c.if-hex.true bytes)
@@ -24,4 +24,10 @@ returns-clause-worked g c =
     (HasReadNow (g.R.Inlet.line c.args.reader.now) (g.R.Inlet.line c.tell_answers-told.new.reader))
     (Writing (g.W.Outlet.line c.args.writer) (g.W.Outlet.line told.writer))
     (Writing (g.E.Outlet.line c.args.faults.now) (g.E.Outlet.line c.args.faults.now))
-    told.good (WentOut-none _) told.end told.written t.told.2 t.told.1 (λ none. (t.stopped none).1))
+    told.good (WentOut-none _) told.end told.written t.told.2 t.told.1 (λ none. (t.stopped none).1) (t.first refl))
+
+pub returns-then-hex-clause-calls : goal.returns-then-hex-clause-calls
+returns-then-hex-clause-calls g c = c.unpack_hex.ensures.calls
+
+pub returns-clause-calls : goal.returns-clause-calls
+returns-clause-calls g c = most-few _ _ c.tell_answers-told.result.end c.tell_answers-told.ensures.few

@@ -4,35 +4,35 @@ use Rattle.line_io.specs.Transfers.{HasRead, Writing}
 use Rattle.line_io.specs.declared.transfers.End.TheVariants.{Ended, NoMemory}
 use Rattle.link.specs.Each.{HasReadNow}
 use Rattle.framed_lib.specs.Program.{bad_hex}
-use Rattle.framed_lib.proofs.WorkLemmas.{carried, digits-worked, ends-whole, read-whole, read-front}
+use Rattle.framed_lib.proofs.WorkLemmas.{carried, digits-worked, ends-whole, read-whole, read-front, text-few, front-few}
 use Rattle.framed_lib.proofs.unpack.unpack_hex.Goals as goal
 
-pub returns-in-NoMemory : goal.returns-in-NoMemory
-returns-in-NoMemory g c =
+pub returns-in-NoMemory-clause-worked : goal.returns-in-NoMemory-clause-worked
+returns-in-NoMemory-clause-worked g c =
     let line = g.R.Inlet.line in
     let reading = HasRead (line c.args.reader.now) (line c.read_to_end.new.inlet) NoMemory in
     let m = c.in-NoMemory.ensures.memory refl in
-    let lost = read-front reading c.new-text.ensures.items (m.0, m.1, m.2, m.3) in
-    carried (Some NoMemory) (c.read_to_end.new.bytes.items ++ lost.0) [] [] (refl, refl) lost.1
+    let lost = read-front reading c.new-text.ensures.items (m.0, m.1, m.2, m.3) m.4.0 in
+    carried (Some NoMemory) (c.read_to_end.new.bytes.items ++ lost.0) [] [] (refl, refl, lost.2) lost.1
     (WentOut-none _) (WentOut-none _)
 
-pub returns-in_default : goal.returns-in_default
-returns-in_default g c =
+pub returns-in_default-clause-worked : goal.returns-in_default-clause-worked
+returns-in_default-clause-worked g c =
     carried (Some Ended) c.read_to_end.new.bytes.items [] bad_hex
     (refl, refl, (c.if-not-decode_hex.ensures.bad refl, refl))
     (read-whole c.new-text.ensures.items (c.in-Ended.ensures.ended refl))
     (WentOut-none _) c.in_default.ensures.err
 
-pub returns-then-not-decode_hex : goal.returns-then-not-decode_hex
-returns-then-not-decode_hex g c =
+pub returns-then-not-decode_hex-clause-worked : goal.returns-then-not-decode_hex-clause-worked
+returns-then-not-decode_hex-clause-worked g c =
     let bad = c.if-not-decode_hex.ensures.bad refl in
     carried (Some Ended) c.read_to_end.new.bytes.items [] bad_hex
     (refl, inr (record { not_hex = bad; out_is = refl; said_is = refl; status_is = refl }))
     (read-whole c.new-text.ensures.items (c.in-Ended.ensures.ended refl))
     (WentOut-none _) c.in-Ok.ensures.ok
 
-pub returns : goal.returns
-returns g c =
+pub returns-clause-worked : goal.returns-clause-worked
+returns-clause-worked g c =
     let t = c.tell_answers-told.ensures in
     let told = c.tell_answers-told.result in
     let device = c.new-device.result in
@@ -50,3 +50,28 @@ returns g c =
     (read-whole c.new-text.ensures.items (c.in-Ended.ensures.ended refl))
     told.end t.told.0 told.written
     (rw (same ∙ c.deref.ensures.value) at read) t.told.2)
+
+pub returns-in-ReadFault-clause-calls : goal.returns-in-ReadFault-clause-calls
+returns-in-ReadFault-clause-calls g c =
+    let h = c.in-ReadFault.ensures.failed refl in
+    text-few _ _ _ _ h.0 h.1 h.2.0 c.read_to_end.ensures.few
+
+pub returns-in-NoMemory-clause-calls : goal.returns-in-NoMemory-clause-calls
+returns-in-NoMemory-clause-calls g c =
+    let m = c.in-NoMemory.ensures.memory refl in
+    front-few _ _ _ _ m.0 m.1 m.2 m.3.0 c.read_to_end.ensures.few
+
+pub returns-in_default-clause-calls : goal.returns-in_default-clause-calls
+returns-in_default-clause-calls g c =
+    let h = c.in-Ended.ensures.ended refl in
+    text-few _ _ _ _ h.0 h.1 h.2.0 c.read_to_end.ensures.few
+
+pub returns-then-not-decode_hex-clause-calls : goal.returns-then-not-decode_hex-clause-calls
+returns-then-not-decode_hex-clause-calls g c =
+    let h = c.in-Ended.ensures.ended refl in
+    text-few _ _ _ _ h.0 h.1 h.2.0 c.read_to_end.ensures.few
+
+pub returns-clause-calls : goal.returns-clause-calls
+returns-clause-calls g c =
+    let h = c.in-Ended.ensures.ended refl in
+    text-few _ _ _ _ h.0 h.1 h.2.0 c.read_to_end.ensures.few
