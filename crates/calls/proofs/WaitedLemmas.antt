@@ -1,7 +1,7 @@
 -- What answers make of a client that waits.
-use Rattle.std.proofs.Common.{◌≡◌, ℕ, Bool, true, false, cond, eqb, List, [], ◌∷◌, Option, Some, None, refl, sym, ap, ◌∙◌}
+use Rattle.std.proofs.Common.{◌≡◌, ℕ, Bool, true, false, cond, eqb, List, [], ◌∷◌, Option, Some, None, refl, sym, ap, ◌∙◌, subst}
 use Rattle.std.proofs.lemmas.Bool.{eqb-true}
-use Rattle.std.specs.Prelude.{is_none}
+use Rattle.std.specs.Prelude.{is_none, IsSome}
 use Rattle.link.specs.declared.receiver.Answer.{Answer}
 use Rattle.link.specs.declared.receiver.Answer.TheVariants.{Value, Damaged, TooLong, Cut}
 use Rattle.calls.specs.Asking.{number_of, stepped, ends}
@@ -71,3 +71,45 @@ module _ {Q R : Type 0} where
       by : (b : Bool) → b ≡ false → (cond b w (let u : Waiter Q R = record { asker = w.asker; said = None } in u)).said ≡ None
       by true f = absurd (cc)
       by false f = refl
+
+  -- Once no call is pending, answers change nothing.
+  over_same : (w : Waiter Q R) (answers : List (Answer (ℕ × R))) → w.asker.pending ≡ None → after_answers w answers ≡ w
+  over_same w [] e = refl
+  over_same w (Value p ∷ answers) e = by w.asker.pending e (over_same w answers e)
+    where
+      by : (o : Option (ℕ × Q)) → o ≡ None → after_answers w answers ≡ w → after_answers (after_reply w o p.0 p.1) answers ≡ w
+      by None f same = same
+      by (Some q) f same = absurd (cc)
+  over_same w (Damaged ∷ answers) e = over_same w answers e
+  over_same w (TooLong ∷ answers) e = over_same w answers e
+  over_same w (Cut ∷ answers) e = over_same w answers e
+
+  -- A call that was pending and is over has its reply.
+  replied : (w : Waiter Q R) (answers : List (Answer (ℕ × R))) → is_over w.asker ≡ false → is_over (after_answers w answers).asker ≡ true → IsSome (after_answers w answers).said
+  replied w [] pending over = absurd (let f : true ≡ false = sym over ∙ pending in cc)
+  replied w (Value p ∷ answers) pending over = by w.asker.pending (replied w answers pending) over
+    where
+      later : Waiter Q R
+      later = record { asker = stepped w.asker ends; said = Some p.1 }
+
+      numbered : (b : Bool) → (is_over (after_answers w answers).asker ≡ true → IsSome (after_answers w answers).said)
+          → is_over (after_answers (cond b later w) answers).asker ≡ true → IsSome (after_answers (cond b later w) answers).said
+      numbered true rest k = subst (λ (u : Waiter Q R). IsSome u.said) (sym (over_same later answers refl)) refl
+      numbered false rest k = rest k
+
+      by : (o : Option (ℕ × Q)) → (is_over (after_answers w answers).asker ≡ true → IsSome (after_answers w answers).said)
+          → is_over (after_answers (after_reply w o p.0 p.1) answers).asker ≡ true → IsSome (after_answers (after_reply w o p.0 p.1) answers).said
+      by None rest k = rest k
+      by (Some q) rest k = numbered (eqb p.0 q.0) rest k
+  replied w (Damaged ∷ answers) pending over = replied w answers pending over
+  replied w (TooLong ∷ answers) pending over = replied w answers pending over
+  replied w (Cut ∷ answers) pending over = replied w answers pending over
+
+  -- So of a call that is waited for.
+  pub has_reply : (w v : Waiter Q R) (answers : List (Answer (ℕ × R))) → v ≡ after_answers (anew w) answers → is_over w.asker ≡ false → is_over v.asker ≡ true → IsSome v.said
+  has_reply w v answers e pending over =
+      subst (λ (u : Waiter Q R). IsSome u.said) (sym e) (replied (anew w) answers (still (is_over w.asker) pending) (sym (ap (λ (u : Waiter Q R). is_over u.asker) e) ∙ over))
+    where
+      still : (b : Bool) → b ≡ false → is_over (cond b w (let u : Waiter Q R = record { asker = w.asker; said = None } in u)).asker ≡ false
+      still true f = absurd (cc)
+      still false f = pending

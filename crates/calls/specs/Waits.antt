@@ -1,7 +1,10 @@
 -- What a client that waits makes of the results of a line.
-use Rattle.std.specs.Prelude.{◌≡◌, ℕ, Bool, is_none, ◌==◌, if◌then◌else◌, List, [], ◌∷◌, Option, Some, None}
+use Rattle.std.specs.Prelude.{◌≡◌, ℕ, Bool, is_none, ◌==◌, if◌then◌else◌, List, [], ◌∷◌, Option, Some, None, ⊤}
 use Rattle.std.proofs.Common.{◌++◌, refl, sym, ap, ◌∙◌}
-use Rattle.link.specs.Each.{HearerLaws}
+use Rattle.line_io.specs.declared.transfers.End.{End}
+use Rattle.link.specs.Filled.{Filled}
+use Rattle.link.specs.Judged.{Judging}
+use Rattle.link.specs.Each.{HearerLaws, ListenerPlace, ListensUntil, hearing}
 use Rattle.link.specs.declared.receiver.Answer.{Answer}
 use Rattle.link.specs.declared.receiver.Answer.TheVariants.{Value}
 use Rattle.calls.specs.Asking.{Asker, asker_of, number_of, sender_of, stepped, ends}
@@ -48,6 +51,16 @@ WaitingHears old answers new = (waiter_of new ≡ after_answers (waiter_of old) 
 -- what waiting makes of results: what was said to an earlier call is let go first
 abbrev pub WaitsAnew : {W Q R : Type 0} {N : ℕ} → Waiting W Q R N → List (Answer (ℕ × R)) → Waiting W Q R N → Type 0
 WaitsAnew old answers new = (waiter_of new ≡ after_answers (anew (waiter_of old)) answers) × (sender_of new.client ≡ sender_of old.client)
+
+-- what was said to an earlier call is let go; else the client that waits is as it was
+abbrev pub LetsGo : {W Q R : Type 0} {N : ℕ} → Waiting W Q R N → Waiting W Q R N → Type 0
+LetsGo old new = (waiter_of new ≡ anew (waiter_of old)) × (sender_of new.client ≡ sender_of old.client)
+
+-- That is done first, and then the client listens read by read, each of at most so many bytes. Before each read its call was pending.
+abbrev pub WaitsUntil : {D W Q R : Type 0} {N : ℕ} → (D → Filled) → Judging (ℕ × R) → ℕ → ListenerPlace D (Waiting W Q R N) → ListenerPlace D (Waiting W Q R N) → Option End → Type 0
+WaitsUntil {W = W} {Q = Q} {R = R} {N = N} inside judging room before after end = (begun : Waiting W Q R N) × LetsGo before.hearer begun
+    × ListensUntil inside judging (hearing WaitingHears (λ w. is_over (asker_of w.client)) (λ w. ⊤)) room
+    (record { line = before.line; receiver = before.receiver; hearer = begun }) after end
 
 after_more : {Q R : Type 0} (w : Waiter Q R) (xs ys : List (Answer (ℕ × R))) → after_answers w (xs ++ ys) ≡ after_answers (after_answers w xs) ys
 after_more w [] ys = refl

@@ -1,10 +1,10 @@
 //! Waiting for the reply to a call.
-ghost use Rattle.std.specs.Prelude.{◌≡◌, ◌<◌, [], ◌∷◌, length, None, Some, true, false, ⊤};
+ghost use Rattle.std.specs.Prelude.{◌≡◌, ◌<◌, [], ◌∷◌, length, None, Some, IsSome, true, false, ⊤};
 ghost use Rattle.link.specs.Receivers.{SameTerms};
-ghost use Rattle.link.specs.Each.{Listens, MayLackMemory};
+ghost use Rattle.link.specs.Each.{Listens, MayLackMemory, listener_place};
 ghost use Rattle.line_io.specs.declared.transfers.End.TheVariants.{ReadFault};
 ghost use Rattle.calls.specs.Asking.{asker_of, sender_of};
-ghost use Rattle.calls.specs.Waits.{waiter_of, is_over, anew, WaitingHears, WaitsAnew, waiting_laws};
+ghost use Rattle.calls.specs.Waits.{waiter_of, is_over, anew, WaitingHears, WaitsAnew, WaitsUntil, waiting_laws};
 
 use crate::client::Client;
 use line_io::{Inlet, Outlet};
@@ -68,8 +68,9 @@ impl<W: Outlet, Q: Serialize + Drop, R: Drop, const N: usize> Hearer<(u64, R)>
 /// Receives until no call is pending, and returns `None` then; otherwise why reading stopped.
 ///
 /// If the call isn't pending any more its reply is in `said`; if it is, nothing was accepted, and `said` is empty. A reply to an
-/// earlier call is dropped first; replies under other numbers are passed over. What one read brought is processed to its end. It
-/// uses at most one call of the reader for each byte, and one more; none if no call is pending. Sends nothing.
+/// earlier call is dropped first; replies under other numbers are passed over. A read brings at most what `room` holds, and is
+/// processed to its end. It uses at most one call of the reader for each byte, and one more; none if no call is pending. Sends
+/// nothing.
 ///
 /// # Errors
 /// - `ReadFault`: a read failed, and the call is pending. The receiver keeps its state: if the reader had nothing yet, for example
@@ -117,8 +118,13 @@ pub fn wait_with<
     ensures heard { Listens D.inside (M.judging messages.now) WaitsAnew
         (I.line reader.old) (I.line reader.new) receiver.old receiver.new
         waiting.old waiting.new result }
+    ensures asked { WaitsUntil D.inside (M.judging messages.now) (length room.old)
+        (listener_place I.line reader.old receiver.old waiting.old)
+        (listener_place I.line reader.new receiver.new waiting.new) result }
     ensures over { result ≡ None → is_over (asker_of waiting.new.client) ≡ true }
     ensures fault { result ≡ Some ReadFault → is_over (asker_of waiting.new.client) ≡ false }
+    ensures taken { is_over (asker_of waiting.old.client) ≡ false
+        → is_over (asker_of waiting.new.client) ≡ true → IsSome (waiter_of waiting.new).said }
     ensures untaken { is_over (asker_of waiting.old.client) ≡ false
         → is_over (asker_of waiting.new.client) ≡ false → (waiter_of waiting.new).said ≡ None }
     ensures memory { MayLackMemory (M.judging messages.now).growing result }

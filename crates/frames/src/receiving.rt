@@ -309,7 +309,7 @@ impl FrameReceiver {
         }
     }
 
-    /// Takes a byte if it neither ends a stretch nor exceeds the limit, as most don't, and returns whether it did.
+    /// Takes a byte if it isn't the sentinel and is within the limit, as most are, and returns whether it did.
     ///
     /// If it didn't, nothing changed: call `push_byte` or `push_byte_plain`. It costs a few compares and a store, and the export for C
     /// calls it first, so such a byte costs no stack in an interrupt handler.
@@ -324,7 +324,8 @@ impl FrameReceiver {
         ensures counted { IsTrue result → (limit s : ℕ) (stream : List ℕ)
             → StandsBehind limit s self.old buffer.old stream
             → AnswersCounted limit s stream (byte ∷ []) buffer.new (found 1 0 None) }
-        ensures fits { IsTrue result → self.old.count ≤ length buffer.old }
+        ensures taken { IsTrue result ↔ ((byte ≢ self.old.sentinel) × (self.old.past ≡ 0)
+            × (self.old.count < length buffer.old)) }
         ensures unchanged { result ≡ false → (self.new ≡ self.old) × (buffer.new ≡ buffer.old) }
         ensures same { KeepsTerms self.old buffer.old self.new buffer.new }
     {

@@ -116,7 +116,7 @@ impl FrameSender {
 
     /// Writes the bytes of a plain send, of the message without its length, as `send` does, and returns how many there are.
     ///
-    /// If such a send is interrupted, it is received as nothing, as damaged, or as a message that is a prefix of this one.
+    /// If such a send is interrupted, it is received as nothing, damaged, too long, or as a message that is a prefix of this one.
     ///
     /// # Errors
     /// `DestBufTooSmallError` exactly if they don't fit. Nothing changes.

@@ -243,6 +243,7 @@ impl SmallReceiver {
         ensures message { IfOk result (λ p. IsInRoom (length buffer.new) p.event) }
         ensures fits { OnOk result (MayPush self.old buffer.old) }
         ensures wrong { OnErr result (MayPush self.old buffer.old → ⊥) }
+        ensures stays { OnOk result (MayPush self.new buffer.new) }
         ensures unchanged { OnErr result ((self.new ≡ self.old) × (buffer.new ≡ buffer.old)) }
         ensures room { length buffer.new ≡ length buffer.old }
         ensures sentinel { self.new.sentinel ≡ self.old.sentinel }
@@ -273,6 +274,7 @@ impl SmallReceiver {
         ensures message { IfOk result (λ p. IsInRoom (length buffer.new) p.event) }
         ensures fits { OnOk result (MayPush self.old buffer.old) }
         ensures wrong { OnErr result (MayPush self.old buffer.old → ⊥) }
+        ensures stays { OnOk result (MayPush self.new buffer.new) }
         ensures unchanged { OnErr result ((self.new ≡ self.old) × (buffer.new ≡ buffer.old)) }
         ensures room { length buffer.new ≡ length buffer.old }
         ensures sentinel { self.new.sentinel ≡ self.old.sentinel }

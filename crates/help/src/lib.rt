@@ -1,9 +1,9 @@
 //! What the programs share: `--help` and `--version`, the progress of long work, and whether damage is shown in colour.
 #![tactic(auto)]
 
-ghost use Rattle.std.specs.Prelude.{◌≡◌, ◌↔◌, ◌∷◌, [], map, string_bytes, Some, true};
+ghost use Rattle.std.specs.Prelude.{◌≡◌, ◌↔◌, ◌∷◌, [], map, string_bytes, None, Some, IfSome, true};
 ghost use Rattle.std.specs.List.{Contains};
-ghost use Rattle.help.specs.Words.{help_word, version_word};
+ghost use Rattle.help.specs.Words.{help_word, version_word, AsksOfItself};
 
 mod colours;
 mod progress;
@@ -86,7 +86,12 @@ fn say<W: Write>(out: &mut W, about: About, asked: Asked) -> io::Result<()> {
 ///
 /// # Errors
 /// The writer's.
-pub fn answer<W: Write>(out: &mut W, about: About, words: &[String]) -> Option<io::Result<()>> {
-    let asked = asked_by(words)?;
-    Some(say(out, about, asked))
+pub fn answer<W: Write>(out: &mut W, about: About, words: &[String]) -> Option<io::Result<()>>
+    ensures none { result ≡ None → AsksOfItself (map string_bytes words.now) → ⊥ }
+    ensures some { IfSome result (λ _. AsksOfItself (map string_bytes words.now)) }
+{
+    match asked_by(words) {
+        Some(asked) => Some(say(out, about, asked)),
+        None => None,
+    }
 }

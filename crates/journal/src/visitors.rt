@@ -1,5 +1,6 @@
 //! What receives the results of a log.
 ghost use Rattle.std.specs.Prelude.{◌≡◌, ℕ, List, [], ◌∷◌, ◌++◌, OnOk, OnErr, ⊤};
+ghost use Rattle.link.specs.Listening.{IsFilled};
 ghost use Rattle.link.specs.declared.receiver.Answer.{Answer};
 ghost use Rattle.journal.specs.Visits.{VisitorLaws};
 
@@ -58,7 +59,8 @@ pub trait Visitor<T> {
     ghost laws: { VisitorLaws took };
 }
 
-/// A visitor that keeps all results, and halts if it is out of memory.
+/// A visitor that keeps all results. It halts only if no memory is left for the next result, with the list full to its allocated
+/// capacity (`IsFilled`).
 ///
 /// # Allocates
 /// What the list grows by, at each result.
@@ -99,8 +101,8 @@ impl<T: Drop> Visitor<T> for Listed<T> {
 
     ghost took = { λ l a m. m.answers.items ≡ l.answers.items ++ a };
 
-    // if no memory is left for the result
-    ghost halts = { λ _. ⊤ };
+    // as a list with a free place always takes the next result
+    ghost halts = { λ l. IsFilled l.answers };
 
     ghost laws = { record {
       nothing = λ l. sym (append-nil l.answers.items);
@@ -110,7 +112,7 @@ impl<T: Drop> Visitor<T> for Listed<T> {
     fn visit(&mut self, answer: Answer<(u64, T)>) -> Result<(), Halt>
         ensures took { OnOk result
             (self.new.answers.items ≡ self.old.answers.items ++ answer ∷ []) }
-        ensures halts { OnErr result ⊤ }
+        ensures halts { OnErr result (IsFilled self.old.answers) }
         ensures kept { OnErr result (self.new.answers.items ≡ self.old.answers.items) }
     {
         match self.answers.push(answer) {

@@ -35,8 +35,9 @@ module _ {N : ℕ} where
     -- its sentinel stays
     pub sentinel : encoder_sentinel t ≡ encoder_sentinel s
 
-  -- the value is refused as a sender refuses it, or its bytes had no room
+  -- the value is refused as a sender refuses it; or its frame is within the limit, and its bytes had no room
   abbrev pub RefusesValue : LinkEncoder N → Option Tree → ℕ → EncodeError → Type 0
   RefusesValue s writes spare (Refused e) = IsRefusal N writes e
   RefusesValue s writes spare (Io e) = (tree : Tree) × (writes ≡ Some tree)
+      × IsSend IsTree N (encoder_sentinel s) (encoder_clean s) (completed tree)
       × LacksRoom (length (sent (encoder_sentinel s) (encoder_clean s) tree)) spare e

@@ -1,6 +1,6 @@
 //! One call to the device: its command is sent on standard output, the reply is received on standard input and printed on standard
 //! error. If reading ends without a reply it is sent again, with the same number, as often as the user allows.
-use crate::arguments::{Arguments, Numbers, arguments_of};
+use crate::arguments::{Arguments, Numbers};
 use crate::asking::{CallOutcome, ask};
 use crate::numbers::{NumbersError, skip_past, take_number};
 use std::fs::{File, OpenOptions};
@@ -35,14 +35,14 @@ fn skip(rt: &HostRuntime, path: &str, last: u64) -> io::Result<u8> {
 
 // Writes that the device passed the call over. An earlier copy of it may have been executed, for example if the line doubles what it
 // delivers. The file, if there is one, continues above the last number that the device executed.
-fn say_passed(rt: &HostRuntime, numbers: &Numbers, number: u64, last: u64) -> io::Result<u8> {
+fn say_passed(rt: &HostRuntime, numbers: Numbers<'_>, number: u64, last: u64) -> io::Result<u8> {
     if last == number {
         eprintln!(rt; "the device heard another call {number} last: this one is not done now")?;
     } else {
         eprintln!(rt; "the device heard call {last} last: call {number} is not done now")?;
     }
     match numbers {
-        Numbers::In(path) => skip(rt, path.as_str(), last),
+        Numbers::In(path) => skip(rt, path, last),
         Numbers::Number(_) => Ok(1),
     }
 }
@@ -60,13 +60,13 @@ fn say_unheard(rt: &HostRuntime, number: u64, unsent: bool, unread: bool) -> io:
 }
 
 // Calls with this number, and writes the result. Returns the status.
-fn call(rt: &HostRuntime, arguments: &Arguments, number: u64) -> io::Result<u8> {
+fn call(rt: &HostRuntime, arguments: Arguments<'_>, number: u64) -> io::Result<u8> {
     match ask(rt, number, arguments.again, arguments.command) {
         Ok(CallOutcome::Replied(report)) => {
             eprintln!(rt; "{report}")?;
             Ok(0)
         }
-        Ok(CallOutcome::Passed { last }) => say_passed(rt, &arguments.numbers, number, last),
+        Ok(CallOutcome::Passed { last }) => say_passed(rt, arguments.numbers, number, last),
         Ok(CallOutcome::Unheard { unsent, unread }) => say_unheard(rt, number, unsent, unread),
         Err(error) => {
             eprintln!(rt; "pump: {error}")?;
@@ -76,10 +76,10 @@ fn call(rt: &HostRuntime, arguments: &Arguments, number: u64) -> io::Result<u8> 
 }
 
 // Calls with the number that the arguments name. Returns the status.
-fn call_numbered(rt: &HostRuntime, arguments: &Arguments) -> io::Result<u8> {
-    match &arguments.numbers {
-        Numbers::Number(number) => call(rt, arguments, *number),
-        Numbers::In(path) => match take_number(rt, path.as_str()) {
+fn call_numbered(rt: &HostRuntime, arguments: Arguments<'_>) -> io::Result<u8> {
+    match arguments.numbers {
+        Numbers::Number(number) => call(rt, arguments, number),
+        Numbers::In(path) => match take_number(rt, path) {
             Ok(number) => call(rt, arguments, number),
             Err(error) => {
                 eprintln!(rt; "pump: {path}: {error}")?;
@@ -89,14 +89,11 @@ fn call_numbered(rt: &HostRuntime, arguments: &Arguments) -> io::Result<u8> {
     }
 }
 
-/// Makes the call of these arguments. Returns the status, or nothing if they are wrong.
-pub fn call_by(rt: &HostRuntime, words: &[String]) -> io::Result<Option<u8>> {
+/// Makes the call of these arguments. Returns the status.
+pub fn call_by(rt: &HostRuntime, arguments: Arguments<'_>) -> io::Result<u8> {
     let Ok(_streams) = hold_streams(rt) else {
         eprintln!(rt; "pump: /dev/null can't be opened")?;
-        return Ok(Some(3));
+        return Ok(3);
     };
-    match arguments_of(rt, words) {
-        Some(arguments) => Ok(Some(call_numbered(rt, &arguments)?)),
-        None => Ok(None),
-    }
+    call_numbered(rt, arguments)
 }

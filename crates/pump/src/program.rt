@@ -1,5 +1,6 @@
 //! The program: its arguments and its modes.
 use crate::about::{CONSOLE, DEVICE, PUMP};
+use crate::arguments::{Misuse, arguments_of};
 use crate::console::call_by;
 use crate::serving::serve;
 use help::{About, answer};
@@ -24,15 +25,26 @@ fn answered(rt: &HostRuntime, about: About, words: &[String]) -> io::Result<Opti
     }
 }
 
+// Writes which argument is wrong, and how it is called. Returns the status.
+fn say_wrong(rt: &HostRuntime, about: About, wrong: Misuse<'_>) -> io::Result<u8> {
+    let Misuse { word, why } = wrong;
+    eprintln!(rt; "pump: `{word}` {why}")?;
+    say_usage(rt, about)
+}
+
 // Serves, if no arguments follow `device`.
 fn serve_by(rt: &HostRuntime, words: &[String]) -> io::Result<u8> {
-    if words.is_empty() {
+    let [word, ..] = words else {
         return serve(rt);
+    };
+    if let Some(status) = answered(rt, DEVICE, words)? {
+        return Ok(status);
     }
-    match answered(rt, DEVICE, words)? {
-        Some(status) => Ok(status),
-        None => say_usage(rt, DEVICE),
-    }
+    let wrong = Misuse {
+        word: word.as_str(),
+        why: "is one word too many: `device` takes none",
+    };
+    say_wrong(rt, DEVICE, wrong)
 }
 
 // Calls by the arguments of `console`.
@@ -40,12 +52,10 @@ fn console_by(rt: &HostRuntime, words: &[String]) -> io::Result<u8> {
     if let Some(status) = answered(rt, CONSOLE, words)? {
         return Ok(status);
     }
-    if let Some(status) = call_by(rt, words)? {
-        return Ok(status);
+    match arguments_of(words) {
+        Ok(arguments) => call_by(rt, arguments),
+        Err(wrong) => say_wrong(rt, CONSOLE, wrong),
     }
-    let status = say_usage(rt, CONSOLE)?;
-    eprintln!(rt; "       NUMBER and TIMES are whole numbers below 2^64, MILLILITRES below 2^32")?;
-    Ok(status)
 }
 
 // Runs the mode that the arguments name.
@@ -57,9 +67,19 @@ fn run_by(rt: &HostRuntime, words: &[String]) -> io::Result<u8> {
             _ => {}
         }
     }
-    match answered(rt, PUMP, words)? {
-        Some(status) => Ok(status),
-        None => say_usage(rt, PUMP),
+    if let Some(status) = answered(rt, PUMP, words)? {
+        return Ok(status);
+    }
+    match words {
+        [word, ..] => say_wrong(
+            rt,
+            PUMP,
+            Misuse {
+                word: word.as_str(),
+                why: "isn't a mode: `device` or `console`",
+            },
+        ),
+        [] => say_usage(rt, PUMP),
     }
 }
 
@@ -81,7 +101,7 @@ fn run_or_say(rt: &HostRuntime) -> io::Result<u8> {
         }
         Err(error) => {
             eprintln!(rt; "pump: the arguments can't be read: {error}")?;
-            say_usage(rt, PUMP)
+            Ok(3)
         }
     }
 }

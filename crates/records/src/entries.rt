@@ -84,10 +84,16 @@ pub const INPUT: &str = "standard input";
 /// What standard output is called in messages.
 pub const OUTPUT: &str = "standard output";
 
+/// What a word or a file's name is called in messages: an empty one by its quotes.
+pub fn named(word: &str) -> &str {
+    if word.is_empty() { "''" } else { word }
+}
+
 /// Writes what failed about a file to standard error, and returns the status 3.
 pub fn say_failed<W: Display>(rt: &HostRuntime, file: &str, what: &W) -> u8 {
+    let name = named(file);
     // if this fails too, the status is the same
-    let _ = eprintln!(rt; "records: {file}: {what}");
+    let _ = eprintln!(rt; "records: {name}: {what}");
     3
 }
 

@@ -29,7 +29,7 @@ mod words;
 use crate::about::ABOUT;
 use crate::appending::append;
 use crate::checking::{check, mend};
-use crate::entries::{NULL, OUTPUT, hold_descriptors, say_error};
+use crate::entries::{NULL, OUTPUT, hold_descriptors, named, say_error};
 use crate::following::follow;
 use crate::showing::show;
 use crate::words::{NO_FILE, NO_OPTION, TOO_MANY, Wanted, WrongArgument, wanted_by};
@@ -43,8 +43,9 @@ const USAGE: &str =
 
 // Says which word is wrong, and how the program is called.
 fn say_wrong(rt: &HostRuntime, wrong: WrongArgument<'_>) -> io::Result<u8> {
-    let WrongArgument { word, why } = wrong;
-    eprintln!(rt; "records: {word}: {why}")?;
+    let name = named(wrong.word);
+    let why = wrong.why;
+    eprintln!(rt; "records: {name}: {why}")?;
     eprintln!(rt; "{USAGE}")?;
     Ok(2)
 }

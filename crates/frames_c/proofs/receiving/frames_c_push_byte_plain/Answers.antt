@@ -13,7 +13,7 @@ pub returns-then-stores-clause-answers : goal.returns-then-stores-clause-answers
 returns-then-stores-clause-answers c = c.stores.ensures.plain c.if-stores.true
 
 pub returns-then-stores-clause-misused : goal.returns-then-stores-clause-misused
-returns-then-stores-clause-misused c l = absurd (omega (arith, l, c.stores.ensures.fits c.if-stores.true))
+returns-then-stores-clause-misused c l = absurd (omega (arith, l, (c.stores.ensures.taken.0 c.if-stores.true).2))
 
 pub returns-clause-stands : goal.returns-clause-stands
 returns-clause-stands c =
