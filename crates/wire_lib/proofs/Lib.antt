@@ -1,3 +1,4 @@
+pub mod ArgumentsLemmas
 pub mod DamageLemmas
 pub mod DrawnLemmas
 pub mod FeedLemmas

@@ -1,3 +1,4 @@
+pub mod Arguments
 pub mod Damages
 pub mod Drawn
 pub mod Fronts

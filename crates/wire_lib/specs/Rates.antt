@@ -28,6 +28,8 @@ pub record HasTimed (r : Rate) (times : List ℕ) : Type 0 where
   pub none_later : (w : ℕ) → r.window < w → count_at w times ≡ 0
   -- the number of the latest window
   pub here : r.here ≡ capped (count_at r.window times)
+  -- the first window has none before it
+  pub first : r.window ≡ 0 → r.before ≡ 0
   -- the number of the window before it
   pub before : (w : ℕ) → w + 1 ≡ r.window → r.before ≡ capped (count_at w times)
 

@@ -1,6 +1,7 @@
 //! The arguments of the program after the type.
-ghost use Rattle.std.specs.Prelude.{◌≡◌, ◌≢◌, [], ◌∷◌, None, Ok, codes, IfSome, IsErr};
+ghost use Rattle.std.specs.Prelude.{◌≡◌, ◌↔◌, ◌<◌, ◌≤◌, ◌++◌, true, [], ◌∷◌, None, Ok, codes, IfSome, IfOk, IsErr, map, string_bytes};
 ghost use Rattle.hex.specs.Hex.{decode_sized};
+ghost use Rattle.wire_lib.specs.Arguments.{WritesNumber, AddsArgument, AreSetBy};
 
 use crate::DEPTH;
 
@@ -92,7 +93,11 @@ fn byte_of(digits: &str) -> Option<u8>
 }
 
 /// A limit of nested nodes by its digits, from 1 to `DEEPEST`.
-fn depth_of(value: &str) -> Option<u32> {
+fn depth_of(value: &str) -> Option<u32>
+    ensures number { IfSome result (λ n. WritesNumber 32 value.now n) }
+    ensures some { IfSome result (λ n. 0 < n) }
+    ensures most { IfSome result (λ n. n ≤ 1000) }
+{
     let depth = value.parse::<u32>().ok()?;
     if depth == 0 || depth > DEEPEST {
         return None;
@@ -100,19 +105,27 @@ fn depth_of(value: &str) -> Option<u32> {
     Some(depth)
 }
 
+/// Whether a value is `hex`.
+fn is_hex(value: &str) -> bool
+    ensures { result ≡ true ↔ value.now ≡ codes "hex" }
+{
+    match value {
+        "hex" => true,
+        _ => false,
+    }
+}
+
 /// The options with an argument that has a value after `=`.
 fn with_value<'a>(options: Options<'a>, name: &str, value: &'a str) -> Option<Options<'a>>
-    ensures sentinel { name.now ≡ codes "sentinel"
-        → IfSome result (λ new. decode_sized value.now 1 ≡ Ok (new.sentinel ∷ [])) }
+    ensures sets { IfSome result (λ new.
+        AddsArgument (name.now ++ (codes "=" ++ value.now)) options.entry new) }
     ensures none { name.now ≡ codes "sentinel" → result ≡ None → IsErr (decode_sized value.now 1) }
-    ensures other { name.now ≢ codes "sentinel"
-        → IfSome result (λ new. new.sentinel ≡ options.entry.sentinel) }
 {
     let mut options = options;
     match name {
         "sentinel" => options.sentinel = byte_of(value)?,
         "from" => options.from = value.parse::<u64>().ok()?,
-        "bytes" if value == "hex" => options.digits = true,
+        "bytes" if is_hex(value) => options.digits = true,
         "depth" => options.depth = depth_of(value)?,
         "empty" => options.empty = value.parse::<u64>().ok()?,
         "only" => options.only = Some(value),
@@ -122,7 +135,9 @@ fn with_value<'a>(options: Options<'a>, name: &str, value: &'a str) -> Option<Op
 }
 
 /// The options with one more argument.
-fn with_word<'a>(options: Options<'a>, word: &'a str) -> Option<Options<'a>> {
+fn with_word<'a>(options: Options<'a>, word: &'a str) -> Option<Options<'a>>
+    ensures { IfSome result (λ new. AddsArgument word.now options.entry new) }
+{
     let mut options = options;
     match word {
         "hex" => options.hex = true,
@@ -175,7 +190,9 @@ fn has_word(mode: Action, name: &str) -> bool {
 ///
 /// # Errors
 /// The first argument that the mode hasn't, or whose value is invalid; `raw` with a `sentinel` that isn't 00 or a `from` that isn't 0.
-pub fn options_of<'a>(mode: Action, words: &'a [String]) -> Result<Options<'a>, WrongWord<'a>> {
+pub fn options_of<'a>(mode: Action, words: &'a [String]) -> Result<Options<'a>, WrongWord<'a>>
+    ensures { IfOk result (λ options. AreSetBy (map string_bytes words.now) options) }
+{
     let mut options = PLAIN;
     for word in words {
         let word = word.as_str();

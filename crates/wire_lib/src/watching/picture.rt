@@ -1,5 +1,5 @@
 //! A table of messages as printable lines.
-ghost use Rattle.std.specs.Prelude.{◌≡◌, ℕ, ◌≤◌, List, length, IfOk, OnOk};
+ghost use Rattle.std.specs.Prelude.{◌≡◌, ℕ, ◌+◌, ◌<◌, ◌≤◌, List, length, IfOk, OnOk};
 ghost use Rattle.wire_lib.specs.Pictures.{FitInColumns};
 
 use crate::watching::printable::printable;
@@ -104,8 +104,12 @@ fn put_damages(
     Ok(())
 }
 
-/// Returns how many lines of a picture, its last ones, are about damage.
-pub fn damage_lines(table: &Table) -> usize {
+/// Returns how many lines of a picture, its last ones, are about damage: one for each text that is kept, and one for their number;
+/// none without damage.
+pub fn damage_lines(table: &Table) -> usize
+    ensures none { table.now.damaged ≡ 0 → result ≡ 0 }
+    ensures some { 0 < table.now.damaged → result ≡ length table.now.damages.items + 1 }
+{
     if table.damaged == 0 {
         return 0;
     }

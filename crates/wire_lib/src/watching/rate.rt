@@ -1,5 +1,5 @@
 //! How many messages come in a window of time.
-ghost use Rattle.std.specs.Prelude.{◌≡◌, ◌<◌, ℕ, List, [], ◌∷◌, max};
+ghost use Rattle.std.specs.Prelude.{◌≡◌, ◌<◌, ◌≤◌, ℕ, List, [], ◌∷◌, max};
 ghost use Rattle.wire_lib.specs.Rates.{HasTimed, IsRate, newest};
 
 /// The length of a window, in milliseconds.
@@ -58,10 +58,12 @@ impl Rate {
         }
     }
 
-    /// Returns how many messages came in the window before this one. If this one is earlier than the last in which any came, the
-    /// result isn't specified.
+    /// Returns how many messages came in the window before this one; window 0 has none before it. If this one is earlier than the last
+    /// in which any came, the result isn't specified.
     pub fn in_the_last(&self, window: u64) -> u64
-        ensures { (times : List ℕ) → HasTimed self.now times → IsRate times window result }
+        ensures rate { (times : List ℕ) → HasTimed self.now times → IsRate times window result }
+        ensures first { (times : List ℕ) → HasTimed self.now times → newest times ≤ window
+            → window ≡ 0 → result ≡ 0 }
     {
         if window <= self.window {
             return self.before;
