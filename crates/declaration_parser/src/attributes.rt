@@ -19,28 +19,25 @@ impl AttributeWalk {
         }
     }
 
-    /// The words of the next one, and the condition under which it is there; empty if there is none. Nothing at the end, which is
-    /// after as many as there are words.
-    pub fn next(&mut self, tokens: &Tokens) -> Option<(Words, Words)> {
+    /// The words of the next one, and the condition under which it is there; empty if there is none. All are gone over after as
+    /// many as there are words.
+    pub fn next(&mut self, tokens: &Tokens) -> (Words, Words) {
         if !self.parts.is_empty() {
             let (words, rest) = tokens.first_part(self.parts);
             self.parts = rest;
-            return Some((tokens.behind_attributes(words), self.condition));
-        }
-        if self.rest.is_empty() {
-            return None;
+            return (tokens.behind_attributes(words), self.condition);
         }
         let behind = self.rest.behind_first();
-        let (mut words, rest) = match tokens.attribute(self.rest) {
+        let (words, rest) = match tokens.attribute(self.rest) {
             Some((inside, rest)) => (tokens.behind_attributes(inside), rest),
             None => (self.rest.before(behind), behind),
         };
         self.rest = rest;
-        if matches!(tokens.front(words), Word::Conditional) {
-            (self.condition, self.parts) = tokens.first_part(tokens.held(words));
-            words = Words::default();
+        if !matches!(tokens.front(words), Word::Conditional) {
+            return (words, Words::default());
         }
-        Some((words, Words::default()))
+        (self.condition, self.parts) = tokens.first_part(tokens.held(words));
+        (Words::default(), Words::default())
     }
 }
 

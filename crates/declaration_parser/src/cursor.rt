@@ -3,8 +3,7 @@ use crate::faults::Faults;
 use crate::tokens::{NO_NAME, Name, Token, Tokens, Word, Words};
 use std::alloc::Global;
 
-/// Takes tokens from the start. What is wrong is noted and hides the tokens after it, so those who read need not ask after each
-/// step.
+/// Takes tokens from the start. What is wrong is noted and hides the tokens after it, so nobody has to ask after each step.
 #[derive(Drop)]
 pub struct Cursor<'a> {
     pub tokens: &'a Tokens,
@@ -117,6 +116,13 @@ impl<'a> Cursor<'a> {
             }
         }
         self.faults.put("`: ");
+    }
+
+    /// Takes what precedes the first of these words that no type encloses.
+    pub fn take_up_to(&mut self, ends: &[Word]) -> Words {
+        let begun = self.rest;
+        self.rest = self.tokens.type_up_to(begun, ends);
+        begun.before(self.rest)
     }
 
     /// Turns to these tokens, unless something is wrong.

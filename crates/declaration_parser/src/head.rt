@@ -97,9 +97,7 @@ impl Marking {
         };
         let mut walk = AttributeWalk::of(attributes);
         for _ in 0..=attributes.len() {
-            let Some((words, condition)) = walk.next(tokens) else {
-                break;
-            };
+            let (words, condition) = walk.next(tokens);
             let first = tokens.first(words);
             match first.word {
                 Word::Mark => marking.add_comment(tokens, first),

@@ -86,14 +86,11 @@ pub struct Walk<'a> {
 }
 
 impl Item {
-    /// Whether an attribute of this name is before it, under a condition or none. One that more conditions make, or that is written `r#name`,
-    /// may be any.
+    /// Whether it has an attribute of this name, also under a condition. One under more of them, or written `r#name`, may be any.
     pub fn has(&self, tokens: &Tokens, name: Word) -> bool {
         let mut walk = AttributeWalk::of(self.attributes);
         for _ in 0..=self.attributes.len() {
-            let Some((words, _)) = walk.next(tokens) else {
-                break;
-            };
+            let (words, _) = walk.next(tokens);
             let word = tokens.front(words);
             if word == name || matches!(word, Word::Conditional | Word::Raw) {
                 return true;
@@ -272,8 +269,7 @@ impl<'a> Walk<'a> {
         words.behind_first()
     }
 
-    /// Adds the files that a module may have: those that its attributes name, with `"` round them, and one of its own name in
-    /// any folder.
+    /// Adds the files that a module may have: those its attributes name, with `"` round them, and one of its name in any folder.
     fn add_elsewhere(&mut self, attributes: Words, name: Name) {
         self.add_scope(Kind::Elsewhere, name, 0);
         for place in attributes.from..attributes.to.saturating_sub(2) {

@@ -5,11 +5,11 @@ mod said;
 use crate::cursor::Cursor;
 use crate::declaration::{Body, Declaration, Field, Fields, Form, VariantOf};
 use crate::head::{Marking, wrong_word};
-use crate::items::behind_public;
+use crate::items::{BODY, behind_public};
 use crate::texts::is_listed;
 use crate::tokens::{NO_NAME, Name, Tokens, Word, Words};
 use crate::words::{
-    MOST_FIELDS, NO_MARK, OF_IMPLEMENTATIONS, ONLY_FIELD, OPEN, OTHER_DERIVE, TWICE, USED,
+    MOST_FIELDS, NO_MARK, OF_IMPLEMENTATIONS, ONLY_FIELD, OPEN, OTHER_DERIVE, RAW, TWICE, USED,
 };
 use by_hand::Implemented;
 use std::alloc::Global;
@@ -93,18 +93,9 @@ impl<'a, 'b> Parser<'a, 'b> {
         let name = tokens.text(word.name);
         self.at.want(word.is_name, "a name is wanted");
         let is_raw = matches!(word.word, Word::Raw);
-        self.refuse_in_code(
-            is_raw,
-            &[
-                "`r#",
-                name,
-                "` is raw, and Rattle has no raw names: call it otherwise, since names aren't sent",
-            ],
-        );
-        self.refuse_in_code(
-            !is_free && is_listed(name, OF_IMPLEMENTATIONS),
-            &["`", name, USED],
-        );
+        self.refuse_in_code(is_raw, &["`r#", name, RAW]);
+        let is_used = !is_free && is_listed(name, OF_IMPLEMENTATIONS);
+        self.refuse_in_code(is_used, &["`", name, USED]);
         word.name
     }
 
@@ -148,14 +139,12 @@ impl<'a, 'b> Parser<'a, 'b> {
         self.at.field = Some((place, name));
         let said = self.said(attributes);
         let is_left_out = self.is_left_out(said);
-        let rest = tokens.type_up_to(self.at.rest, ENDS);
-        let of = self.at.rest.before(rest);
+        let of = self.at.take_up_to(ENDS);
         if of.is_empty() {
             self.at.wrong(&["a type is wanted"]);
         } else {
             self.at.line = tokens.last(of).line;
         }
-        self.at.turn_to(rest);
         self.pass_value();
         if !self.at.is_wrong {
             self.at.field = None;
@@ -261,10 +250,7 @@ impl<'a, 'b> Parser<'a, 'b> {
                 Word::Lifetime => self.at.step().name,
                 _ => self.name_of(false),
             };
-            self.at.rest = self
-                .at
-                .tokens
-                .type_up_to(self.at.rest, &[Word::Comma, Word::Greater]);
+            self.at.take_up_to(&[Word::Comma, Word::Greater]);
             self.at.keep(parameters, name);
             if is_length {
                 self.at.keep(lengths, name);
@@ -281,12 +267,7 @@ impl<'a, 'b> Parser<'a, 'b> {
         if !self.at.take(Word::Where) {
             return Words::default();
         }
-        let begun = self.at.rest;
-        self.at.rest = self
-            .at
-            .tokens
-            .type_up_to(begun, &[Word::Brace, Word::Semicolon]);
-        begun.before(self.at.rest)
+        self.at.take_up_to(BODY)
     }
 
     /// Takes what is declared, and the bounds that follow fields in parentheses.

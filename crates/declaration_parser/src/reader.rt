@@ -224,7 +224,7 @@ impl<'a> Reader<'a> {
         self.faults.refuse(self.file, self.line, word, why);
     }
 
-    /// Reads a word, or a text or a character with letters before it.
+    /// Reads a word, also one behind `r#`, or a text or a character with letters before it.
     fn read_word(&mut self) {
         let after = self.rest.trim_start_matches(is_of_word);
         let word = front_of(self.rest, after);
@@ -239,16 +239,13 @@ impl<'a> Reader<'a> {
                 self.take_to(after);
                 self.read_token(behind_quoted(after));
             }
-            Some('#') if hashes == 1 && word == "r" => self.read_raw(raw),
+            Some('#') if hashes == 1 && word == "r" => {
+                self.take_to(raw);
+                let name = self.take_to(raw.trim_start_matches(is_of_word));
+                self.put(name, Some(Word::Raw), self.line);
+            }
             _ => self.read_token(after),
         }
-    }
-
-    /// Reads the name behind `r#`.
-    fn read_raw(&mut self, raw: &'a str) {
-        self.take_to(raw);
-        let text = self.take_to(raw.trim_start_matches(is_of_word));
-        self.put(text, Some(Word::Raw), self.line);
     }
 
     /// Reads the text that begins with this `"`, and which one with so many `#` ends.

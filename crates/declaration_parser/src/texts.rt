@@ -11,16 +11,6 @@ pub fn first_letter(word: &str) -> Option<char> {
     word.chars().next()
 }
 
-/// Whether a word is one of these.
-pub fn is_among(word: &str, words: &[&str]) -> bool {
-    for known in words {
-        if *known == word {
-            return true;
-        }
-    }
-    false
-}
-
 /// Whether a word is in a list, which has blanks between them.
 pub fn is_listed(word: &str, list: &str) -> bool {
     for known in list.split_whitespace() {

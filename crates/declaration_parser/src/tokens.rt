@@ -179,6 +179,11 @@ pub fn word_of(name: Name) -> Word {
     }
 }
 
+/// Whether a name of a path stands for a module by where it is used.
+pub fn is_start(name: Name) -> bool {
+    matches!(word_of(name), Word::Crate | Word::Own | Word::Super)
+}
+
 impl Words {
     /// Whether there are none.
     pub fn is_empty(self) -> bool {

@@ -57,6 +57,9 @@ pub const OPEN: &str = "` begins what a comma is in, which isn't followed here: 
 pub const TWICE: &str =
     "` is declared twice here: give one of them another name, since names aren't sent";
 
+pub const RAW: &str =
+    "` is raw, and Rattle has no raw names: call it otherwise, since names aren't sent";
+
 pub const USED: &str = "` is also a name that the implementations use: call it otherwise";
 
 /// Words of serde's attributes that change no byte.
@@ -77,16 +80,17 @@ pub const OF_SERDE: &[&str] = &[
 ];
 
 /// What the paths of attributes begin with that change no byte.
-pub const TOOLS: &str = "clippy diagnostic rustfmt typeshare";
+pub const TOOLS: &str = "clippy diagnostic pyo3 rustfmt typeshare wasm_bindgen";
 
 /// Attributes of declarations that change no byte: those of the language, and helpers of derives that are often met.
 pub const OF_ITEMS: &str = "
     allow arbitrary archive archive_attr arg automatically_derived backtrace bincode bits borsh
-    br brw builder bw cbor cfg clap command defmt deku deny deprecated deref derivative
-    derive display doc educe enumset error expect facet forbid from garde get getset
-    into max_size must_use n non_exhaustive num_enum packed_struct postcard proptest repr rkyv
-    schema schemars set snafu source specta strum strum_discriminants try_into ts tsify
-    validate value warn zeroize
+    br brw builder bw cbor cfg clap codec command component defmt deku deny deprecated deref
+    derivative derive diesel display doc educe enumset error expect facet forbid from garde get
+    getset graphql group into into_params max_size must_use n nom non_exhaustive num_enum oai
+    packed_struct postcard proptest prost pyclass rasn reflect repr require rkyv rtype schema
+    schemars set snafu source specta sqlx strum strum_discriminants structopt tabled try_into ts
+    tsify validate valuable value warn zeroize
 ";
 
 /// Names that the implementations use: those of postcard, of its parameters, and of what writes.

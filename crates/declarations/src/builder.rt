@@ -99,12 +99,12 @@ fn find_unreadable(nodes: &[Node], readable: &mut [bool]) -> bool {
 }
 
 /// What a path begins with that names a layout: each has to lead out of the files.
-fn roots_of(layout: Layout) -> &'static [&'static str] {
+fn roots_of(layout: Layout) -> &'static str {
     match layout {
-        Layout::Little | Layout::Big => &["postcard"],
-        Layout::Buffer => &["serde_bytes"],
-        Layout::Array => &["BigArray", "serde_big_array", "serde_arrays"],
-        Layout::Own => &[],
+        Layout::Little | Layout::Big => "postcard",
+        Layout::Buffer => "serde_bytes",
+        Layout::Array => "BigArray serde_big_array serde_arrays",
+        Layout::Own => "",
     }
 }
 
@@ -157,7 +157,7 @@ impl<'a> Builder<'a> {
     fn turn_to(&mut self, at: Context) {
         self.at = at;
         self.words.is_without_line = at.scope == self.asked;
-        self.words.file = self.names.file_of(at.scope);
+        self.words.file = self.names.scope(at.scope).file;
     }
 
     /// Appends a node, and gives its place.
@@ -316,11 +316,9 @@ impl<'a> Builder<'a> {
         }
         self.words.line = self.tokens.first(field.of).line;
         let roots = roots_of(field.layout);
-        for root in roots {
-            if !self
-                .names
-                .is_foreign(self.at.scope, self.tokens.found_name(root), roots)
-            {
+        for root in roots.split_whitespace() {
+            let name = self.tokens.found_name(root);
+            if !self.names.is_foreign(self.at.scope, name, roots) {
                 return self.wrong(&[
                     "`with` names something of these files or of another crate here: write the type that is on the wire",
                 ]);

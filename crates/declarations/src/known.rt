@@ -125,11 +125,11 @@ pub fn is_everywhere(word: &str) -> bool {
     is_primitive(word) || is_listed(word, "Box Option Result String Vec")
 }
 
-/// Whether the types of the crate of this name are known by theirs.
+/// Whether the types of the crate of this name are known by theirs, as far as they can be sent.
 pub fn is_known_crate(name: &str) -> bool {
     is_listed(
         name,
-        "alloc arrayvec core hashbrown heapless postcard serde_bytes std",
+        "alloc arrayvec core defmt hashbrown heapless postcard serde serde_bytes std",
     )
 }
 

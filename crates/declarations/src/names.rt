@@ -26,7 +26,7 @@ pub enum What {
     Marked(usize),
     /// A type that isn't marked.
     Unmarked,
-    /// What an alias stands for.
+    /// The words of an alias after its name.
     Alias(Words),
     /// A constant: the words of its type, and those that it is computed of.
     Constant(Words, Words),
@@ -137,7 +137,7 @@ impl<'a> Scopes<'a> {
     }
 
     /// The scope at a place; one in no file if there is none.
-    fn scope(&self, place: usize) -> Scope {
+    pub fn scope(&self, place: usize) -> Scope {
         match self.scopes.get(place) {
             Some(it) => *it,
             None => Scope {
@@ -159,13 +159,7 @@ impl<'a> Scopes<'a> {
         place
     }
 
-    /// The file of a scope, by its place.
-    pub fn file_of(&self, scope: usize) -> usize {
-        self.scope(scope).file
-    }
-
-    /// The scope of a marked declaration, and whether another in it precedes it by the same name; none of one that is in the words
-    /// of another item.
+    /// The scope of a marked declaration, unless it is in another item's words, and whether another in it precedes it by its name.
     pub fn stand(&self, index: usize) -> Option<(usize, bool)> {
         let mut own: Option<&Item> = None;
         for it in self.items.iter().rev() {

@@ -16,13 +16,14 @@ use crate::text::Text;
 use declaration_parser::faults::Faults;
 use declaration_parser::parser::Purpose;
 use declaration_parser::reading::{AllDeclared, declarations};
-use declaration_parser::texts::is_of_word;
+use declaration_parser::texts::{is_listed, is_of_word};
 use declaration_parser::tokens::Tokens;
 use help::{About, answer};
 use std::alloc::{AllocError, Global};
 use std::env;
 use std::io::{self, ErrorKind};
 use std::process::ExitCode;
+use unicode_ident::is_xid_start;
 
 /// How the program is called.
 const USAGE: &str = "usage: postcard_derive CRATE [MODULE].. [--schemas]";
@@ -40,21 +41,56 @@ where a declaration can't be, 2 at wrong words, 3 if a device failed, 4 out of m
     usage: USAGE,
 };
 
-/// Whether a word can name a crate or a module.
-fn is_name(word: &str) -> bool {
-    for character in word.chars() {
-        if !is_of_word(character) {
+/// Words that name no crate and no module, since Rattle has no raw names.
+const KEYWORDS: &str =
+    "_ abstract as async await become box break const continue crate do dyn else enum extern false \
+    final fn for gen if impl in let loop macro match mod move mut override priv pub ref return self Self static struct \
+    super trait true try type typeof unsafe unsized use virtual where while yield";
+
+/// Whether a word begins with a letter or `_`, and has letters, digits and `_` after it.
+fn is_identifier(word: &str) -> bool {
+    for (place, character) in word.chars().enumerate() {
+        let fits = is_of_word(character);
+        if !fits || (place == 0 && character != '_' && !is_xid_start(character)) {
             return false;
         }
     }
     !word.is_empty()
 }
 
+/// Why a word can't name a crate or a module, if it can't.
+fn why_no_name(word: &str) -> Option<&'static str> {
+    if word.starts_with("--") {
+        return Some("is no option here: write `--schemas` once, as the last word");
+    }
+    if !is_identifier(word) {
+        return Some(
+            "names no crate or module: write a letter or `_`, then letters, digits and `_`",
+        );
+    }
+    is_listed(word, KEYWORDS).then_some("names no crate or module: it is a word of the language")
+}
+
+/// Writes which of the words is wrong, if one is, and how the program is called; the status.
+fn say_wrong(rt: &HostRuntime, names: &[String]) -> io::Result<u8> {
+    if names.is_empty() {
+        eprintln!(rt; "postcard_derive: CRATE is missing")?;
+    }
+    for name in names {
+        if let Some(why) = why_no_name(name.as_str()) {
+            eprintln!(rt; "postcard_derive: `{name}` {why}")?;
+            break;
+        }
+    }
+    eprintln!(rt; "{USAGE}")?;
+    Ok(2)
+}
+
 /// The path of the definitions of a module: of the crate and the modules in it that these name; empty if one is no name.
 fn path_of(alloc: Global, names: &[String]) -> Result<String, AllocError> {
     let mut path = Faults::new(alloc);
     for (place, name) in names.iter().enumerate() {
-        if !is_name(name.as_str()) {
+        if why_no_name(name.as_str()).is_some() {
             return Ok(String::new(alloc));
         }
         path.put_all(&[".", name, if place > 0 { "" } else { ".specs.declared" }]);
@@ -62,8 +98,7 @@ fn path_of(alloc: Global, names: &[String]) -> Result<String, AllocError> {
     path.finished()
 }
 
-/// Writes the implementations of the text on standard input, or what is wrong to standard error; the status. `device` is the one
-/// that an error is of.
+/// Writes the implementations of standard input, or what is wrong to standard error; the status. An error is of the `device`.
 fn run(
     rt: &HostRuntime,
     device: &mut &'static str,
@@ -107,8 +142,8 @@ fn run_by(rt: &HostRuntime, device: &mut &'static str) -> io::Result<u8> {
     };
     let path = path_of(rt.alloc(), names)?;
     if path.is_empty() {
-        let said = eprintln!(rt; "{USAGE}");
-        return Ok(if said.is_ok() { 2 } else { 3 });
+        // if that can't be written, nothing else can
+        return Ok(say_wrong(rt, names).unwrap_or(3));
     }
     run(rt, device, path.as_str(), with_schemas)
 }

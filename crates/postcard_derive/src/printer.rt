@@ -1,6 +1,6 @@
 //! From declarations to implementations, which `rt fmt` lays out.
-use crate::text::Text;
-use declaration_parser::declaration::{Body, Declaration, VariantOf};
+use crate::text::{Part, Text};
+use declaration_parser::declaration::{Body, Declaration};
 use declaration_parser::faults::Faults;
 use declaration_parser::tokens::NO_NAME;
 use std::alloc::{AllocError, Global};
@@ -120,13 +120,8 @@ impl Text<'_> {
     /// Appends what a word of a template stands for: of the declaration its name; its parameters, as
     /// [`put_parameters`](Text::put_parameters) has them; its bounds; and the path of the module's definitions; of its variant, or of
     /// what is behind all of them, how many fours and then single ones precede it.
-    fn put_word(
-        &mut self,
-        it: &Declaration,
-        index: usize,
-        variant: Option<&VariantOf>,
-        word: &str,
-    ) {
+    fn put_word(&mut self, part: Part<'_>, word: &str) {
+        let (it, index, _) = part;
         let all_fours = self.count.saturating_sub(1) / 4;
         let fours = all_fours.min(index / 4);
         let ones = index.saturating_sub(all_fours.saturating_mul(4));
@@ -151,12 +146,11 @@ impl Text<'_> {
             "before" => self.put(if index > 0 { ", " } else { "" }),
             "index" => self.put_numbered("", index),
             "opens" | "holder" | "by" => self.put_holder(index, all_fours, word),
-            _ => self.put_of_fields(it, variant, word),
+            _ => self.put_of_fields(part, word),
         }
     }
 
-    /// Appends what holds a variant in the shape of its enum: the type, with `<` where that `opens`, or the constructor that it is held
-    /// `by`.
+    /// Appends what holds a variant in its enum's shape: the type, with `<` where it `opens`, or the constructor it is held `by`.
     fn put_holder(&mut self, index: usize, all_fours: usize, word: &str) {
         let (holder, by) = match index % 4 {
             _ if index.saturating_add(1) == self.count => ("Last", "Last"),
@@ -175,28 +169,22 @@ impl Text<'_> {
     }
 
     fn put_template(&mut self, it: &Declaration, template: &str) {
-        for (place, part) in template.split('@').enumerate() {
+        for (place, piece) in template.split('@').enumerate() {
             match &it.body {
                 Body::Enum(variants) if place % 2 > 0 => {
                     for (index, variant) in variants.iter().enumerate() {
-                        self.put_part(it, index, Some(variant), part);
+                        self.put_part((it, index, Some(variant)), piece);
                     }
                 }
-                _ => self.put_part(it, self.count, None, part),
+                _ => self.put_part((it, self.count, None), piece),
             }
         }
     }
 
-    /// Appends a part of a template, which may be a row for a variant.
-    fn put_part(
-        &mut self,
-        it: &Declaration,
-        index: usize,
-        variant: Option<&VariantOf>,
-        part: &str,
-    ) {
-        for word in part.split('%') {
-            self.put_word(it, index, variant, word);
+    /// Appends a piece of a template, which may be a row for a variant.
+    fn put_part(&mut self, part: Part<'_>, piece: &str) {
+        for word in piece.split('%') {
+            self.put_word(part, word);
         }
     }
 
@@ -225,18 +213,14 @@ impl Text<'_> {
     pub fn finished(self, alloc: Global) -> Result<String, AllocError> {
         let tokens = self.origins.tokens;
         let written = self.made.finished()?;
+        let mut whole = Faults::new(alloc);
         let mut names = BTreeSet::new(alloc);
         for (_, name) in &self.uses {
-            names.insert(tokens.text(*name))?;
+            whole.note(names.insert(tokens.text(*name)).is_err());
         }
-        let mut whole = Faults::new(alloc);
         let in_tables = written.contains("{ as_its_shape }");
-        whole.put_all(&[
-            HEAD,
-            if in_tables { OF_TABLES } else { "" },
-            LEMMAS,
-            "use super",
-        ]);
+        let tables = if in_tables { OF_TABLES } else { "" };
+        whole.put_all(&[HEAD, tables, LEMMAS, "use super"]);
         for (place, name) in names.iter().enumerate() {
             whole.put_all(&[if place > 0 { ", " } else { "::{" }, name]);
         }

@@ -89,6 +89,7 @@ impl Origins<'_> {
         let name = tokens.text(word.name);
         let (first, from) = (tokens.text(head.name), tokens.text(self.origin(head.name)));
         let is_alone = !word.is_led && !word.leads;
+        let is_known = from == "std" || is_listed(first, "alloc core heapless std");
         let behind = place.saturating_add(2);
         let token = tokens.at(place);
         match name {
@@ -113,9 +114,7 @@ impl Origins<'_> {
             _ if is_alone => no_message(from, name),
             _ if is_capital(first) => "` leads to a type of its own: write that type itself",
             _ if word.leads => "",
-            _ if from == "std" || is_listed(first, "alloc core heapless std") => no_message(
-                first, name,
-            ),
+            _ if is_known => no_message(first, name),
             _ => "",
         }
     }

@@ -2,7 +2,7 @@
 use declaration_parser::declaration::Declaration;
 use declaration_parser::derives::{has_own, has_serdes};
 use declaration_parser::texts::{first_letter, is_listed};
-use declaration_parser::tokens::{NO_NAME, Name, Token, Tokens, Word, word_of};
+use declaration_parser::tokens::{NO_NAME, Name, Token, Tokens, Word, is_start, word_of};
 use std::alloc::{AllocError, Global};
 
 /// The names that a file has.
@@ -21,10 +21,8 @@ impl<'a> Origins<'a> {
         let mut before = Token::default();
         let mut head = NO_NAME;
         for token in &tokens.all {
-            let is_declared = is_listed(
-                tokens.text(before.name),
-                "struct enum union type mod trait const",
-            );
+            let word = tokens.text(before.name);
+            let is_declared = is_listed(word, "struct enum union type mod trait const");
             let (name, from) = match token.word {
                 _ if is_declared => (token.name, own),
                 Word::Semicolon | Word::Comma | Word::Close => (before.name, head),
@@ -67,9 +65,8 @@ impl<'a> Origins<'a> {
                 ("*", "*") => matches!(word_of(*from), Word::Crate | Word::Own),
                 ("Serialize" | "Deserialize", "*") => has_own(krate),
                 _ if name != wanted => false,
-                ("Serialize" | "Deserialize", _) if is_of_crate(*from) || has_serdes(krate) =>
-                    false,
-                ("Serialize" | "Deserialize", _) => !is_of_crate(origin)
+                ("Serialize" | "Deserialize", _) if is_start(*from) || has_serdes(krate) => false,
+                ("Serialize" | "Deserialize", _) => !is_start(origin)
                     && !has_serdes(self.tokens.text(origin)),
                 _ => krate != wanted,
             };
@@ -80,17 +77,16 @@ impl<'a> Origins<'a> {
         false
     }
 
-    /// Whether a word of a type has to be brought in, also one that nobody declares; or one of a bound, if it is none of the traits
-    /// that the implementations have.
+    /// Whether a type's word has to be brought in, also one that nobody declares; or a bound's, unless the implementations have it.
     pub fn is_brought_in(&self, it: &Declaration, word: PathWord, is_bound: bool) -> bool {
         let name = word.name;
         let (from, text) = (self.origin(name), self.tokens.text(name));
         match (is_bound, word.leads) {
-            _ if word.is_led || is_of_crate(name) || it.parameters.contains(&name) => false,
+            _ if word.is_led || is_start(name) || it.parameters.contains(&name) => false,
             (true, _) => from != NO_NAME && !is_listed(text, "Flavor Readable Serialize Shaped"),
             (_, true) => from != NO_NAME,
             // of the language, unless the file has another
-            _ if is_listed(text, "Box Option Result String Vec") => is_of_crate(from),
+            _ if is_listed(text, "Box Option Result String Vec") => is_start(from),
             _ => is_capital(text),
         }
     }
@@ -123,11 +119,6 @@ pub fn are_at(tokens: &Tokens, place: usize, wanted: &str) -> bool {
         }
     }
     true
-}
-
-/// Whether a name begins a path within the crate.
-fn is_of_crate(name: Name) -> bool {
-    matches!(word_of(name), Word::Crate | Word::Own | Word::Super)
 }
 
 /// Whether a word begins with a capital letter.

@@ -41,6 +41,9 @@ fn is_fixed(field: &Field) -> bool {
     matches!(field.layout, Layout::Little | Layout::Big)
 }
 
+/// A declaration, or one of its variants, with the place of this among all; with their number if it is none of them.
+pub type Part<'r> = (&'r Declaration, usize, Option<&'r VariantOf>);
+
 /// A text that is made.
 #[derive(Drop)]
 pub struct Text<'a> {
@@ -113,8 +116,7 @@ impl<'a> Text<'a> {
         }
     }
 
-    /// Appends a parameter without its default: without bounds for an `alias`, else with them and, if it is a type, with this one
-    /// too, unless it is `plain`.
+    /// Appends a parameter without its default: for an `alias` without bounds too, else a type with this one too, unless `plain`.
     fn put_parameter(&mut self, it: &Declaration, words: Words, bound: &str) {
         let tokens = self.origins.tokens;
         let front = tokens.front(words);
@@ -138,12 +140,10 @@ impl<'a> Text<'a> {
 
     /// Appends the parameters of a declaration, each as [`put_parameter`](Text::put_parameter) has it, or their `names`.
     pub fn put_parameters(&mut self, it: &Declaration, bound: &str) {
+        let tokens = self.origins.tokens;
         let mut rest = it.generics.behind_first();
         for (place, name) in it.parameters.iter().enumerate() {
-            let behind = self
-                .origins
-                .tokens
-                .type_up_to(rest, &[Word::Comma, Word::Greater]);
+            let behind = tokens.type_up_to(rest, &[Word::Comma, Word::Greater]);
             self.put(if place > 0 { ", " } else { "<" });
             match bound {
                 "names" => self.put_name(*name),
@@ -173,14 +173,8 @@ impl<'a> Text<'a> {
         }
     }
 
-    fn put_list(
-        &mut self,
-        it: &Declaration,
-        open: &str,
-        fields: &[Field],
-        place: &str,
-        close: &str,
-    ) {
+    fn put_list(&mut self, it: &Declaration, fields: &[Field], place: &str, ends: [&str; 2]) {
+        let [open, close] = ends;
         self.put(open);
         for (count, field) in fields.iter().enumerate() {
             self.put(if count > 0 { ", " } else { "" });
@@ -189,13 +183,12 @@ impl<'a> Text<'a> {
         self.put(close);
     }
 
-    /// Appends a tuple; one field stands for itself, and more than six are in rows, of which the names are for `rows`. Those are
-    /// taken `apart`.
+    /// Appends a tuple; one field stands for itself, and more than six are in rows, which `rows` names and which are taken `apart`.
     fn put_tuple(&mut self, it: &Declaration, fields: &[Field], place: &str) {
         match fields {
             [] => return self.put(spelling_of(place)[2]),
             [field] => return self.put_field(it, field, place, true),
-            _ if fields.len() <= ROW => return self.put_list(it, "(", fields, place, ")"),
+            _ if fields.len() <= ROW => return self.put_list(it, fields, place, ["(", ")"]),
             _ => {}
         }
         let is_apart = place == "apart";
@@ -206,19 +199,20 @@ impl<'a> Text<'a> {
                 [_] if is_apart => {}
                 [field] => self.put_field(it, field, place, false),
                 _ if is_apart => {
-                    self.put_list(it, "        let (", row, "taken", ") = row_");
+                    self.put_list(it, row, "taken", ["        let (", ") = row_"]);
                     self.put_numbered("", count);
                     self.put(";\n");
                 }
                 _ if place == "rows" => self.put_numbered("row_", count),
-                _ => self.put_list(it, "(", row, place, ")"),
+                _ => self.put_list(it, row, place, ["(", ")"]),
             }
         }
         self.put(if is_apart { "" } else { ")" });
     }
 
     /// Appends what a word stands for in a struct or a variant: its `value` has the names to which its fields are bound.
-    pub fn put_of_fields(&mut self, it: &Declaration, variant: Option<&VariantOf>, word: &str) {
+    pub fn put_of_fields(&mut self, part: Part<'_>, word: &str) {
+        let (it, _, variant) = part;
         let (name, fields) = match (variant, &it.body) {
             (Some(variant), _) => (variant.name, &variant.fields),
             (None, Body::Struct(fields)) => (it.name, fields),
@@ -226,17 +220,17 @@ impl<'a> Text<'a> {
         };
         let own = self.origins.tokens.text(name);
         let items = fields.items.as_slice();
-        let (open, close) = match fields.form {
-            Form::Unit => ("", ""),
-            Form::Tuple => ("(", ")"),
-            Form::Named => (" { ", " }"),
+        let ends = match fields.form {
+            Form::Unit => ["", ""],
+            Form::Tuple => ["(", ")"],
+            Form::Named => [" { ", " }"],
         };
         match word {
             "apart" if items.len() <= ROW => {}
             _ if is_listed(word, PLACES) => self.put_tuple(it, items, word),
             "value" => {
                 self.put(own);
-                self.put_list(it, open, items, word, close);
+                self.put_list(it, items, word, ends);
             }
             "variant" => self.put(own),
             // the constructors of shapes have these names

@@ -20,12 +20,9 @@ fn names_of(alloc: Global, name: Name, tokens: &Tokens) -> Result<Vec<Name>, All
     let mut names = Vec::new(alloc);
     names.push(name)?;
     for place in 0..tokens.all.len() {
-        let (by, other) = (
-            tokens.at(place.saturating_add(1)),
-            tokens.at(place.saturating_add(2)),
-        );
-        if tokens.at(place).name == name && matches!(by.word, Word::As) {
-            names.push(other.name)?;
+        let by = place.saturating_add(1);
+        if tokens.at(place).name == name && tokens.at(by).word == Word::As {
+            names.push(tokens.at(by.saturating_add(1)).name)?;
         }
     }
     Ok(names)
@@ -40,8 +37,7 @@ impl Implemented {
         Ok(all)
     }
 
-    /// The types that implement a trait of this name. An item may name what another one declares, so all are gone over while more
-    /// is found.
+    /// The types that implement a trait of this name. Since an item may name another's, all are gone over while more is found.
     fn of(alloc: Global, name: Name, tokens: &Tokens) -> Result<Implemented, AllocError> {
         let mut found = Implemented {
             name,
@@ -76,8 +72,7 @@ impl Implemented {
         }
     }
 
-    /// The names of types that the words at the start say: another name of one that was found, what a macro is handed, or what an
-    /// `impl` is for.
+    /// Names of types that words say: another one of a type that was found, what a macro is handed, or what an `impl` is for.
     fn found_at(&self, tokens: &Tokens, words: Words) -> Words {
         let rest = words.behind_first();
         let next = tokens.first(rest);
@@ -98,10 +93,8 @@ impl Implemented {
     fn implementing(&self, tokens: &Tokens, words: Words) -> Words {
         let whole = words.before(tokens.type_up_to(words, &[Word::Brace, Word::Semicolon]));
         let of = tokens.type_up_to(whole, &[Word::For]);
-        if tokens
-            .parted(whole.before(of), &[], &self.names, true)
-            .is_empty()
-        {
+        let named = tokens.parted(whole.before(of), &[], &self.names, true);
+        if named.is_empty() {
             return Words::default();
         }
         let path = of.behind_first();

@@ -75,12 +75,11 @@ impl Parser<'_, '_> {
         let is_item = self.at.variant == NO_NAME && self.at.field.is_none();
         let mut walk = AttributeWalk::of(attributes);
         for _ in 0..=attributes.len() {
-            let Some((words, condition)) = walk.next(tokens) else {
-                break;
-            };
+            let (words, condition) = walk.next(tokens);
             let first = tokens.first(words);
             self.at.line = first.line;
             match first.word {
+                _ if words.is_empty() => {}
                 Word::Mark => {}
                 Word::Serde => self.read_serde(words, condition, &mut said),
                 // that of a derive has parentheses

@@ -16,6 +16,8 @@ const GREATEST: u64 = 0xFFFF_FFFF;
 const TWO: &str =
     "` is more than one constant: leave out what isn't meant, or write its module before it";
 
+const ASKED: &str = "` isn't looked for in the files, as types are: write the number";
+
 /// What the types of numbers have at most, and how many bits they have. A `usize` has 32 bits on most devices.
 const OF_NUMBERS: &[(&str, (u64, u64))] = &[
     ("u8", (0xFF, 8)),
@@ -231,6 +233,7 @@ impl Builder<'_> {
                 let own = NOWHERE;
                 return Some((words, Context { scope, own }, most));
             }
+            _ if at.scope == self.asked => self.doubt = (last, ASKED),
             Found::Wrong(why) => self.doubt = (last, why),
             Found::Two => self.doubt = (last, TWO),
             _ => {}

@@ -190,11 +190,7 @@ impl<'a> Builder<'a> {
             });
         }
         match self.found(self.at, &path, last, Space::Types) {
-            Found::In(What::Alias(words), scope) => {
-                self.arguments_of(&[], &[]);
-                let own = NOWHERE;
-                Said::Other(words, Context { scope, own })
-            }
+            Found::In(What::Alias(words), scope) => self.alias(words, scope),
             Found::Known(name) => self.known(name),
             Found::In(What::Marked(index), _) => Said::Place(self.instance(index, depth)),
             Found::Wrong(why) => Said::Place(self.refuse(last, why)),
@@ -208,6 +204,44 @@ impl<'a> Builder<'a> {
             ])),
             _ => Said::Place(self.unknown(last)),
         }
+    }
+
+    /// What an alias says by its words after its name, with what is in angle brackets. It is noted with what stands for its parameters.
+    fn alias(&mut self, words: Words, scope: usize) -> Said {
+        let of = self.tokens.type_up_to(words, &[Word::Equals]);
+        let inside = words.before(of).behind_first();
+        let list = inside.before(self.tokens.type_up_to(inside, &[Word::Greater]));
+        let (mut parameters, mut lengths) = (Vec::new(self.alloc), Vec::new(self.alloc));
+        for part in self.parts(list, true) {
+            let part = self.tokens.behind_attributes(part);
+            let is_length = self.tokens.front(part) == Word::Constant;
+            let name = self.tokens.nth(part, usize::from(is_length)).name;
+            self.words.push(&mut parameters, name);
+            if is_length {
+                self.words.push(&mut lengths, name);
+            }
+        }
+        let given = self.arguments_of(&parameters, &lengths);
+        if self.words.is_wrong {
+            return Said::Place(NOWHERE);
+        }
+        // no declaration is there
+        let (index, place, depth) = (self.all.len().saturating_add(words.from), NOWHERE, 0);
+        let mut own = self.own_of(index, &given);
+        if own == NOWHERE && !given.is_empty() {
+            own = self.made.len();
+            let of = given;
+            self.words.push(
+                &mut self.made,
+                Made {
+                    index,
+                    of,
+                    place,
+                    depth,
+                },
+            );
+        }
+        Said::Other(of.behind_first(), Context { scope, own })
     }
 
     /// What a known type says, with what is in angle brackets after it.
@@ -266,6 +300,7 @@ impl<'a> Builder<'a> {
         self.wrong(&["`", self.tokens.text(name), TWO, paths.as_str()])
     }
 
+    /// Refuses a type that is sent as another. (Apart, so that the texts have one lifetime.)
     fn refuse_sent(&mut self, word: &str, sent: &str) -> usize {
         self.wrong(&["`", word, "` is sent as `", sent, "`: write that"])
     }
@@ -379,10 +414,8 @@ impl<'a> Builder<'a> {
         if self.words.is_wrong {
             return NOWHERE;
         }
-        for made in &self.made {
-            if made.index == index && self.are_same(&made.of, &of) {
-                return made.place;
-            }
+        if let Some(made) = self.made.get(self.own_of(index, &of)) {
+            return made.place;
         }
         let place = self.add(Node::Option(NOWHERE), Names::Nothing);
         let depth = if of.is_empty() { DEEPEST } else { depth };
@@ -394,6 +427,16 @@ impl<'a> Builder<'a> {
         };
         self.words.push(&mut self.made, made);
         place
+    }
+
+    /// Which of those that are made this one is, with the same words for its parameters.
+    fn own_of(&self, index: usize, of: &[Given]) -> usize {
+        for (own, made) in self.made.iter().enumerate() {
+            if made.index == index && self.are_same(&made.of, of) {
+                return own;
+            }
+        }
+        NOWHERE
     }
 
     /// Whether the same words stand for parameters.
@@ -429,11 +472,9 @@ impl<'a> Builder<'a> {
         if !self.words.take(Word::Less) {
             return Vec::new(self.alloc);
         }
-        let words = self.words.rest;
-        let rest = self.tokens.type_up_to(words, &[Word::Greater]);
-        self.words.rest = rest;
+        let words = self.words.take_up_to(&[Word::Greater]);
         self.words.owe(Word::Greater, "`>` is wanted");
-        self.parts(words.before(rest), true)
+        self.parts(words, true)
     }
 
     /// The place of a type that holds the types at these places and the length in these parts.

@@ -4,12 +4,12 @@ ghost use Rattle.declarations.specs.NameRule.{IsAnswerOf, IsAnsweredOrPassed, Is
 ghost use Rattle.declarations.specs.declared.names.candidates.Space.TheVariants as space;
 
 use super::candidates::{Only, Space, Step, is_within, only_of};
-use super::meaning::{BROUGHT_IN, BY_STAR, Meaning, is_start};
+use super::meaning::{BROUGHT_IN, BY_STAR, Meaning, RENAMED};
 use super::{Item, Kind, NO_NAME, Name, Path, Scopes, What};
 use crate::known::{is_known, is_primitive};
 use declaration_parser::faults::Faults;
-use declaration_parser::texts::is_among;
-use declaration_parser::tokens::Word;
+use declaration_parser::texts::is_listed;
+use declaration_parser::tokens::{Word, is_start};
 
 const UNMARKED: &str =
     "` isn't declared and marked here: write `// message` before its declaration, if its fields are what is sent";
@@ -103,9 +103,10 @@ impl<'a> Scopes<'a> {
             (Meaning::Module(_), Meaning::Nothing) => Found::Wrong(
                 "` isn't declared in the module that its path names: name the file of its declaration too",
             ),
-            (Meaning::Module(_) | Meaning::Wrong(_), meaning) => self.answered(
-                meaning, name, space,
+            (Meaning::Module(at), Meaning::Outside) if self.is_renamed(at, name) => Found::Wrong(
+                RENAMED,
             ),
+            (Meaning::Module(_) | Meaning::Wrong(_), it) => self.answered(it, name, space),
             (Meaning::Known(_), _) => Found::Known(name),
             (Meaning::Open | Meaning::Doubtful, _) => Found::Two,
             _ => Found::Outside,
@@ -114,14 +115,12 @@ impl<'a> Scopes<'a> {
 
     /// Whether a module and those round it have the names of a path.
     fn ends_path(&self, module: usize, path: &Path) -> bool {
-        let mut found = Meaning::Module(module);
+        let mut it = Meaning::Module(module);
         for place in (0..path.count).rev() {
             let name = path.at(place);
-            match found {
+            match it {
                 _ if is_start(name) => return place == 0 && path.count > 1,
-                Meaning::Module(at) if self.scope(at).name == name => found = self.around_module(
-                    at,
-                ),
+                Meaning::Module(at) if self.scope(at).name == name => it = self.around_module(at),
                 _ => return false,
             }
         }
@@ -183,16 +182,9 @@ impl<'a> Scopes<'a> {
         }
     }
 
-    /// Appends a path: the name of a module, with that of the module round it, if there is one, and a name in it.
-    fn put_path(&self, faults: &mut Faults, outer: Name, module: Name, name: Name) {
-        if outer != NO_NAME {
-            faults.put_all(&[self.tokens.text(outer), "::"]);
-        }
-        faults.put_all(&[self.tokens.text(module), "::", self.tokens.text(name), "`"]);
-    }
-
-    /// Appends the paths of what a name may stand for, each once.
+    /// Appends the paths of what a name may stand for, each once: its module, and what is round that if it has to be told.
     pub fn put_paths(&self, faults: &mut Faults, name: Name) {
+        let tokens = self.tokens;
         let mut before = ", as in `";
         let mut last = (NO_NAME, NO_NAME);
         for item in &self.items {
@@ -201,8 +193,9 @@ impl<'a> Scopes<'a> {
             }
             let (outer, module) = (self.outer_name(item), self.scope(item.scope).name);
             if module != NO_NAME && (outer, module) != last {
-                faults.put(before);
-                self.put_path(faults, outer, module, name);
+                let colons = if outer == NO_NAME { "" } else { "::" };
+                faults.put_all(&[before, tokens.text(outer), colons]);
+                faults.put_all(&[tokens.text(module), "::", tokens.text(name), "`"]);
                 before = " or `";
                 last = (outer, module);
             }
@@ -210,11 +203,12 @@ impl<'a> Scopes<'a> {
     }
 
     /// Whether the first name of a path leads to one of these crates, or out of the files, and no `use` or trait says otherwise.
-    pub fn is_foreign(&self, scope: usize, root: Name, crates: &[&str]) -> bool {
-        let file = self.file_of(scope);
+    pub fn is_foreign(&self, scope: usize, root: Name, crates: &str) -> bool {
+        let file = self.scope(scope).file;
         for it in &self.imports {
-            let is_there = it.is_crate || self.file_of(it.scope) == file;
-            let is_one = it.last == root && is_among(self.tokens.text(it.path.first(root)), crates);
+            let is_there = it.is_crate || self.scope(it.scope).file == file;
+            let is_one = it.last == root
+                && is_listed(self.tokens.text(it.path.first(root)), crates);
             if root != NO_NAME && it.name == root && is_there && !is_one {
                 return false;
             }

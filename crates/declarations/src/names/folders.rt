@@ -190,11 +190,8 @@ impl<'a> Scopes<'a> {
     /// `src`. Words in no file are taken as those of the only file.
     pub(super) fn root_of(&self, scope: usize) -> Meaning {
         let count = self.tokens.files.len();
-        let mut file = if count == 1 {
-            0
-        } else {
-            self.scope(scope).file
-        };
+        let own = self.scope(scope).file;
+        let mut file = if count == 1 { 0 } else { own };
         for _ in 0..count {
             let (folder, stem) = parts_of(self.tokens.name_of_file(file));
             let is_alone = count == 1 && !is_in_src(folder);

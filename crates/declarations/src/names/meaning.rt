@@ -2,7 +2,7 @@
 use super::candidates::{Only, Space, Step, is_within};
 use super::{Import, Kind, NO_NAME, Name, Path, Scopes};
 use crate::known::{is_everywhere, is_known, sent_as};
-use declaration_parser::tokens::{Word, word_of};
+use declaration_parser::tokens::{Word, is_start, word_of};
 
 // What is said after a name that isn't taken.
 pub(super) const BROUGHT_IN: &str =
@@ -86,8 +86,7 @@ impl<'a> Scopes<'a> {
         at
     }
 
-    /// What a name means that may not be there without a condition, and may then mean another. The first name of a path may be a
-    /// crate's.
+    /// What a name means that isn't there without a condition, and may then mean another: at the start of a path a crate.
     fn at_times(&self, scope: usize, name: Name, space: Space, found: Meaning) -> Meaning {
         let is_root = space == Space::Roots;
         let is_module = matches!(found, Meaning::Module(_));
@@ -166,7 +165,7 @@ impl<'a> Scopes<'a> {
     }
 
     /// Whether a `use` of a scope gives this name to what these files declare by another one.
-    fn is_renamed(&self, scope: usize, name: Name) -> bool {
+    pub(super) fn is_renamed(&self, scope: usize, name: Name) -> bool {
         for it in &self.imports {
             if it.scope == scope && it.name == name && it.last != name && !it.leads_out() {
                 return true;
@@ -432,9 +431,4 @@ impl<'a> Scopes<'a> {
         }
         false
     }
-}
-
-/// Whether a name of a path stands for a module by where it is used.
-pub(super) fn is_start(name: Name) -> bool {
-    matches!(word_of(name), Word::Crate | Word::Own | Word::Super)
 }

@@ -17,39 +17,16 @@ const MADE: &str =
 const BITS: &str =
     "` is made by `bitflags!`, and sent as its bits: write the integer behind its name";
 
-/// What an alias stands for, by its words from its name on. Lifetimes are no parameters.
-fn alias_of(tokens: &Tokens, words: Words) -> What {
-    let mut rest = words.behind_first();
-    for _ in 0..words.len() {
-        match tokens.front(rest) {
-            Word::Lifetime | Word::Less | Word::Greater | Word::Comma => rest = rest.behind_first(),
-            _ => break,
-        }
-    }
-    match tokens.front(rest) {
-        Word::Equals => What::Alias(rest.behind_first()),
-        _ if rest.is_empty() => What::Alias(rest),
-        _ => What::Refused("` is an alias with parameters: write the type that it stands for"),
-    }
-}
-
 /// The place of the first name of the path that ends with the name at this place.
 fn start_of(tokens: &Tokens, place: usize) -> usize {
     let mut start = place;
     for _ in 0..place {
-        let before = start.saturating_sub(3);
-        let colons = (
-            tokens.at(before.saturating_add(1)),
-            tokens.at(before.saturating_add(2)),
-        );
-        if before.saturating_add(3) != start
-            || !tokens.at(before).is_name
-            || colons.0.word != Word::Colon
-            || colons.1.word != Word::Colon
-        {
-            break;
+        let from = start.saturating_sub(3);
+        let words = Words { from, to: start };
+        match (tokens.nth(words, 1).word, tokens.nth(words, 2).word) {
+            (Word::Colon, Word::Colon) if tokens.first(words).is_name => start = from,
+            _ => break,
         }
-        start = before;
     }
     start
 }
@@ -96,7 +73,7 @@ impl<'a> Scopes<'a> {
                 Some(index) => What::Marked(*index),
                 None => What::Unmarked,
             },
-            ItemKind::Alias => alias_of(tokens, item.words),
+            ItemKind::Alias => What::Alias(item.words.behind_first()),
             ItemKind::Static => What::RefusedConstant(
                 "` is a `static`, whose value isn't read: make it a `const`",
             ),
@@ -190,26 +167,24 @@ impl<'a> Scopes<'a> {
         let (tokens, mut is_conditional) = (self.tokens, is_at_times);
         let mut rest = inside;
         for _ in 0..inside.len() {
-            let words = rest.behind_first();
-            let what = match tokens.front(rest) {
-                Word::Struct | Word::Enum | Word::Union if are_bits => Some(What::Refused(BITS)),
-                Word::Struct | Word::Enum | Word::Union | Word::Alias => Some(What::Refused(MADE)),
-                Word::Constant => Some(What::RefusedConstant(MADE)),
+            let front = tokens.front(rest);
+            rest = rest.behind_first();
+            let what = match front {
+                Word::Struct | Word::Enum | Word::Union if are_bits => What::Refused(BITS),
+                Word::Struct | Word::Enum | Word::Union | Word::Alias => What::Refused(MADE),
+                Word::Constant => What::RefusedConstant(MADE),
                 Word::Import => {
                     is_conditional = true;
                     let mut import = Import::default();
                     import.scope = scope;
                     import.is_conditional = true;
-                    let behind = tokens.up_to(words, &[Word::Semicolon]);
-                    self.read_use(import, words.before(behind));
-                    None
+                    let behind = tokens.up_to(rest, &[Word::Semicolon]);
+                    self.read_use(import, rest.before(behind));
+                    continue;
                 }
-                _ => None,
+                _ => continue,
             };
-            if let Some(what) = what {
-                self.add(scope, is_conditional, words, what);
-            }
-            rest = words;
+            self.add(scope, is_conditional, rest, what);
         }
     }
 
@@ -220,7 +195,7 @@ impl<'a> Scopes<'a> {
         let text = tokens.text(name);
         // which declare no type and no length, unless they are these files' own
         let is_check = text.starts_with("assert_") || text.starts_with("const_assert");
-        if (is_check || is_listed(text, "compile_error global_asm thread_local"))
+        if (is_check || is_listed(text, "compile_error global_asm lazy_static thread_local"))
             && !self.has_rules(name)
         {
             return;

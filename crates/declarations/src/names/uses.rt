@@ -1,9 +1,9 @@
 //! What `use` brings into a scope, name by name; and derives from other crates than serde by the names of serde's.
-use super::meaning::{Meaning, is_start};
+use super::meaning::Meaning;
 use super::{Import, NO_NAME, Name, Path, Scopes, Words};
 use crate::known::is_known_crate;
 use declaration_parser::derives::{has_own, has_serdes};
-use declaration_parser::tokens::{DESERIALIZE, SERIALIZE, Word, word_of};
+use declaration_parser::tokens::{DESERIALIZE, SERIALIZE, Word, is_start, word_of};
 
 /// What stands for the names of a file that isn't read: no text has this name.
 const INCLUDED: Name = Name::MAX;
