@@ -128,7 +128,7 @@ def library(path: Optional[str] = None) -> ctypes.CDLL:
     if _loaded is None or path is not None:
         found = path or os.environ.get("FRAMES_LIBRARY") or _beside() or ctypes.util.find_library("frames")
         if not found:
-            raise OSError("no libframes.so: `make -C bindings/c` makes it in a clone; or name one by FRAMES_LIBRARY")
+            raise OSError("no libframes.so: on Linux, for x86-64 and aarch64, `make -C bindings/c` makes it in a clone; or name one by FRAMES_LIBRARY")
         loaded = ctypes.CDLL(found)
         for name, result, arguments in _CALLS:
             function = _of(loaded, "frames_c_" + name)
@@ -274,8 +274,12 @@ class Sender(_Single):
         """Sends a message over a file object or a serial port, and flushes it. Threads write one after another.
 
         Raises what the line raises, and `OSError` if a write takes nothing; the next send then begins with a sentinel. A call inside a write,
-        from the line itself or a signal handler, is a `RuntimeError`. A writer of asyncio returns no count: use `frames.aio.Line`.
+        from the line itself or a signal handler, is a `RuntimeError`. A writer of asyncio, or a socket itself, is a `TypeError`.
         """
+        if hasattr(line, "drain"):  # its write returns no count, which would mean that it takes nothing
+            raise TypeError("a writer of asyncio returns no count: use frames.aio.Line")
+        if not callable(getattr(line, "write", None)) or not callable(getattr(line, "flush", None)):
+            raise TypeError(f"a line has `write` and `flush`, and a {type(line).__name__} hasn't both{_instead(line, 'wb')}")
         with self._lock:
             out = memoryview(self.send(message))
             try:
@@ -372,6 +376,25 @@ class Receiver(_Single):
             return Cut(begun) if library().frames_c_finish(byref(self._state)) else None
 
 
+def _instead(it: Any, mode: str) -> str:
+    """What to write in place of what is no file object."""
+    if isinstance(it, socket.socket):
+        return f": write .makefile('{mode}') of it"
+    if isinstance(it, (str, os.PathLike)):
+        return f": write open(.., '{mode}')"
+    return ": write io.BytesIO(..)" if isinstance(it, (bytes, bytearray, memoryview)) else ""
+
+
+def _refuse_no_source(source: Any) -> None:
+    """Raises for what gives no bytes, before anything is read."""
+    if hasattr(source, "feed_eof"):
+        raise TypeError("a reader of asyncio is awaited: use frames.aio.listen")
+    if isinstance(source, io.TextIOBase):
+        raise TypeError("a text file gives no bytes: open it with the mode 'rb', or take its `buffer`")
+    if not callable(getattr(source, "read", None)):
+        raise TypeError(f"a source has `read`, and a {type(source).__name__} hasn't{_instead(source, 'rb')}")
+
+
 def _descriptor(source: Any) -> Optional[int]:
     """The descriptor of a pipe, a terminal or a socket, whose next bytes can be waited for; None of a file on a disk, and others."""
     try:
@@ -458,7 +481,11 @@ def listen(source: Any, limit: Union[int, Receiver], sentinel: int = 0, plain: b
     serial port with a timeout, it reads again, and waits first if the read didn't wait. A file that doesn't block and has nothing yet
     hasn't ended. A `Receiver` in place of the limit keeps a frame that has begun, for the next call.
     """
-    receiver = _receiver_of(limit, sentinel, plain)
+    _refuse_no_source(source)
+    return _listened(source, _receiver_of(limit, sentinel, plain), ends)
+
+
+def _listened(source: Any, receiver: Receiver, ends: bool) -> Generator[Event, None, None]:
     for piece in _pieces(source, ends):
         yield from receiver.push(piece)
     cut = receiver.finish()

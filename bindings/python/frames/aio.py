@@ -9,6 +9,7 @@
 from __future__ import annotations
 
 import asyncio
+import io
 from typing import AsyncGenerator, Union
 
 from . import Event, Receiver, Sender, _receiver_of
@@ -16,13 +17,19 @@ from . import Event, Receiver, Sender, _receiver_of
 __all__ = ["Line", "listen"]
 
 
-async def listen(reader: asyncio.StreamReader, limit: Union[int, Receiver], sentinel: int = 0, plain: bool = False) -> AsyncGenerator[Event, None]:
+def listen(reader: asyncio.StreamReader, limit: Union[int, Receiver], sentinel: int = 0, plain: bool = False) -> AsyncGenerator[Event, None]:
     """The events of a stream, as they come; `Cut` last, if it ends inside a frame.
 
     Raises what a read raises, after the events of what was read before. A wait that is cancelled, as by `asyncio.wait_for`, ends it. A
-    `Receiver` in place of the limit keeps a frame that has begun, for the next call.
+    `Receiver` in place of the limit keeps a frame that has begun, for the next call. A file object, whose reads would stop the loop, is a
+    `TypeError`: use `frames.listen` in a thread.
     """
-    receiver = _receiver_of(limit, sentinel, plain)
+    if isinstance(reader, io.IOBase) or hasattr(type(reader), "in_waiting") or not callable(getattr(reader, "read", None)):
+        raise TypeError(f"a reader of asyncio is needed, not a {type(reader).__name__}: use frames.listen, in a thread")
+    return _listened(reader, _receiver_of(limit, sentinel, plain))
+
+
+async def _listened(reader: asyncio.StreamReader, receiver: Receiver) -> AsyncGenerator[Event, None]:
     while True:
         piece = await reader.read(65536)
         if not piece:
@@ -38,6 +45,8 @@ class Line:
     """Sends over a stream. Sends of several tasks go out one after another."""
 
     def __init__(self, writer: asyncio.StreamWriter, sentinel: int = 0, plain: bool = False) -> None:
+        if not callable(getattr(writer, "drain", None)):
+            raise TypeError(f"a writer of asyncio is needed, not a {type(writer).__name__}: of a file object or a port use frames.Sender().write")
         self._writer, self._sender, self._lock = writer, Sender(sentinel, plain), asyncio.Lock()
 
     async def send(self, message: bytes) -> None:

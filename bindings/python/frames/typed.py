@@ -22,7 +22,7 @@ import threading
 from ctypes import POINTER, Structure, byref, c_char_p, c_size_t, c_uint8, c_void_p
 from typing import IO, Any, Dict, Generator, Iterable, List, NoReturn, Optional, Tuple, Union
 
-from . import _byte, _of, _pieces, _Room, _Single
+from . import _byte, _of, _pieces, _refuse_no_source, _Room, _Single
 
 _Path = Union[str, "os.PathLike[str]"]
 _DONE, _NO_ROOM, _WRONG, _REFUSED, _NO_MEMORY = range(5)
@@ -61,10 +61,12 @@ def _object(pairs: List[Tuple[str, Any]]) -> Any:
 
 
 def _as_objects(value: Any) -> Any:
-    """A value in which all pairs of a map are an object again."""
+    """A value in which all pairs of a map are an object again; of keys that are no texts, pairs: JSON would make texts of them, `None` "null"."""
     if isinstance(value, Pairs):
         return _Members([(key, _as_objects(held)) for key, held in value])
     if isinstance(value, dict):
+        if not all(isinstance(key, str) for key in value):
+            return [[_as_objects(key), _as_objects(held)] for key, held in value.items()]
         return {key: _as_objects(held) for key, held in value.items()}
     return [_as_objects(held) for held in value] if isinstance(value, (list, tuple)) else value
 
@@ -232,6 +234,8 @@ def write(declarations: _Path, type_name: str, values: Iterable[Any], sentinel: 
     A value may be `{"value": ..}`, as a receiver returns it. If that is also a value of the type by itself, and another one, it is a
     `ValueError`: write `[value]` of the type `[Type; 1]`, which has the same bytes and one meaning.
 
+    A dictionary with a key that is no text goes out as its pairs, whose keys have to be of the map's type: `{None: 1}` is no map of texts.
+
     A value that isn't of the type is a `ValueError`. One that JSON doesn't have, such as bytes, is a `TypeError`, as is a text, bytes or a
     dictionary in place of a list of values. Wrong declarations or a wrong type are an `OSError`; if there is neither the library nor the
     program, a `FileNotFoundError`.
@@ -274,15 +278,17 @@ def _no_json(value: Any) -> NoReturn:
     raise TypeError(f"JSON has no {type(value).__name__}{hint}")
 
 
-def _line(value: Any) -> str:
+def _line(value: Any) -> bytes:
     try:
         value = _as_objects(value)
     except RecursionError:  # also of a list that holds itself, of which json says that
         pass
     try:
-        return json.dumps(value, allow_nan=False, default=_no_json) + "\n"
+        return json.dumps(value, allow_nan=False, ensure_ascii=False, default=_no_json).encode() + b"\n"
     except RecursionError:
         raise ValueError("the value is nested too deeply") from None
+    except UnicodeEncodeError as error:
+        raise ValueError(f"a text holds {error.object[error.start]!r}, half of a surrogate pair, which UTF-8 hasn't") from None
     except ValueError as error:
         if "JSON compliant" not in str(error):
             raise
@@ -290,11 +296,11 @@ def _line(value: Any) -> str:
 
 
 def _written(declarations: str, type_name: str, values: Iterable[Any], sentinel: int, wire: Optional[str]) -> bytes:
-    lines = "".join(map(_line, values))
+    lines = b"".join(map(_line, values))
     by_library = _of_library(declarations, type_name, wire)
     if by_library is not None:
-        return by_library[0].write(lines.encode(), sentinel)
-    done = subprocess.run(_command(wire, "write", declarations, type_name, sentinel), input=lines.encode(), capture_output=True)
+        return by_library[0].write(lines, sentinel)
+    done = subprocess.run(_command(wire, "write", declarations, type_name, sentinel), input=lines, capture_output=True)
     if done.returncode != 0:
         said = _told(done.stderr) or f"wire ended with status {done.returncode}"
         raise ValueError(said) if done.returncode == 1 else OSError(said)
@@ -356,6 +362,7 @@ class _Process:
             _closed(process.stdin)
             process.stdout.read()
         status = process.wait()
+        _closed(process.stdin)  # here too: the feeder may still wait for its source, or come to it late
         _closed(process.stdout)
         if not self._said.closed:
             self._said.seek(0)
@@ -416,6 +423,7 @@ class TypedReceiver(_Single):
 
         Raises what reading the source raises, after the results of what was read.
         """
+        _refuse_no_source(source)
         return self._opened().listen(source, ends)
 
     def answers(self, stream: bytes) -> List[Dict[str, Any]]:

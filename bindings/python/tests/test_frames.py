@@ -89,6 +89,15 @@ def refuses(kind, call, *arguments):
     return False
 
 
+def told_of(kind, call, *arguments):
+    """What a call tells that raises an error of this kind."""
+    try:
+        call(*arguments)
+    except kind as error:
+        return str(error)
+    raise AssertionError(f"not refused: {arguments}")
+
+
 def test_misuse():
     """No number, text or list is taken for bytes, and no limit for the length of a buffer that isn't there."""
     assert all(refuses(ValueError, frames.Receiver, limit) for limit in (0, -1, -(1 << 40)))
@@ -336,12 +345,20 @@ def test_aio():
         reader.feed_data(line[5:]), reader.feed_eof()
         return [event async for event in aio.listen(reader, limit)]
 
+    async def misused():  # before a byte is taken
+        for source in (io.BytesIO(b"ab"), Port(0, 0), b"ab"):
+            assert "frames.listen" in told_of(TypeError, aio.listen, source, 8), source
+        assert "frames.aio.listen" in told_of(TypeError, frames.listen, asyncio.StreamReader(), 8)
+        assert refuses(ValueError, aio.listen, asyncio.StreamReader(), 0)
+        assert "Sender().write" in told_of(TypeError, aio.Line, io.BytesIO())
+
     async def refuses_to_wait(heard):
         try:
             await asyncio.wait_for(heard.__anext__(), 0.05)
         except asyncio.TimeoutError:
             return True
 
+    asyncio.run(misused())
     assert asyncio.run(cancelled(frames.Receiver(16))) == [b"\x09\x09\x03\x01X"]
     heard = asyncio.run(session())
     assert heard[:20] == [bytes([k]) * k for k in range(20)] and heard[20:] == [frames.Damaged(3), frames.Cut(2)], heard[18:]
@@ -381,9 +398,17 @@ def test_listen():
     # a receiver of one's own keeps what has begun
     receiver = frames.Receiver(8)
     assert refuses(EOFError, list, frames.listen(Failing(stream[:3]), receiver)) and next(frames.listen(io.BytesIO(stream[3:]), receiver)) == b"hi"
-    assert all(refuses(TypeError, list, frames.listen(io.BytesIO(stream), receiver, *more)) for more in ((10,), (0, True)))
+    assert all(refuses(TypeError, frames.listen, io.BytesIO(stream), receiver, *more) for more in ((10,), (0, True)))
     # plain bytes: a send that broke off is heard as a front of it
     assert list(frames.listen(io.BytesIO(b"\0\x04pay\0"), limit=8, plain=True)) == [b"pay"]
+    # what gives no bytes is refused before it is read, with what to write; so is a wrong limit
+    one, other = socket.socketpair()
+    for source, told in (("line.bin", "open(.., 'rb')"), (b"ab", "io.BytesIO"), (one, "makefile('rb')"), (io.StringIO("ab"), "'rb'"), (None, "read")):
+        assert told in told_of(TypeError, frames.listen, source, 8), source
+    for line, told in ((one, "makefile('wb')"), (None, "flush"), (types.SimpleNamespace(write=len, flush=len, drain=len), "frames.aio.Line")):
+        assert told in told_of(TypeError, frames.Sender().write, line, b"hi"), line
+    assert refuses(ValueError, frames.listen, io.BytesIO(stream), 0)
+    one.close(), other.close()
 
 
 class Port:
@@ -638,7 +663,16 @@ def test_value_field(folder, wire):
         else:
             raise AssertionError("not refused")
         assert written("Vec<u8>", it.hex()) == written("Vec<u8>", [1, 2])
-    assert refuses(TypeError, written, "Vec<u8>", {1, 2}) and refuses(TypeError, written, "BTreeMap<(u8, u8), u8>", {(1, 2): 3})
+    assert refuses(TypeError, written, "Vec<u8>", {1, 2}) and refuses(TypeError, written, "BTreeMap<Vec<u8>, u8>", {b"a": 3})
+    # a key that is no text isn't made one: `None` the text "null"
+    assert all(refuses(ValueError, written, "BTreeMap<String, u8>", {key: 3}) for key in (None, 1, True, 1.5, (1,)))
+    assert all(refuses(ValueError, written, "BTreeMap<u8, u8>", it) for it in ({True: 3}, {1.0: 3}, {1: 2, "1": 3}))
+    assert written("BTreeMap<u8, u8>", {1: 3}) == written("BTreeMap<u8, u8>", {"1": 3}) == b"\0\4\1\1\3\0"
+    assert written("BTreeMap<(u8, u8), u8>", {(1, 2): 3}) == b"\0\5\1\1\2\3\0"
+    # nor is a text with halves of a surrogate pair another one
+    for it in ("\ud83d", "a\ud83d\ude00", {"\ude00": 1}):
+        assert "half of a surrogate pair" in told_of(ValueError, written, "String", it), ascii(it)
+    assert written("String", "\U0001f600\u2028\x85") == b"\0\x0b\x09" + "\U0001f600\u2028\x85".encode() + b"\0"
     loop, deep = [], functools.reduce(lambda held, _: [held], range(100000), 7)  # the latter deeper than json goes
     loop.append(loop)
     assert refuses(ValueError, written, "u8", loop) and refuses(ValueError, written, "u8", deep)
@@ -748,6 +782,37 @@ def test_typed(folder, wire):
         except error:
             continue
         raise AssertionError("not refused")
+
+
+def test_typed_aio(folder, wire):
+    """Typed messages in a loop of asyncio, as the page says: a thread passes each on, and a wait that is cancelled loses none."""
+    path = os.path.join(folder, "aio.rs")
+    pathlib.Path(path).touch()
+    here, there = os.openpty()
+    tty.setraw(here), tty.setraw(there)
+
+    async def session():
+        loop, answers = asyncio.get_running_loop(), asyncio.Queue()
+        receiver = typed.TypedReceiver(path, "u8", wire=wire)
+
+        def passes():
+            for answer in receiver.listen(Port(here, 0.05), ends=False):
+                loop.call_soon_threadsafe(answers.put_nowait, answer)
+
+        thread = threading.Thread(target=passes)
+        thread.start()
+        try:
+            await asyncio.wait_for(answers.get(), 0.1)
+        except asyncio.TimeoutError:
+            pass
+        os.write(there, b"\2\7\0\2\x08\0\2")
+        told = [await asyncio.wait_for(answers.get(), 10) for _ in range(2)]
+        receiver.close()
+        await loop.run_in_executor(None, thread.join, 10)
+        return told, thread.is_alive()
+
+    assert asyncio.run(session()) == ([{"value": 7}, {"value": 8}], False)
+    os.close(here), os.close(there)
 
 
 def test_closed(folder, wire):
@@ -871,12 +936,14 @@ def main():
             test_raised(sys.argv[1])
             test_value_field(sys.argv[1], None)
             test_closed(sys.argv[1], None)
+            test_typed_aio(sys.argv[1], None)
             test_typed_threads(sys.argv[1])
         if wire:
             os.environ["WIRE"] = wire
             test_typed(sys.argv[1], wire)
             test_value_field(sys.argv[1], wire)
             test_closed(sys.argv[1], wire)
+            test_typed_aio(sys.argv[1], wire)
         test_both(rng, sys.argv[1])
 
 
