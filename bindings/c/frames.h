@@ -6,9 +6,9 @@
  * (Rust) encodes a byte string; otherwise it is PLAIN: its bytes alone. It is SEALED if a CRC-32 follows it.
  *
  * Plain messages. If a plain send is interrupted, a prefix of its message may itself be a frame: frames_send_plain("pay\0me") that stops
- * after five bytes is received as `pay`, which nobody sent. So of an interrupted plain send, the receiver reports nothing, or damage, or a
- * prefix of its message. Each counted message that is received was sent, whatever was interrupted; that is proved. Counted messages are the
- * calls without `plain` in their names.
+ * after five bytes is received as `pay`, which nobody sent. So of an interrupted plain send, the receiver reports nothing, damage, too many
+ * bytes, or a prefix of its message. Each counted message that is received was sent, whatever was interrupted; that is proved. Counted
+ * messages are the calls without `plain` in their names.
  *
  * Changed bytes. A byte that changed on the line may make the frame of another message, counted or not. Against that seal each message:
  * frames_seal before it is sent, frames_unseal of what is received.

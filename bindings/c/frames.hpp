@@ -9,6 +9,7 @@
 
 #include <frames.h>
 
+#include <array>
 #include <cstddef>
 #include <cstdint>
 #include <optional>
@@ -245,6 +246,7 @@ inline std::optional<bytes> unseal(bytes sealed) {
 // isn't compiled: what owns these bytes, as seal(..) and a std::string that nobody keeps, is gone when the view is used
 template <class C, class = std::enable_if_t<!std::is_reference_v<C> && !std::is_trivially_destructible_v<C>>>
 std::optional<bytes> unseal(C &&) = delete;
+template <class E, std::size_t N> std::optional<bytes> unseal(const std::array<E, N> &&) = delete;
 
 } // namespace frames
 #endif

@@ -16,7 +16,8 @@ export interface Options {
   plain?: boolean;
 }
 /** Compiles the module; once, before all else. `frames.wasm` beside the package's code if none is given. */
-export function load(source?: URL | string | Response | BufferSource | WebAssembly.Module): Promise<void>;
+export function load(source?: Loaded | PromiseLike<Loaded>): Promise<void>;
+type Loaded = URL | string | Response | BufferSource | WebAssembly.Module;
 /** Receives the messages of a stream that comes in chunks, with at most `limit` bytes between two delimiters. */
 export class Receiver {
   constructor(limit: number, options?: Options);

@@ -14,6 +14,7 @@ function isBuffer(it) {
 /** Compiles the module: a URL, a Response, its bytes or a WebAssembly.Module; `frames.wasm` beside this file if none is given. */
 export async function load(source = new URL("frames.wasm", import.meta.url)) {
   if (typeof source === "string" && source.startsWith("file:")) source = new URL(source); // as import.meta.resolve returns it in Node
+  source = await source; // as `load(fetch(url))` says it
   const module = source instanceof WebAssembly.Module ? source : await WebAssembly.compile(await wasmOf(source));
   if (!WebAssembly.Module.exports(module).some(({ name }) => name === "frames_c_push")) throw new TypeError("frames: this module isn't frames.wasm");
   compiled = module;
@@ -25,6 +26,11 @@ async function wasmOf(source) {
     const { readFile } = await import(/* webpackIgnore: true */ /* @vite-ignore */ ["node:fs", "promises"].join("/"));
     return readFile(source);
   }
+  if (typeof source !== "string" && !(source instanceof URL) && !(source instanceof Response)) {
+    throw new TypeError("frames: load takes a URL, a Response, bytes or a WebAssembly.Module");
+  }
+  const isPath = typeof source === "string" && !globalThis.location && !/^[a-z][-+.a-z0-9]*:/i.test(source);
+  if (isPath) throw new TypeError("frames: load takes no path: write pathToFileURL(path), of node:url");
   const response = await (source instanceof Response ? source : fetch(source));
   if (!response.ok) throw new Error(`frames: ${response.url}: ${response.status}`);
   return response.arrayBuffer(); // also where a server doesn't say that it is WebAssembly
@@ -83,12 +89,12 @@ const instance = () => (shared = notLarge(shared));
 const { keys } = Uint8Array.prototype, { get: arrayName } = Object.getOwnPropertyDescriptor(Object.getPrototypeOf(Uint8Array.prototype), Symbol.toStringTag);
 /** A plain view of bytes. Those of a buffer that was transferred, or has shrunk, are gone: a TypeError then. */
 function bytesOf(it) {
-  if (ArrayBuffer.isView(it)) {
-    if (arrayName.call(it)) keys.call(it); // throws for one that its buffer has no room for any more, whose length is 0
-    return new Uint8Array(it.buffer, it.byteOffset, it.byteLength);
-  }
-  if (isBuffer(it)) return new Uint8Array(it);
-  throw new TypeError("frames: bytes are needed: a Uint8Array, another view or an ArrayBuffer");
+  const isView = ArrayBuffer.isView(it);
+  if (!isView && !isBuffer(it)) throw new TypeError("frames: bytes are needed: a Uint8Array, another view or an ArrayBuffer");
+  try {
+    if (isView && arrayName.call(it)) keys.call(it); // throws for one that its buffer has no room for any more, whose length is 0
+    return isView ? new Uint8Array(it.buffer, it.byteOffset, it.byteLength) : new Uint8Array(it);
+  } catch (cause) { throw new TypeError("frames: these bytes are gone: their buffer was transferred, or has shrunk", { cause }); }
 }
 /** What the options of a call say. What would be ignored is refused: `new Receiver(8, 10)`, `{ delimiter: 10 }`. */
 function optionsOf(options, ...names) {
@@ -96,14 +102,18 @@ function optionsOf(options, ...names) {
     const meant = typeof options === "boolean" ? `{ plain: ${options} }` : `{ sentinel: ${Number.isInteger(options) ? options : 10} }`;
     throw new TypeError(`frames: options are an object: write ${meant}`);
   }
+  // a Map or a Promise has none of its own, and what others put into Object.prototype isn't the caller's
+  if (Symbol.iterator in options || typeof options.then === "function") throw new TypeError(`frames: options are an object: write { ${names[0]}: .. }`);
+  const isForeign = (name) => Object.hasOwn(Object.prototype, name) && !Object.hasOwn(options, name);
   for (const name in options) {
-    if (!names.includes(name)) throw new TypeError(`frames: no option is called ${name}: write ${names.join(" or ")}`);
+    if (!names.includes(name) && !isForeign(name)) throw new TypeError(`frames: no option is called ${name}: write ${names.join(" or ")}`);
   }
-  const { sentinel = 0, plain = false, signal } = options;
+  const given = names.filter((name) => name in options && !isForeign(name));
+  const { sentinel = 0, plain = false, signal } = Object.assign(Object.create(null), Object.fromEntries(given.map((name) => [name, options[name]])));
   if (!Number.isInteger(sentinel) || sentinel < 0 || sentinel > 255) throw new RangeError("frames: a sentinel is a number from 0 to 255");
   if (typeof plain !== "boolean") throw new TypeError("frames: plain is true or false");
   if (signal !== undefined && typeof signal?.throwIfAborted !== "function") throw new TypeError("frames: signal is an AbortSignal: write { signal: controller.signal }");
-  return { sentinel, plain, signal };
+  return { sentinel, plain, signal, given };
 }
 
 // the places of a receiver's state, of an event, of a chunk, and of the buffer, which grows with what is begun
@@ -273,11 +283,13 @@ export function unseal(message) {
 }
 
 // a receiver of the chunks of one stream, which counts places from its first byte
-function receiverOf(limit, options) {
-  if (limit instanceof Receiver && Object.keys(options).length) throw new TypeError("frames: a receiver has its own sentinel and form: give no options with it");
-  const receiver = limit instanceof Receiver ? limit : new Receiver(limit, options);
+function receiverOf(limit, options, ...more) {
+  const { sentinel, plain, signal, given } = optionsOf(options, "sentinel", "plain", ...more), isHeld = limit instanceof Receiver;
+  if (isHeld && given.some((name) => name !== "signal")) throw new TypeError("frames: a receiver has its own sentinel and form: give no options with it");
+  const receiver = isHeld ? limit : new Receiver(limit, { sentinel, plain });
   let before = 0;
   return {
+    signal,
     push(chunk) {
       const { length } = bytesOf(chunk), events = receiver.push(chunk);
       for (const event of events) event.end += before;
@@ -332,7 +344,7 @@ function chunksOf(source, late) {
 export function receive(source, limit, options = {}) {
   let chunks;
   const events = (async function* () {
-    const { signal } = optionsOf(options, "sentinel", "plain", "signal"), { signal: _, ...form } = options, receiver = receiverOf(limit, form);
+    const receiver = receiverOf(limit, options, "signal"), { signal } = receiver;
     signal?.throwIfAborted();
     chunks = chunksOf(source, receiver.push);
     signal?.addEventListener("abort", chunks.end);

@@ -1,6 +1,6 @@
 // Values of message types by the table that `wire check FILES json` prints: bytes of postcard as JSON, and JSON as bytes. What it prints and
-// refuses is what the program `wire` does; but a line that is two values, it refuses. It is tested against the vectors of `wire` and not
-// proved; see README.md.
+// refuses is what the program `wire` does; but a line that is two values, it refuses, and a value with more than 2^22 parts in a row that
+// take no byte, since a table can have those without end. It is tested against the vectors of `wire` and not proved; see README.md.
 
 const TOO_DEEP = "the value is nested too deeply: `depth=` sets the limit";
 /** Of a line that is two values. */
@@ -22,7 +22,7 @@ export class Unread extends Error {
   }
 }
 
-const GREATEST_DEPTH = 1000;
+const GREATEST_DEPTH = 1000, MOST_WITHOUT_BYTES = 2 ** 22;
 const INTEGER = /^([ui])(8|16|32|64|128)$/;
 const PARTS = new Map([["option", "node"], ["list", "node"], ["map", "node"], ["array", "node"], ["newtype", "node"], ["struct", "fields"], ["enum", "variants"], ["tuple", "nodes"]]);
 const NO_PARTS = new Set(["bool", "char", "bytes", "text", "f32", "f64", "unit", "empty", "fixed"]);
@@ -41,7 +41,10 @@ class Source {
   constructor(bytes) {
     const isBytes = ArrayBuffer.isView(bytes) && Object.prototype.toString.call(bytes) === "[object Uint8Array]"; // of any realm
     if (!isBytes) throw new TypeError("bytes are needed: a Uint8Array");
-    this.bytes = new Uint8Array(bytes.buffer, bytes.byteOffset, bytes.byteLength); // a TypeError if they were transferred
+    try { Uint8Array.prototype.keys.call(bytes); } catch (cause) { // else a view that its buffer has no room for would be of no bytes
+      throw new TypeError("the bytes are gone: their buffer was transferred, or has shrunk", { cause });
+    }
+    this.bytes = new Uint8Array(bytes.buffer, bytes.byteOffset, bytes.byteLength);
     this.at = 0;
   }
   byte() {
@@ -247,9 +250,20 @@ function integerOf(integer, digits) {
   const n = BigInt(digits.replace("+", ""));
   return (sign === "u" ? BigInt.asUintN(bits, n) : BigInt.asIntN(bits, n)) === n ? n : undefined;
 }
-function checkDepth(depth) {
+/** What the options of a read or a write say. What would be ignored is refused. */
+function optionsOf(options) {
+  if (!isObject(options) || Symbol.iterator in options) throw new TypeError("options are an object: write { depth: 60 }");
+  const unknown = Object.keys(options).find((name) => !["depth", "empty", "hex", "wrapped"].includes(name));
+  if (unknown !== undefined) throw new TypeError(`no option is called ${unknown}: write depth, empty, hex or wrapped`);
+  const { depth = 60, empty = 65536, hex = false, wrapped } = Object.assign(Object.create(null), options);
   if (!Number.isInteger(depth) || depth < 1 || depth > GREATEST_DEPTH) throw new RangeError(`depth is a number from 1 to ${GREATEST_DEPTH}`);
+  if (!Number.isSafeInteger(empty) || empty < 0) throw new RangeError("empty is a number of elements");
+  if (typeof hex !== "boolean") throw new TypeError("hex is true or false");
+  if (wrapped !== undefined && typeof wrapped !== "boolean") throw new TypeError("wrapped is true or false");
+  return { depth, empty, hex, wrapped };
 }
+/** A copy of a node, which has its own members alone: the caller's may change, and others put members into Object.prototype. */
+const own = (node) => (isObject(node) ? Object.assign(Object.create(null), node) : node);
 /** Runs a step that goes as deep as a value does: if the engine's stack ends before, that is too deep as well. */
 function onStack(step, tooDeep) {
   try { return step(); } catch (error) {
@@ -272,7 +286,7 @@ export class Table {
       throw new TypeError("a table that `wire check FILES json` prints is needed, of version 1");
     }
     this.types = table.types;
-    this.nodes = table.nodes;
+    this.nodes = table.nodes.map(own);
     this.#check();
   }
   #check() {
@@ -336,10 +350,10 @@ export class Table {
   }
 
   /** The JSON of the value at the front of these bytes. Throws Unread if there is none, or one that nests deeper than `depth` nodes. */
-  read(place, bytes, { depth = 60, empty = 65536, hex = false } = {}) {
+  read(place, bytes, options = {}) {
+    const { depth, empty, hex } = optionsOf(options);
     this.#checkPlace(place);
-    checkDepth(depth);
-    const state = { source: new Source(bytes), deepest: 0, empty: BigInt(empty), hex };
+    const state = { source: new Source(bytes), deepest: 0, empty: BigInt(empty), hex, last: 0, without: 0 };
     const text = onStack(() => this.#value(place, state, 1), new Unread("too_deep"));
     if (state.deepest > depth) throw new Unread("too_deep");
     return text;
@@ -348,6 +362,8 @@ export class Table {
     if (level > GREATEST_DEPTH) throw new Unread("damaged");
     state.deepest = Math.max(state.deepest, level);
     const node = this.nodes[place], { source } = state;
+    if (source.at !== state.last) [state.last, state.without] = [source.at, 0];
+    else if (++state.without > MOST_WITHOUT_BYTES) throw new Unread("damaged");
     switch (node.kind) {
       case "bool": return ["false", "true"][this.#flag(source)];
       case "u8": return String(source.byte());
@@ -438,10 +454,9 @@ export class Table {
    * The bytes of the value that a line of JSON is, by itself or as `{"value": ..}`. If it can be both, and they are two values, it is Wrong, and
    * `wrapped` says which is meant: true takes what `{"value": ..}` holds, false the whole. Throws Wrong, with the way to what is wrong.
    */
-  write(place, line, { depth = 60, empty = 65536, wrapped } = {}) {
-    if (wrapped !== undefined && typeof wrapped !== "boolean") throw new TypeError("wrapped is true or false");
+  write(place, line, options = {}) {
+    const { depth, empty, wrapped } = optionsOf(options);
     this.#checkPlace(place);
-    checkDepth(depth);
     this.#empty = empty;
     const json = onStack(() => parseJson(line, 2 * depth + 2), new Wrong(TOO_DEEP));
     const whole = () => this.#bytesOf(place, json, depth);

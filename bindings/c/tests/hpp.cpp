@@ -202,6 +202,11 @@ int main() {
 #ifdef UNSEAL_OF_A_TEMPORARY // isn't compiled: the view would be of bytes that are gone
     frames::unseal(frames::seal(one));
 #endif
+#ifdef UNSEAL_OF_AN_ARRAY // nor of an array that nobody keeps
+    frames::unseal(std::array<std::uint8_t, 6>());
+#endif
+    const std::array<std::uint8_t, 4> no_bytes{};
+    HOLDS(frames::unseal(no_bytes)->empty() && frames::unseal(std::string_view("\0\0\0\0", 4))->empty());
     const frames::bytes none(nullptr, 3);
     HOLDS(frames::encode(none).empty() && frames::seal(none).empty() && !frames::decode(none) && !frames::unseal(none));
 #if __cplusplus >= 202002L

@@ -117,6 +117,31 @@ assert.throws(() => list.write(0, none, { wrapped: true }), /expected an object 
 assert.throws(() => of({ kind: "u8" }).write(0, "1", { wrapped: true }), /expected \{"value": \.\.\}/);
 assert.throws(() => of({ kind: "u8" }).write(0, '{"value":1}', { wrapped: false }), /expected a number/);
 assert.throws(() => list.write(0, none, { wrapped: 1 }), TypeError);
+// options that would be ignored, and bytes that a buffer has no room for any more
+for (const [options, said] of [[{ depht: 3 }, /no option is called depht: write depth/], [7, /options are an object/], [null, /options are an object/], [new Map(), /options are an object/],
+  [{ hex: "no" }, /hex is true or false/], [{ empty: NaN }, /empty is a number/], [{ empty: "1" }, /empty is a number/]]) {
+  assert.throws(() => list.write(0, none, options), said);
+  assert.throws(() => list.read(0, Uint8Array.of(0), options), said);
+}
+const shrunk = new ArrayBuffer(8, { maxByteLength: 8 }), outside = new Uint8Array(shrunk, 4, 4);
+if (shrunk.resizable) {
+  shrunk.resize(2);
+  assert.throws(() => of({ kind: "unit" }).read(0, outside), /bytes are gone/);
+}
+// a table whose values have no end of parts without a byte: they are refused, in time
+const doubled = Array.from({ length: 40 }, (_, i) => ({ kind: "tuple", nodes: [i + 1, i + 1] }));
+assert.throws(() => of(...doubled, { kind: "unit" }).read(0, Uint8Array.of()), Unread);
+assert.equal(of(...doubled.slice(30).map((it, i) => ({ ...it, nodes: [i + 1, i + 1] })), { kind: "unit" }).read(0, Uint8Array.of()).match(/null/g).length, 1024);
+// neither what the caller does to a table later nor what others put into Object.prototype is of a type
+const nodes = [{ kind: "u8" }], changed = of(...nodes);
+nodes[0].kind = "text";
+assert.equal(hex(changed.write(0, "7")), "07");
+Object.prototype.most = 1;
+Object.prototype.wrapped = true;
+try { assert.equal(hex(of({ kind: "text" }).write(0, '"ab"')), "026162"); } finally {
+  delete Object.prototype.most;
+  delete Object.prototype.wrapped;
+}
 // a table that isn't whole is refused as such, before bytes are read by it
 for (const node of [null, 5, { kind: "struct" }, { kind: "tuple" }, { kind: "option" }, { kind: "list", most: -1, node: 0 }, { kind: "array", node: 0 },
   { kind: "array", node: 0, count: -1 }, { kind: "array", count: 1 }, { kind: "fixed", integer: "u16" }, { kind: "text", most: "5" }, { kind: "other", undefined: 0 },

@@ -299,18 +299,33 @@ function refusals() {
   for (const [call, said] of [
     [() => new frames.Receiver(8, 10), /write \{ sentinel: 10 \}/], [() => new frames.Receiver(8, true), /write \{ plain: true \}/],
     [() => new frames.Sender(10), /write \{ sentinel: 10 \}/], [() => new frames.Sender("\n"), /options are an object/], [() => new frames.Sender(null), /options are an object/],
-    [() => new frames.Receiver(8, { delimiter: 10 }), /no option is called delimiter: write sentinel or plain/], [() => new frames.Receiver(8, [10]), /no option/],
+    [() => new frames.Receiver(8, { delimiter: 10 }), /no option is called delimiter: write sentinel or plain/], [() => new frames.Receiver(8, [10]), /options are an object/],
     [() => new frames.Receiver(8, { plain: "no" }), /plain is true or false/], [() => frames.encode(Uint8Array.of(1), 10), /write \{ sentinel: 10 \}/],
     [() => frames.decode(Uint8Array.of(1), { plain: true }), /no option is called plain/], [() => frames.receiverStream(8, 10), /write \{ sentinel: 10 \}/],
     [() => frames.receiverStream(8, { signal: new AbortController().signal }), /no option is called signal/],
+    [() => frames.encode(Uint8Array.of(1), new Map([["sentinel", 10]])), /options are an object: write \{ sentinel: \.\. \}/],
+    [() => frames.encode(Uint8Array.of(1), Promise.resolve({ sentinel: 10 })), /options are an object/],
+    [() => frames.encode(Uint8Array.of(1), JSON.parse('{"__proto__":{"sentinel":10}}')), /no option is called __proto__/],
   ]) assert.throws(call, (error) => error instanceof TypeError && said.test(error.message), `${call}`);
+  // what others put into Object.prototype is no option of a call; what a caller's options inherit is
+  Object.prototype.sentinel = 10;
+  Object.prototype.more = 10;
+  try {
+    assert.deepEqual(frames.encode(Uint8Array.of(1), {}), Uint8Array.of(2, 1));
+    assert.deepEqual(frames.encode(Uint8Array.of(1), { sentinel: 1 }), Uint8Array.of(3, 0));
+    assert.deepEqual(new frames.Sender().send(Uint8Array.of()), new frames.Sender({ sentinel: 0 }).send(Uint8Array.of()));
+  } finally {
+    delete Object.prototype.sentinel;
+    delete Object.prototype.more;
+  }
+  assert.deepEqual(frames.encode(Uint8Array.of(1), Object.create({ sentinel: 1 })), Uint8Array.of(3, 0));
   // bytes that were transferred are gone, and aren't none
   const gone = new Uint8Array(3), view = new DataView(gone.buffer);
   structuredClone(gone.buffer, { transfer: [gone.buffer] });
   for (const it of [gone, view, gone.buffer]) {
-    assert.throws(() => new frames.Receiver(8).push(it), /detached/);
-    assert.throws(() => new frames.Sender().send(it), /detached/);
-    assert.throws(() => frames.seal(it), /detached/);
+    assert.throws(() => new frames.Receiver(8).push(it), /bytes are gone/);
+    assert.throws(() => new frames.Sender().send(it), /bytes are gone/);
+    assert.throws(() => frames.seal(it), /bytes are gone/);
   }
   // nor are those for which a buffer has no room any more
   const shrunk = new ArrayBuffer(8, { maxByteLength: 8 }), outside = [new Uint8Array(shrunk, 4, 4), new Uint32Array(shrunk, 4, 1), new DataView(shrunk, 4, 4)], all = new Uint8Array(shrunk);
@@ -354,6 +369,9 @@ function refusals() {
 refusals();
 await frames.load(import.meta.resolve("../frames.wasm")); // a URL as a text
 await assert.rejects(frames.load(Uint8Array.of(0, 97, 115, 109, 1, 0, 0, 0)), /isn't frames.wasm/); // another module
+for (const it of [null, {}, 5]) await assert.rejects(frames.load(it), /load takes a URL/);
+await assert.rejects(frames.load("bindings/js/frames.wasm"), /write pathToFileURL\(path\)/);
+await frames.load(Promise.resolve(readFileSync(new URL("../frames.wasm", import.meta.url)))); // as of fetch
 await frames.load(process.env.FRAMES_WASM ? readFileSync(process.env.FRAMES_WASM) : undefined);
 await streams();
 await ends();
