@@ -7,11 +7,12 @@
  *
  * Plain messages. If a plain send is interrupted, a prefix of its message may itself be a frame: frames_send_plain("pay\0me") that stops
  * after five bytes is received as `pay`, which nobody sent. So of an interrupted plain send, the receiver reports nothing, damage, too many
- * bytes, or a prefix of its message. Each counted message that is received was sent, whatever was interrupted; that is proved. Counted
- * messages are the calls without `plain` in their names.
+ * bytes, or a prefix of its message. No part of an interrupted counted message is received as a message; that is proved. Counted messages
+ * are the calls without `plain` in their names.
  *
- * Changed bytes. A byte that changed on the line may make the frame of another message, counted or not. Against that seal each message:
- * frames_seal before it is sent, frames_unseal of what is received.
+ * Changed bytes. A byte that changed on the line may make the frame of another message, counted or not; so may a receiver that begins
+ * inside a frame, up to the next sentinel. Against both seal each message: frames_seal before it is sent, frames_unseal of what is
+ * received.
  *
  * Targets: x86-64 and aarch64. A 32-bit microcontroller can't link the library; frames_small.h is for one.
  *

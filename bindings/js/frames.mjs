@@ -2,7 +2,7 @@
 // proved. It is for Node 20, Deno and browsers, and needs no other package. What a receiver or a sender keeps is bytes here, which are put into
 // one of two instances of the module for a call: there may be any number of them, and nothing has to be freed.
 //
-// Messages are counted unless `plain` is said: each that is received was sent, whatever broke off. README.md says what that means.
+// Messages are counted unless `plain` is said: no part of an interrupted one is received as a message. README.md says what that means.
 
 let compiled;
 const byteLength = Object.getOwnPropertyDescriptor(ArrayBuffer.prototype, "byteLength").get;

@@ -1,8 +1,9 @@
 """Messages as frames over a line that may break, by a library whose code is proved.
 
 If a send of a *plain* message is interrupted, a prefix of it may be received as a message that nobody sent. So messages are *counted*
-without `plain=True`: their length goes first, as postcard (Rust) encodes a byte string, and each message that is received was sent,
-whatever was interrupted. A byte that changed on the line may still make another message: `seal` and `unseal` are against that.
+without `plain=True`: their length goes first, as postcard (Rust) encodes a byte string, and no part of an interrupted one is received
+as a message. A byte that changed on the line, or a start inside a frame, may still make another message: `seal` and `unseal` are
+against that.
 
     sender, receiver = Sender(), Receiver(limit=1024)
     port.write(sender.send(b"hi"))      # if it raises, the next send begins with a sentinel

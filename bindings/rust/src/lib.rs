@@ -1,8 +1,9 @@
 //! Messages as frames over a line that may break, by a static library whose code is proved: safe calls over its C functions.
 //!
 //! If a send of a *plain* message is interrupted, a prefix of it may be received as a message that nobody sent. So messages are *counted*
-//! unless a call says `plain`: their length goes first, as `postcard` encodes a `&[u8]`, and each message that is received was sent,
-//! whatever was interrupted. A byte that changed on the line may still make another message: [`seal`] and [`unseal`] are against that.
+//! unless a call says `plain`: their length goes first, as `postcard` encodes a `&[u8]`, and no part of an interrupted one is received as
+//! a message. A byte that changed on the line, or a start inside a frame, may still make another message: [`seal`] and [`unseal`] are
+//! against that.
 //!
 //! No call allocates, waits or panics. The C functions require good pointers and that nothing written overlaps: Rust's slices are so.
 //! This crate is tested, not proved.
