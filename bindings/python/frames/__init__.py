@@ -15,7 +15,8 @@ against that.
         ...                             # the same, and Cut at the end, if it ends inside a frame
 
 Threads can share a receiver and a sender: each call is done as a whole, and so is each `Sender.write`. A call inside another one of the same
-receiver or sender, such as from a signal handler or the line that is written to, is a `RuntimeError`.
+receiver or sender, such as from a signal handler or the line that is written to, is a `RuntimeError`. In the child of a fork, a call that
+another thread was inside of is interrupted: a receiver continues after the next sentinel, and a send begins with one.
 
 This module is tested, not proved. It passes the library bytes that don't change and buffers of its own, so nothing overlaps and no pointer
 is null. What isn't bytes is a `TypeError`, a number too.
@@ -30,6 +31,7 @@ import select
 import socket
 import stat
 import time
+import weakref
 from ctypes import POINTER, Structure, addressof, byref, c_bool, c_char_p, c_size_t, c_uint8, c_uint32, c_void_p, cast
 from dataclasses import dataclass
 from operator import index
@@ -224,8 +226,38 @@ def _byte(sentinel: int) -> int:
     return index(sentinel)
 
 
+class _Turn:
+    """The lock of a receiver or a sender, and whether a call is inside of what it guards."""
+
+    def __init__(self, owner: "_Single") -> None:
+        self.lock, self.is_inside, self.owner = RLock(), False, weakref.ref(owner)
+        _TURNS.add(self)
+
+
+_TURNS: "weakref.WeakSet[_Turn]" = weakref.WeakSet()
+
+
+def _forked() -> None:
+    """In the child of a fork: what another thread held, which isn't there, would be held for ever, and what it did is half done."""
+    for turn in list(_TURNS):
+        if turn.lock.acquire(blocking=False):  # it is free, or of the thread that forked, which goes on here
+            turn.lock.release()
+            continue
+        turn.lock, turn.is_inside, owner = RLock(), False, turn.owner()
+        if owner is not None:
+            owner._interrupted()
+
+
+if hasattr(os, "register_at_fork"):
+    os.register_at_fork(after_in_child=_forked)
+
+
 class _Single:
     """Of a line there is one: a copy would have a state of its own, and not know what the other one wrote or read."""
+
+    def _interrupted(self) -> None:
+        """What a call leaves that another thread was inside of, in the child of a fork."""
+        raise NotImplementedError
 
     def __reduce_ex__(self, protocol: Any) -> NoReturn:
         raise TypeError(f"a {type(self).__name__} isn't copied: a line has one")
@@ -243,7 +275,7 @@ class Sender(_Single):
     """Makes the bytes to write for each message."""
 
     def __init__(self, sentinel: int = 0, plain: bool = False) -> None:
-        self._state, self._lock, self._is_writing = library().frames_c_sender(_byte(sentinel)), RLock(), False
+        self._state, self._turn = library().frames_c_sender(_byte(sentinel)), _Turn(self)
         self._send = library().frames_c_send_plain if plain else library().frames_c_send
 
     def send(self, message: bytes) -> bytes:
@@ -252,7 +284,7 @@ class Sender(_Single):
         Call `sent` once all of them went out. If they didn't, call nothing: the next send then begins with a sentinel.
         """
         message = _bytes(message)
-        with self._lock:
+        with self._turn.lock:
             self._refuse_inside()
             room = len(message) + len(message) // 254 + 16
             dest = _Room(room)
@@ -263,13 +295,16 @@ class Sender(_Single):
 
     def sent(self) -> None:
         """Says that all bytes of the last send went out."""
-        with self._lock:
+        with self._turn.lock:
             self._refuse_inside()
             library().frames_c_sent(byref(self._state))
 
     def _refuse_inside(self) -> None:
-        if self._is_writing:
+        if self._turn.is_inside:
             raise RuntimeError("a call of a sender inside a write of its own")
+
+    def _interrupted(self) -> None:
+        self._state.clean = 0
 
     def write(self, line: _Line, message: bytes) -> None:
         """Sends a message over a file object or a serial port, and flushes it. Threads write one after another.
@@ -281,10 +316,10 @@ class Sender(_Single):
             raise TypeError("a writer of asyncio returns no count: use frames.aio.Line")
         if not callable(getattr(line, "write", None)) or not callable(getattr(line, "flush", None)):
             raise TypeError(f"a line has `write` and `flush`, and a {type(line).__name__} hasn't both{_instead(line, 'wb')}")
-        with self._lock:
+        with self._turn.lock:
             out = memoryview(self.send(message))
             try:
-                self._is_writing = True
+                self._turn.is_inside = True
                 while out:
                     count = line.write(out)
                     if count is True or (count and count > len(out)):  # else bytes would go out twice, or be missing
@@ -294,7 +329,7 @@ class Sender(_Single):
                     out = out[count:]
                 line.flush()
             finally:
-                self._is_writing = False
+                self._turn.is_inside = False
             self.sent()
 
 
@@ -308,7 +343,7 @@ class Receiver(_Single):
             raise ValueError("a limit is a number of bytes, 1 or more")
         self._limit = index(limit)
         self._state, self._buffer = library().frames_c_receiver(_byte(sentinel)), _Room(self._limit)
-        self._lock, self._is_pushing = RLock(), False
+        self._turn = _Turn(self)
         self._push = library().frames_c_push_plain if plain else library().frames_c_push
 
     def push(self, piece: bytes) -> List[Event]:
@@ -320,20 +355,20 @@ class Receiver(_Single):
         is_begun = False
         try:
             view = piece if type(piece) is bytes else memoryview(piece)
-            with self._lock:
+            with self._turn.lock:
                 self._refuse_inside()
                 is_begun = True
                 try:
-                    self._is_pushing = True
+                    self._turn.is_inside = True
                     return self._pushed(bytes(view))  # which may find no memory for a copy
                 except BaseException:
                     self._skip()
                     raise
                 finally:
-                    self._is_pushing = False
+                    self._turn.is_inside = False
         except BaseException as error:
             if not is_begun and not isinstance(error, (BufferError, RuntimeError, TypeError, ValueError)):  # these: misuse, which changes nothing
-                with self._lock:
+                with self._turn.lock:
                     self._skip()
             raise
 
@@ -360,18 +395,21 @@ class Receiver(_Single):
                 return events
 
     def _refuse_inside(self) -> None:
-        if self._is_pushing:
+        if self._turn.is_inside:
             raise RuntimeError("a call of a receiver inside a push of its own")
+
+    def _interrupted(self) -> None:
+        self._skip()
 
     @property
     def begun(self) -> int:
         """How many bytes have come since the last sentinel; 0 after `TooLong`."""
-        with self._lock:
+        with self._turn.lock:
             return int(library().frames_c_begun(byref(self._state)))
 
     def finish(self) -> Optional[Cut]:
         """Ends the stream, and begins a new one. Returns `Cut` if it ended inside a frame."""
-        with self._lock:
+        with self._turn.lock:
             self._refuse_inside()
             begun = int(library().frames_c_begun(byref(self._state)))
             return Cut(begun) if library().frames_c_finish(byref(self._state)) else None

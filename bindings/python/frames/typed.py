@@ -22,7 +22,7 @@ import threading
 from ctypes import POINTER, Structure, byref, c_char_p, c_size_t, c_uint8, c_void_p
 from typing import IO, Any, Dict, Generator, Iterable, List, NoReturn, Optional, Tuple, Union
 
-from . import _byte, _of, _pieces, _refuse_no_source, _Room, _Single
+from . import _byte, _of, _pieces, _refuse_no_source, _Room, _Single, _Turn
 
 _Path = Union[str, "os.PathLike[str]"]
 _DONE, _NO_ROOM, _WRONG, _REFUSED, _NO_MEMORY = range(5)
@@ -133,31 +133,34 @@ class _Type:
         return bytes([sentinel]) + text
 
 
-class _Stream:
+class _Stream(_Single):
     """A stream of frames of a type, as it comes."""
 
     def __init__(self, of: _Type, calls: ctypes.CDLL, sentinel: int, strict: bool) -> None:
         self._of, self._calls, self._terms = of, calls, _Terms(sentinel=sentinel, strict=bool(strict))
         self._left, self._before, self._is_closed = b"", 0, False
-        self._lock, self._is_pushing = threading.RLock(), False
+        self._turn = _Turn(self)
         self.push(b"")  # what the declarations are refused for
 
     def push(self, piece: bytes, ends: bool = False, begins: bool = False) -> List[Dict[str, Any]]:
         """The answers that these bytes bring. Threads push one after another: the room and what is left over are one receiver's."""
         view = memoryview(piece)
-        with self._lock:
-            if self._is_pushing:  # by a signal handler
+        with self._turn.lock:
+            if self._turn.is_inside:  # by a signal handler
                 raise RuntimeError("a call of a receiver inside another one")
             try:
-                self._is_pushing = True
+                self._turn.is_inside = True
                 if begins:  # what a `listen` left over is no part of this stream
                     self._begin()
                 self._take(view)  # which is read again, if memory ends before it is answered
                 return self._answered(ends)
             finally:
-                self._is_pushing = False
+                self._turn.is_inside = False
                 if ends:
                     self._begin()
+
+    def _interrupted(self) -> None:
+        self._left, self._before, self._terms.inside = b"", self._before + len(self._left), 1
 
     def _begin(self) -> None:
         self._left, self._before, self._terms.inside = b"", 0, 0
@@ -166,7 +169,8 @@ class _Stream:
         try:
             self._left += bytes(view)
         except BaseException:  # they are lost: what comes next isn't the end of the frame that began before them
-            self._left, self._before, self._terms.inside = b"", self._before + len(self._left) + view.nbytes, 1
+            self._interrupted()
+            self._before += view.nbytes
             raise
 
     def _answered(self, ends: bool) -> List[Dict[str, Any]]:
@@ -312,15 +316,16 @@ class _Process:
 
     def __init__(self, declarations: str, type_name: str, sentinel: int, strict: bool, wire: Optional[str]) -> None:
         words = _command(wire, "read", declarations, type_name, sentinel) + (["strict"] if strict else [])
-        self._said = tempfile.TemporaryFile()
+        said = tempfile.TemporaryFile()
+        self._said: Optional[IO[bytes]] = said
         self._feeder: Optional[threading.Thread] = None
         self._failure: Optional[BaseException] = None
-        self._is_used = False
+        self._lock, self._is_used, self._is_closed = threading.RLock(), False, False
         # in a session of its own, so that Ctrl-C at a terminal ends the caller alone, whose `close` then ends the program
         try:
-            self._process = subprocess.Popen(words, stdin=subprocess.PIPE, stdout=subprocess.PIPE, stderr=self._said, start_new_session=True)
+            self._process = subprocess.Popen(words, stdin=subprocess.PIPE, stdout=subprocess.PIPE, stderr=said, start_new_session=True)
         except BaseException:
-            self._said.close()
+            said.close()
             raise
 
     def _begin(self) -> None:
@@ -332,18 +337,30 @@ class _Process:
         self._begin()
         self._feeder = threading.Thread(target=self._feed, args=(source, ends), daemon=True)
         self._feeder.start()
-        assert self._process.stdout is not None
-        for line in self._process.stdout:
-            if not line.endswith(b"\n"):  # it was ended inside of it
+        while True:
+            line = self._next_line()
+            if not line.endswith(b"\n"):  # the end, or it was ended inside of it
                 break
             yield _answer(line)
-            if self._process.stdout.closed:  # by `close`, in the loop
-                return
+        if self._is_closed:
+            return
         self._process.wait()
         self._feeder.join(timeout=1)  # where the program stopped by itself, a read of the source may still be waiting
         self.close()
         if self._failure is not None:
             raise self._failure
+
+    def _next_line(self) -> bytes:
+        """The next line of the program; none at the end, or once `close` was called, in the loop or by another thread."""
+        assert self._process.stdout is not None
+        if self._is_closed:
+            return b""
+        try:
+            return self._process.stdout.readline()
+        except ValueError:  # it was closed meanwhile
+            if not self._is_closed:
+                raise
+            return b""
 
     def answers(self, stream: bytes) -> List[Dict[str, Any]]:
         stream = bytes(memoryview(stream))
@@ -353,21 +370,24 @@ class _Process:
         return [_answer(line) for line in out.splitlines()]
 
     def close(self) -> None:
-        process = self._process
-        assert process.stdin is not None and process.stdout is not None
-        is_ended_here = self._feeder is not None and process.poll() is None
-        if self._feeder is not None:
-            process.terminate()  # which does nothing to one that has ended
-        elif not process.stdout.closed:
-            _closed(process.stdin)
-            process.stdout.read()
-        status = process.wait()
-        _closed(process.stdin)  # here too: the feeder may still wait for its source, or come to it late
-        _closed(process.stdout)
-        if not self._said.closed:
-            self._said.seek(0)
-            said = self._said.read().decode(errors="replace").strip()
-            self._said.close()
+        """Ends the program, and says what it said. Of threads that close it, as the one that reads does at the end, one says so."""
+        with self._lock:
+            self._is_closed, process = True, self._process
+            assert process.stdin is not None and process.stdout is not None
+            is_ended_here = self._feeder is not None and process.poll() is None
+            if self._feeder is not None:
+                process.terminate()  # which does nothing to one that has ended
+            elif not process.stdout.closed:
+                _closed(process.stdin)
+                process.stdout.read()
+            status = process.wait()
+            _closed(process.stdin)  # here too: the feeder may still wait for its source, or come to it late
+            _closed(process.stdout)
+            said_file, self._said = self._said, None
+        if said_file is not None:
+            with said_file:
+                said_file.seek(0)
+                said = said_file.read().decode(errors="replace").strip()
             if status > 1 or (status < 0 and not is_ended_here):  # the latter by a signal, as of a system without memory
                 raise OSError(said or f"wire ended with status {status}")
 

@@ -171,11 +171,93 @@ def test_write():
 
 
 def in_time(call):
-    """What a call in a thread returns, within five seconds."""
+    """What a call in a thread returns, within a minute: so long may a busy machine take."""
     told = []
     thread = threading.Thread(target=lambda: told.append(call()), daemon=True)
-    thread.start(), thread.join(timeout=5)
-    return told and told[0]
+    thread.start(), thread.join(timeout=60)
+    assert told, "a call raised, or hasn't returned in a minute"
+    return told[0]
+
+
+def until(is_so, what):
+    """Waits until something is so, at most a minute."""
+    end = time.monotonic() + 60
+    while not is_so():
+        assert time.monotonic() < end, f"waited a minute for: {what}"
+        time.sleep(0.01)
+
+
+def in_child(call):
+    """Calls in the child of a fork: whether it returned what is true, within a minute."""
+    child = os.fork()
+    if child == 0:
+        signal.alarm(60)
+        try:
+            os._exit(0 if call() else 1)
+        finally:  # what it raised is told by nobody else
+            sys.excepthook(*sys.exc_info()) if sys.exc_info()[0] else None
+            os._exit(2)
+    return os.waitstatus_to_exitcode(os.waitpid(child, 0)[1]) if hasattr(os, "waitstatus_to_exitcode") else os.waitpid(child, 0)[1]
+
+
+def test_fork(folder):
+    """In the child of a fork, what another thread was inside of is interrupted, and no lock is held; a fork inside a write goes on."""
+    entered, leaves = threading.Event(), threading.Event()
+
+    def waits(*given):
+        entered.set()
+        return leaves.wait(60) and len(given[0])
+
+    def while_inside(call, *calls):
+        """What a child says, that begins while a thread is inside the first call."""
+        entered.clear(), leaves.clear()
+        thread = threading.Thread(target=call)
+        thread.start()
+        assert entered.wait(60)
+        try:
+            return [in_child(it) for it in calls]
+        finally:
+            leaves.set(), thread.join()
+
+    def written():
+        line = io.BytesIO()
+        sender.write(line, b"yo")
+        return line.getvalue() == b"\0\4\2yo\0"
+
+    sender = frames.Sender()
+    sender.write(io.BytesIO(), b"hi")
+    held = types.SimpleNamespace(write=waits, flush=lambda: None)
+    assert while_inside(lambda: sender.write(held, b"hi"), written, lambda: sender.send(b"yo")[:1] == b"\0", lambda: sender.sent() is None) == [0, 0, 0]
+    assert sender.send(b"hi") == b"\4\2hi\0"  # and here nothing happened to it
+    sender.sent()
+
+    class Forks(io.BytesIO):
+        def write(self, out):
+            self.child = in_child(lambda: refuses(RuntimeError, sender.send, b"inside"))
+            return super().write(out)
+
+    line = Forks()
+    sender.write(line, b"hi")
+    assert line.child == 0 and line.getvalue() == b"\4\2hi\0"
+    receiver, damaged = frames.Receiver(8), frames.Damaged
+    try:
+        frames.Damaged = lambda length: waits(b"x")
+        thread = (lambda: receiver.push(b"\5a\0\4\2h"))
+        skips = lambda: receiver.begun == 0 and receiver.push(b"i\0\4\2yo\0")[-1:] == [b"yo"] and receiver.finish() is None  # noqa: E731
+        assert while_inside(thread, skips) == [0]
+    finally:
+        frames.Damaged = damaged
+    assert receiver.push(b"i\0") == [b"hi"]
+    if folder:
+        path, answer = os.path.join(folder, "fork.rs"), typed._answer
+        pathlib.Path(path).touch()
+        stream = typed.TypedReceiver(path, "u8")
+        try:
+            typed._answer = lambda line: answer(line) if entered.is_set() else (waits(b"x"), answer(line))[1]
+            assert while_inside(lambda: stream.answers(b"\2\7\0"), lambda: stream.answers(b"\2\x08\0") == [{"value": 8}]) == [0]
+        finally:
+            typed._answer = answer
+        assert stream.answers(b"\2\x09\0") == [{"value": 9}]
 
 
 def test_inside(folder):
@@ -341,7 +423,7 @@ def test_aio():
     async def cancelled(limit):  # while it waits inside of a frame; and what is heard of the rest
         line, reader = frames.Sender().send(b"\x09\x09\x03\x01X"), asyncio.StreamReader()
         reader.feed_data(line[:5])
-        assert await asyncio.wait_for(refuses_to_wait(aio.listen(reader, limit)), 5)
+        assert await asyncio.wait_for(refuses_to_wait(aio.listen(reader, limit)), 60)
         reader.feed_data(line[5:]), reader.feed_eof()
         return [event async for event in aio.listen(reader, limit)]
 
@@ -448,6 +530,7 @@ def test_port():
     sender.write(device, b"behind it")
     assert [next(heard), next(heard)] == [frames.Damaged(6), b"behind it"]
     device.write(sender.send(b"at the end")[:4])
+    until(lambda: host.in_waiting == 4, "four bytes at the other end")  # the system passes them on later, on a busy machine after the read's time
     assert list(frames.listen(host, limit=64)) == [frames.Cut(4)]
     os.close(here), os.close(there)
 
@@ -767,7 +850,7 @@ def test_typed(folder, wire):
             assert next(heard) == {"value": value}
     if wire:
         feeder = receiver._by._feeder
-        feeder.join(timeout=5)
+        feeder.join(timeout=60)
         assert not feeder.is_alive()
     os.close(here), os.close(there)
     for error, call in (
@@ -806,9 +889,9 @@ def test_typed_aio(folder, wire):
         except asyncio.TimeoutError:
             pass
         os.write(there, b"\2\7\0\2\x08\0\2")
-        told = [await asyncio.wait_for(answers.get(), 10) for _ in range(2)]
+        told = [await asyncio.wait_for(answers.get(), 60) for _ in range(2)]
         receiver.close()
-        await loop.run_in_executor(None, thread.join, 10)
+        await loop.run_in_executor(None, thread.join, 60)
         return told, thread.is_alive()
 
     assert asyncio.run(session()) == ([{"value": 7}, {"value": 8}], False)
@@ -871,6 +954,41 @@ except KeyboardInterrupt:
 """
 
 
+def opened():
+    """The open files of this process, with what they are."""
+    found = {}
+    for name in os.listdir("/proc/self/fd"):
+        try:
+            found[name] = os.readlink(f"/proc/self/fd/{name}")
+        except FileNotFoundError:  # of the folder itself
+            pass
+    return found
+
+
+def test_closed_meanwhile(folder, wire):
+    """`close` by another thread ends the loop that reads, and raises nothing there, wherever that is."""
+    path, raised, hook, before = os.path.join(folder, "meanwhile.rs"), [], threading.excepthook, sys.getswitchinterval()
+    pathlib.Path(path).touch()
+    threading.excepthook = lambda it: raised.append(repr(it.exc_value))
+    sys.setswitchinterval(1e-6)
+    try:
+        for k in range(30):
+            taken, given = os.pipe()
+            source, receiver, heard = os.fdopen(taken, "rb"), typed.TypedReceiver(path, "u8", wire=wire), []
+            answers = receiver.listen(source)
+            thread = threading.Thread(target=lambda: heard.extend(answers))
+            thread.start()
+            os.write(given, b"\2\7\0" * 2000)
+            time.sleep(0.001 * (k % 15))
+            receiver.close(), os.close(given), thread.join(60)
+            assert not thread.is_alive() and all(it == {"value": 7} for it in heard), heard[-3:]
+            source.close()
+    finally:
+        sys.setswitchinterval(before)
+        threading.excepthook = hook
+    assert raised == [], raised
+
+
 def test_killed(folder):
     """A program that a signal ends, as where there is no memory, isn't the end of the stream; one that is ended by `close` is no error."""
     path, killed = os.path.join(folder, "killed.rs"), os.path.join(folder, "killed")
@@ -895,10 +1013,11 @@ def test_killed(folder):
     with typed.TypedReceiver(path, "u8", wire=killed) as receiver:
         assert next(receiver.listen(io.BytesIO(b"\n"))) == {"value": 7}
     try:  # one that can't be started leaves no file open
-        before = os.listdir("/proc/self/fd")
+        gc.collect()  # else what is left of earlier calls may be closed in between
+        before = opened()
         typed.TypedReceiver(path, "u8", wire=path)
     except PermissionError:
-        assert os.listdir("/proc/self/fd") == before
+        assert opened() == before, (before, opened())
     else:
         raise AssertionError("not raised")
     # Ctrl-C, which a terminal sends to all that runs there, is a KeyboardInterrupt, and no failure of the program
@@ -906,7 +1025,7 @@ def test_killed(folder):
     there.stdin.write(b"\n"), there.stdin.flush()
     assert there.stdout.readline() == b"{'value': 7}\n"
     os.killpg(there.pid, signal.SIGINT)
-    assert there.stdout.read() == b"interrupted\n" and there.wait(timeout=20) == 0, there.returncode  # while its input stays open
+    assert there.stdout.read() == b"interrupted\n" and there.wait(timeout=60) == 0, there.returncode  # while its input stays open
     there.stdin.close(), there.stdout.close()
 
 
@@ -924,6 +1043,7 @@ def main():
     test_aio()
     test_inside(None)
     test_raised(None)
+    test_fork(None)
     if len(sys.argv) > 1:
         by_library = typed.library()
         os.environ.pop("WIRE_LIBRARY", None)  # a wheel has its own, or none
@@ -934,6 +1054,8 @@ def main():
             test_typed(sys.argv[1], None)
             test_inside(sys.argv[1])
             test_raised(sys.argv[1])
+            test_fork(sys.argv[1])
+            test_closed_meanwhile(sys.argv[1], None)
             test_value_field(sys.argv[1], None)
             test_closed(sys.argv[1], None)
             test_typed_aio(sys.argv[1], None)
@@ -943,6 +1065,7 @@ def main():
             test_typed(sys.argv[1], wire)
             test_value_field(sys.argv[1], wire)
             test_closed(sys.argv[1], wire)
+            test_closed_meanwhile(sys.argv[1], wire)
             test_typed_aio(sys.argv[1], wire)
         test_both(rng, sys.argv[1])
 
