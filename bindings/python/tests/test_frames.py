@@ -26,6 +26,7 @@ import time
 import tty
 import types
 import typing
+import warnings
 import zipfile
 
 import frames
@@ -189,7 +190,9 @@ def until(is_so, what):
 
 def in_child(call):
     """Calls in the child of a fork: whether it returned what is true, within a minute."""
-    child = os.fork()
+    with warnings.catch_warnings():
+        warnings.simplefilter("ignore")  # of Python 3.12 and later, that other threads may hold locks
+        child = os.fork()
     if child == 0:
         signal.alarm(60)
         try:
