@@ -6,20 +6,30 @@ import { fileURLToPath } from "node:url";
 
 const TOP = fileURLToPath(new URL("..", import.meta.url));
 
+const LIMIT = 120;
+/** What a promise brings, or an error that says what was waited for. */
+async function inTime(what, promise) {
+  let timer;
+  try {
+    return await Promise.race([promise, new Promise((_, no) => { timer = setTimeout(() => no(new Error(`${what} in ${LIMIT} s`)), 1000 * LIMIT); })]);
+  } finally { clearTimeout(timer); }
+}
+
 /** Serves this folder, by the command that README.md has. */
 export async function serve() {
   const asked = [];
   const child = spawn("python3", ["-u", "-m", "http.server", "0", "--bind", "127.0.0.1", "--directory", TOP], { stdio: ["ignore", "pipe", "pipe"] });
   child.stderr.setEncoding("utf8").on("data", (text) => { for (const [, path] of text.matchAll(/"GET (\S+) /g)) asked.push(path); });
-  const port = await new Promise((go, no) => {
-    child.stdout.setEncoding("utf8").on("data", (text) => { const found = /port (\d+)/.exec(text); if (found) go(found[1]); });
+  const port = await inTime("python3 -m http.server says no port", new Promise((go, no) => {
+    let said = "";
+    child.stdout.setEncoding("utf8").on("data", (text) => { const found = /port (\d+) /.exec(said += text); if (found) go(found[1]); });
     child.on("exit", () => no(new Error("python3 -m http.server ended")));
-  });
+  })).catch((error) => { child.kill(); throw error; });
   return { url: `http://127.0.0.1:${port}/`, asked, close: () => child.kill() };
 }
 
 export class Browser {
-  #child; #folder; #waiting = new Map(); #next = 0; #session; #rest = "";
+  #child; #folder; #waiting = new Map(); #next = 0; #session; #rest = ""; #ended;
   /** What the page said on its console, and what it threw. */
   said = []; thrown = []; downloads = [];
   static async start(...flags) {
@@ -29,6 +39,12 @@ export class Browser {
       `--user-data-dir=${it.#folder}`, ...flags, "about:blank"];
     it.#child = spawn("chromium", words, { stdio: ["ignore", "ignore", "ignore", "pipe", "pipe"] });
     it.#child.stdio[4].setEncoding("utf8").on("data", (text) => it.#read(text));
+    it.#child.stdio[3].on("error", () => {}); // of one that has ended, which is said next
+    it.#child.on("exit", (status, signal) => {
+      it.#ended = `chromium ended with ${signal ?? `status ${status}`}`;
+      for (const { no, what } of it.#waiting.values()) no(new Error(`${it.#ended} before it answered ${what}`));
+      it.#waiting.clear();
+    });
     const { targetInfos } = await it.call("Target.getTargets");
     const { targetId } = targetInfos.find(({ type }) => type === "page");
     it.#session = (await it.call("Target.attachToTarget", { targetId, flatten: true })).sessionId;
@@ -42,19 +58,20 @@ export class Browser {
     for (const part of parts) {
       const { id, result, error, method, params } = JSON.parse(part);
       if (id) {
-        const { go, no } = this.#waiting.get(id);
-        this.#waiting.delete(id);
+        const { go, no } = this.#waiting.get(id) ?? {};
+        if (!this.#waiting.delete(id)) continue; // it took too long, as was said
         if (error) no(new Error(error.message)); else go(result);
       } else if (method === "Runtime.consoleAPICalled") this.said.push(params.args.map((it) => it.value ?? it.description).join(" "));
       else if (method === "Runtime.exceptionThrown") this.thrown.push(params.exceptionDetails.exception?.description ?? params.exceptionDetails.text);
     }
   }
   call(method, params = {}) {
-    const id = ++this.#next;
-    return new Promise((go, no) => {
-      this.#waiting.set(id, { go, no });
+    const id = ++this.#next, what = `${method} ${JSON.stringify(params).slice(0, 200)}`;
+    if (this.#ended) return Promise.reject(new Error(`${this.#ended} before ${what}`));
+    return inTime(`chromium doesn't answer ${what}`, new Promise((go, no) => {
+      this.#waiting.set(id, { go, no, what });
       this.#child.stdio[3].write(`${JSON.stringify({ id, method, params, sessionId: this.#session })}\0`);
-    });
+    })).finally(() => this.#waiting.delete(id));
   }
   async run(expression) {
     const { result, exceptionDetails } = await this.call("Runtime.evaluate", { expression, awaitPromise: true, returnByValue: true, userGesture: true });
@@ -86,9 +103,9 @@ export class Browser {
     }
   }
   async close() {
-    const over = new Promise((go) => this.#child.on("exit", go));
+    const over = this.#ended ?? new Promise((go) => this.#child.on("exit", go));
     try { await this.call("Browser.close"); } catch {}
-    await over;
+    try { await inTime("chromium doesn't end", over); } catch (error) { this.#child.kill("SIGKILL"); console.log(error.message); }
     rmSync(this.#folder, { recursive: true, force: true, maxRetries: 5 });
   }
 }
