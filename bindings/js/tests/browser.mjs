@@ -45,11 +45,13 @@ export class Browser {
       for (const { no, what } of it.#waiting.values()) no(new Error(`${it.#ended} before it answered ${what}`));
       it.#waiting.clear();
     });
-    const { targetInfos } = await it.call("Target.getTargets");
-    const { targetId } = targetInfos.find(({ type }) => type === "page");
-    it.#session = (await it.call("Target.attachToTarget", { targetId, flatten: true })).sessionId;
-    await it.call("Runtime.enable");
-    await it.call("Page.enable");
+    try {
+      const { targetInfos } = await it.call("Target.getTargets");
+      const { targetId } = targetInfos.find(({ type }) => type === "page");
+      it.#session = (await it.call("Target.attachToTarget", { targetId, flatten: true })).sessionId;
+      await it.call("Runtime.enable");
+      await it.call("Page.enable");
+    } catch (error) { it.#child.kill("SIGKILL"); throw error; }
     return it;
   }
   #read(text) {
