@@ -93,9 +93,9 @@ async function streams() {
 }
 const HI = Uint8Array.of(0, 4, 2, 104, 105, 0);
 const soon = () => new Promise((go) => setTimeout(go, 5));
-/** What a promise becomes, within a second. */
+/** What a promise becomes, within a minute. */
 const within = (promise) => new Promise((go, no) => {
-  const late = setTimeout(() => no(new Error("it waits")), 1000);
+  const late = setTimeout(() => no(new Error("it waits for a minute")), 60000);
   promise.then(go, no).finally(() => clearTimeout(late));
 });
 /** A wait that is ended, by return() or by a signal: the stream is given back, and keeps what comes then. */
