@@ -1,7 +1,7 @@
 //! Serving everything that a reader provides.
 ghost use Rattle.std.specs.Prelude.{◌≡◌, Some, false, ⊤};
 ghost use Rattle.link.specs.Receivers.{SameTerms};
-ghost use Rattle.link.specs.Each.{HearsOut, MayLackMemory};
+ghost use Rattle.link.specs.Each.{ListensOut, MayLackMemory, hearing, listener_place};
 ghost use Rattle.calls.specs.Serving.{ServiceHears};
 
 use crate::server::Application;
@@ -45,11 +45,12 @@ pub fn serve_with<
     reader: &mut I,
     service: &mut Service<A, W, Q, R, N>,
 ) -> End
-    ensures served { HearsOut D.inside (M.judging messages.now)
-        (ServiceHears A.executes Q.eq A.passes W.line ⟦<(u64, R) as Readable>⟧.form.writes
-        ⟦<(u64, R) as Readable>⟧.form.valid) (λ _. false) (λ _. ⊤)
-        (I.line reader.old) (I.line reader.new) receiver.old receiver.new service.old service.new
-        (Some result) }
+    ensures served { ListensOut D.inside (M.judging messages.now)
+        (hearing (ServiceHears A.executes Q.eq A.passes W.line
+        ⟦<(u64, R) as Readable>⟧.form.writes ⟦<(u64, R) as Readable>⟧.form.valid)
+        (λ _. false) (λ _. ⊤))
+        (listener_place I.line reader.old receiver.old service.old)
+        (listener_place I.line reader.new receiver.new service.new) (Some result) }
     ensures memory { MayLackMemory (M.judging messages.now).growing (Some result) }
     ensures same { SameTerms D.inside receiver.old receiver.new }
 {
