@@ -6,7 +6,8 @@
 //! Neither allocates.
 //!
 //! Messages of any types can be called by, but then damage, an echo and another program's messages may pass for calls and replies.
-//! If the messages are [`Numbered`], with [`Checked`] at the server and [`Replies`] at the client, they are `Damaged`.
+//! If the messages are [`Numbered`], with [`Checked`] at the server and [`Replies`] at the client, echoes are `Damaged`, and the
+//! others too, unless they meet a CRC-32 by chance.
 //!
 //! What is known without a reply: the call was executed at most once, and is never executed after a reply to a higher number.
 #![tactic(auto)]

@@ -7,8 +7,8 @@ use link::{Answer, Hearer};
 /// A hearer that takes the notices out of the replies, keeps the last one, and passes everything else on.
 ///
 /// A notice comes under the greatest number, which no call has: it is what the server's application says of a request that was
-/// passed over ([`Application::pass`](crate::Application::pass)). It has enough if a notice came, or its hearer has. A notice may
-/// be of an earlier request, so it has to say of which.
+/// passed over ([`Application::pass`](crate::Application::pass)). It has enough while it keeps a notice, or if its hearer has.
+/// A notice may be of an earlier request, so it has to say of which.
 ///
 /// # Example
 /// ```rust

@@ -8,8 +8,8 @@ use sealed::Keyed;
 
 /// A request or a reply with a second copy of its call's number, and a sum of both under the key of the interface.
 ///
-/// The key is one number for both sides, and no line carries it. A message under another key is damage, so another program's
-/// request isn't executed. The number inside is compared with the one outside by [`Checked`] and [`Replies`].
+/// The key is one number for both sides, and no line carries it. A message under another key is damage: of the same type always, of
+/// another type but for one case in 2^32. The number inside is compared with the one outside by [`Checked`] and [`Replies`].
 ///
 /// # Example
 /// ```rust

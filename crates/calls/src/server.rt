@@ -99,9 +99,11 @@ pub struct LastCall<Q, R> {
 
 /// Executes requests whose numbers are above those before, and replies.
 ///
-/// **By itself it executes its own replies, without end,** if the line gives back what is sent and a reply can be read as a
-/// request. It also executes what damage or another program made of a message. Take [`Numbered`](crate::Numbered) requests and put
-/// [`Checked`](crate::Checked) before its [`Service`](crate::Service), and none of these is executed.
+/// **By itself it takes its own replies for requests** if the line gives back what is sent and a reply can be read as a request. It
+/// executes none, since each has its call's number, but sends a reply that equals its request again and again. It also executes
+/// what damage or another program made of a message. Take [`Numbered`](crate::Numbered) requests and put
+/// [`Checked`](crate::Checked) before its [`Service`](crate::Service): no echo is taken for a request then, and of the others only
+/// what meets its CRC-32 by chance.
 ///
 /// Example: see [`Server::resume`].
 #[derive(Drop)]

@@ -18,7 +18,7 @@ pub struct Service<A, W, Q, R, const N: usize> {
     pub application: A,
     /// What keeps the last call, and sends the replies.
     pub server: Server<W, Q, R, N>,
-    /// Whether a reply wasn't sent whole since the caller put `false` here.
+    /// Whether a reply or a notice wasn't sent whole since the caller put `false` here.
     pub unsent: bool,
 }
 

@@ -73,6 +73,7 @@ impl<W: Outlet, Q: Serialize + Drop, R: Drop, const N: usize> Hearer<(u64, R)>
 /// nothing.
 ///
 /// # Errors
+/// - `Ended`: the reader's end, and the call is pending.
 /// - `ReadFault`: a read failed, and the call is pending. The receiver keeps its state: if the reader had nothing yet, for example
 ///   because of a time limit, call this again, perhaps after `again`.
 /// - `NoMemory`: a reply couldn't be allocated, and at least one result is missing. The reply may have been accepted all the same,

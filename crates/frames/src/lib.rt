@@ -1,8 +1,8 @@
 //! Frames of bytes over the caller's buffers, for programs that aren't written in Rattle (by `frames_c`).
 //!
 //! A message is sent *counted*, preceded by its length as postcard encodes a byte string, unless a call says `plain`. Whatever is
-//! interrupted, no counted message is received that wasn't sent. If a plain send is interrupted, a prefix of its message may be
-//! received as a message.
+//! interrupted, no part of a counted message is received as a message. If a plain send is interrupted, a prefix of its message may
+//! be received as one.
 //!
 //! No call keeps a reference, allocates, waits or ends the process. State is in the caller's structs, which hold numbers only, and
 //! a receiver's bytes are in a buffer that the caller passes in at each call.

@@ -20,7 +20,7 @@ const ROOM: usize = 1024;
 /// Example: see [`read_all`].
 #[derive(Clone, Copy, PartialEq, Eq, Debug, Drop, Error)]
 pub enum ReadError {
-    /// A read failed, or the store has no call left. What was read before was handed on.
+    /// A read failed, or the store has no call left.
     #[error("read failed")]
     Fault,
     /// A value couldn't be allocated.
@@ -120,13 +120,13 @@ fn hear<T: Drop, M: MessageReader<(u64, T)>, V: Visitor<T>, const N: usize>(
 /// Reads a log to its end, hands the results to the visitor, and returns the number after the greatest, which is at least `first`.
 ///
 /// What follows the last zero has no result. The way of reading is as for [`Journal::open`](crate::Journal::open): a record too
-/// far ahead is `Damaged`. The store isn't changed. It is read once from front to back, in at most one read for each byte, and
-/// one more.
+/// far ahead is `Damaged`. The store isn't changed. It makes at most one read for each byte, and one more.
 ///
 /// # Errors
-/// - `Fault`: a read failed. The visitor was handed the results of what was read before.
-/// - `NoMemory`: a value couldn't be allocated. The visitor was handed the results before it.
-/// - `Halted`: the visitor halted. It was handed the results before, and no others.
+/// The visitor, or the one that halted, was handed the results of the log's first bytes, in order, and no others.
+/// - `Fault`: a read failed, or the store has no call left.
+/// - `NoMemory`: a value couldn't be allocated.
+/// - `Halted`: the visitor halted.
 ///
 /// # Requires
 /// A receiver of N bytes fits in memory (`ReceiverFitsInMemory`); a concrete N costs nothing.
