@@ -9,39 +9,53 @@ use Rattle.line_io.specs.Transfers.{Writing, whole, broken}
 use Rattle.line_io.specs.declared.transfers.WriteFault.{WriteFault}
 use Rattle.line_io.specs.declared.transfers.End.{End}
 use Rattle.link.specs.Filled.{Filled}
-use Rattle.link.specs.Each.{IsAsked}
-use Rattle.link.specs.Listening.{Hears}
+use Rattle.link.specs.Each.{IsAsked, HearsOut, Hearing, hearing, gave_now}
+use Rattle.link.specs.Listening.{HasGiven, Hears}
 use Rattle.link.specs.Firsts.{not_both as no_both}
 use Rattle.link.specs.declared.reception.Reception.{Reception}
 use Rattle.link.specs.declared.receiver.Answer.{Answer}
 use Rattle.framed_lib.specs.Lines.{holds_text, reads_text, answer_lines}
-use Rattle.framed_lib.specs.Live.{IsAskedFor, IsWrittenLive}
+use Rattle.framed_lib.specs.Live.{MadeNoRead, BeforeLastRead, WasAskedFor, HandsTexts, HadWritten, AnswersLive}
 use Rattle.framed_lib.specs.Telling.{Tells, IsSettled}
 use Rattle.framed_lib.specs.declared.telling.Telling.{Telling}
 use Rattle.framed_lib.proofs.LinesLemmas.{all-same}
 use Rattle.framed_lib.proofs.OutputLemmas.{put-went}
 
--- a receiver that was given nothing
-pub asked_for : {D H A : Type 0} (inside : D → Filled) (growing : Bool) (hears : H → List (Answer (String A)) → H → Type 0) (enough : H → Bool) (settled : H → Type 0) (r : Reception D) (strict : Bool) (sentinel : ℕ)
-    (line now : LineState) (end : Option End) (h k : H) (answers : List (Answer (String A))) (bytes : List ℕ)
+-- what a receiver that was given nothing handed on
+pub hands_texts : {D H A : Type 0} (inside : D → Filled) (growing strict : Bool) (sentinel : ℕ) (h : Hearing H (String A)) (line later : LineState) (r s : Reception D) (old new : H) (end : Option End)
     → Hears inside (holds_text strict) (reads_text {A = A}) 1024 sentinel r [] []
-    → IsAsked inside (record { holds = holds_text strict; reads = reads_text {A = A}; growing = growing }) hears enough settled 1024 line now end r h k answers bytes
-    → IsAskedFor hears enough settled strict sentinel line now end h k bytes
-asked_for inside growing hears enough settled r strict sentinel line now end h k answers bytes none (inl e) = inl e
-asked_for inside growing hears enough settled r strict sentinel line now end h k answers bytes none (inr w) = inr (record {
-  before = w.before;
-  last = w.last;
-  parts = w.parts;
-  read = w.read;
-  early = w.early;
-  later = w.later;
-  given = w.given 1024 sentinel [] [] none;
-  asked = w.asked;
-  heard = w.heard;
-  wants = w.wants;
-  settles = w.settles;
-  hears_on = w.hears_on;
-})
+    → HearsOut inside (record { holds = holds_text strict; reads = reads_text {A = A}; growing = growing }) h.hears h.enough h.settled line later r s old new end
+    → HandsTexts h strict sentinel (line, old) (later, new) end
+hands_texts {A = A} inside growing strict sentinel h line later r s old new end none o =
+    let so = o.hands.so 1024 sentinel [] [] none in record {
+      bytes = o.bytes;
+      read = o.read;
+      hands = record { answers = o.hands.answers; heard = o.hands.heard; so = (so.0, so.2) };
+      asked = asked o.asked;
+    }
+  where
+    asked : IsAsked inside (record { holds = holds_text strict; reads = reads_text {A = A}; growing = growing }) h.hears h.enough h.settled 1024 line later end r old new o.hands.answers o.bytes
+        → (MadeNoRead line later end o.bytes × (new ≡ old))
+        ⊎ BeforeLastRead line later end o.bytes (λ before. WasAskedFor h old new o.hands.answers
+        (λ early. HasGiven (holds_text strict) reads_text 1024 sentinel early before))
+    asked (inl e) = inl ((e.0, e.1, e.2), e.3)
+    asked (inr w) = inr (record {
+      before = w.before;
+      last = w.last;
+      parts = w.parts;
+      read = w.read;
+      so = record {
+        early = w.early;
+        later = w.later;
+        said = w.said;
+        so = w.given 1024 sentinel [] [] none;
+        asked = w.asked;
+        heard = w.heard;
+        wants = w.wants;
+        settles = w.settles;
+        hears_on = w.hears_on;
+      };
+    })
 
 pub some_is : {A : Type 0} {x y : A} → ◌≡◌ {A = Option A} (Some x) (Some y) → x ≡ y
 some_is e = cc
@@ -66,33 +80,40 @@ module _ {A W : Type 0} (line : W → LineState) where
   goes_on asked k later new (Err x) f e a t ok (inr b) = let p = t.went a b.0 in (p.sent ++ b.1.front, Wrote-then _ _ _ _ _ p.went.wrote b.1.wrote)
 
   -- the lines of what it was told before the last read had gone out
-  pub written_live : (strict : Bool) (sentinel : ℕ) (from to : LineState) (end : Option End) (old k : Telling W) (new : W) (bytes : List ℕ) (w : Result (Unit {0}) WriteFault)
+  pub written_live : (strict : Bool) (sentinel : ℕ) (from to : LineState) (end : Option End) (old k : Telling W) (new : W) (w : Result (Unit {0}) WriteFault)
       → old.live ≡ true → old.failed ≡ false → old.held.items ≡ []
-      → IsAskedFor {A = A} (Tells line) (λ t. t.failed && t.live) IsSettled strict sentinel from to end old k bytes
+      → HandsTexts {A = A} (hearing (Tells line) (λ t. t.failed && t.live) IsSettled) strict sentinel (from, old) (to, k) end
       → OnOk w ((k.failed ≡ false) × Writing (line k.writer) (line new) whole k.held.items)
       → OnErr w (((k.failed ≡ true) × (new ≡ k.writer)) ⊎ ((k.failed ≡ false) × Writing (line k.writer) (line new) broken k.held.items))
-      → IsWrittenLive line strict sentinel from to end old.writer new bytes
-  written_live strict sentinel from to end old k new bytes w live failed empty (inl e) ok err = inl (e.0, e.1, e.2)
-  written_live strict sentinel from to end old k new bytes w live failed empty (inr a) ok err =
-      let on : a.asked.live ≡ true = a.heard.live ∙ live in
-      let good : a.asked.failed ≡ false = not_failed a.asked.failed a.asked.live on a.wants in
-      let none : a.asked.held.items ≡ [] = settled_empty a.asked.held a.asked.failed (a.asked.held.items ≡ []) (a.settles (λ l. inl empty) on) good in
-      let put = a.heard.went failed good in
-      let gone = put-went put (subst (λ x. Writing (line a.asked.writer) (line a.asked.writer) whole x) (sym none) (WentOut-none (line a.asked.writer))) in
-      let lines = (all-same a.early a.given.verdicts a.given.matching).0 in
-      let rest = goes_on a.asked k a.later new w k.failed refl good a.hears_on ok err in
-      inr (record {
-        before = a.before;
-        last = a.last;
-        parts = a.parts;
-        read = a.read;
-        verdicts = a.given.verdicts;
-        given = a.given.given;
-        then = a.asked.writer;
-        went = subst (λ x. Writing (line old.writer) (line a.asked.writer) whole x) (ap (λ x. x ++ answer_lines a.early) empty ∙ lines) gone;
-        more = rest.0;
-        on = rest.1;
-      })
+      → AnswersLive line strict sentinel (from, old.writer) (to, new)
+  written_live strict sentinel from to end old k new w live failed empty h ok err =
+      record { end = end; bytes = h.bytes; gave = gave_now from to end h.bytes h.read; written = written h.asked }
+    where
+      had : (before : List ℕ) → WasAskedFor (hearing (Tells line) (λ t. t.failed && t.live) IsSettled) old k h.hands.answers
+          (λ early. HasGiven (holds_text strict) (reads_text {A = A}) 1024 sentinel early before)
+          → HadWritten line strict sentinel old.writer new before
+      had before a =
+          let on : a.asked.live ≡ true = a.heard.live ∙ live in
+          let good : a.asked.failed ≡ false = not_failed a.asked.failed a.asked.live on a.wants in
+          let none : a.asked.held.items ≡ [] = settled_empty a.asked.held a.asked.failed (a.asked.held.items ≡ []) (a.settles (λ l. inl empty) on) good in
+          let put = a.heard.went failed good in
+          let gone = put-went put (subst (λ x. Writing (line a.asked.writer) (line a.asked.writer) whole x) (sym none) (WentOut-none (line a.asked.writer))) in
+          let lines = (all-same a.early a.so.verdicts a.so.matching).0 in
+          let rest = goes_on a.asked k a.later new w k.failed refl good a.hears_on ok err in record {
+            verdicts = a.so.verdicts;
+            given = a.so.given;
+            then = a.asked.writer;
+            went = subst (λ x. Writing (line old.writer) (line a.asked.writer) whole x) (ap (λ x. x ++ answer_lines a.early) empty ∙ lines) gone;
+            more = rest.0;
+            on = rest.1;
+          }
+
+      written : (MadeNoRead from to end h.bytes × (k ≡ old))
+          ⊎ BeforeLastRead from to end h.bytes (λ before. WasAskedFor (hearing (Tells line) (λ t. t.failed && t.live) IsSettled) old k h.hands.answers
+          (λ early. HasGiven (holds_text strict) (reads_text {A = A}) 1024 sentinel early before))
+          → MadeNoRead from to end h.bytes ⊎ BeforeLastRead from to end h.bytes (HadWritten line strict sentinel old.writer new)
+      written (inl e) = inl e.0
+      written (inr b) = inr (record { before = b.before; last = b.last; parts = b.parts; read = b.read; so = had b.before b.so })
 
 -- where a read failed, nothing was left to write, so no write failed
 pub fault_first : {W : Type 0} (line : W → LineState) (k : Telling W) (new : W) (w : Result (Unit {0}) WriteFault) → k.live ≡ true → (k.failed && k.live) ≡ false → IsSettled k

@@ -1,10 +1,8 @@
 //! The results of a stream, as texts.
-ghost use Rattle.std.specs.Prelude.{◌≡◌, ℕ, List, Some, None, true, false};
-ghost use Rattle.framed_lib.specs.Lines.{holds_text, reads_text};
-ghost use Rattle.framed_lib.specs.Live.{IsAskedFor};
-ghost use Rattle.line_io.specs.declared.transfers.End.TheVariants.{NoMemory, ReadFault};
-ghost use Rattle.link.specs.Listening.{EndsAtLoss};
-ghost use Rattle.link.specs.Each.{Handed, HasReadNow, IsReceivedNow, UsesFew, last_call};
+ghost use Rattle.std.specs.Prelude.{◌≡◌, Some, None, true, false};
+ghost use Rattle.framed_lib.specs.Live.{HandsTexts};
+ghost use Rattle.line_io.specs.declared.transfers.End.TheVariants.{ReadFault};
+ghost use Rattle.link.specs.Each.{hearing, UsesFew, last_call};
 
 use line_io::{End, Inlet};
 use link::{Hearer, OfType, Ordinary, Receiver, Strict};
@@ -28,14 +26,8 @@ pub fn hand_texts<R: Inlet, H: Hearer<String>>(
     reader: &mut R,
     hearer: &mut H,
 ) -> Option<End>
-    ensures received { (bytes : List ℕ)
-        × HasReadNow (R.line reader.old) (R.line reader.new) result bytes
-        × Handed H.hears hearer.old hearer.new (λ answers.
-        IsReceivedNow (holds_text strict) reads_text 1024 sentinel result answers bytes
-        × (result ≡ Some NoMemory
-        → EndsAtLoss (holds_text strict) reads_text 1024 sentinel answers bytes))
-        × IsAskedFor H.hears H.enough H.settled strict sentinel
-        (R.line reader.old) (R.line reader.new) result hearer.old hearer.new bytes }
+    ensures received { HandsTexts (hearing H.hears H.enough H.settled) strict sentinel
+        (R.line reader.old, hearer.old) (R.line reader.new, hearer.new) result }
     ensures enough { result ≡ None → H.enough hearer.new ≡ true }
     ensures fault { result ≡ Some ReadFault → H.enough hearer.new ≡ false }
     ensures settled { H.settled hearer.old → H.settled hearer.new }

@@ -58,8 +58,8 @@ pub fn run<R: Inlet, W: Outlet, E: Outlet>(
         (Writing (W.line writer) (W.line result.writer))
         result.status (Writing (E.line faults) (E.line result.faults)) }
     ensures live { (strict : Bool) → unpacking mode ≡ Some strict → hex ≡ false
-        → AnswersLive R.line W.line strict sentinel
-        (reader, writer) (result.reader, result.writer) }
+        → AnswersLive W.line strict sentinel
+        (R.line reader, writer) (R.line result.reader, result.writer) }
     ensures calls { UsesFew (R.line reader) (R.line result.reader) 1 }
 {
     let (writer, worked) = work(alloc, mode, hex, sentinel, &mut reader, writer, &mut faults);
@@ -87,7 +87,8 @@ fn work<R: Inlet, W: Outlet, E: Outlet>(
         (Writing (W.line writer) (W.line result.0))
         (Writing (E.line faults.old) (E.line faults.new)) result.1 }
     ensures live { (strict : Bool) → unpacking mode ≡ Some strict → hex ≡ false
-        → AnswersLive R.line W.line strict sentinel (reader.old, writer) (reader.new, result.0) }
+        → AnswersLive W.line strict sentinel
+        (R.line reader.old, writer) (R.line reader.new, result.0) }
     ensures calls { UsesFew (R.line reader.old) (R.line reader.new) 1 }
 {
     match mode {

@@ -58,8 +58,8 @@ fn tell_answers<R: Inlet, W: Outlet>(
         (Writing (W.line writer) (W.line result.writer)) }
     ensures stopped { result.end ≡ None → (live ≡ true) × IsErr result.written }
     ensures first { live ≡ true → result.end ≡ Some ReadFault → IsErr result.written → ⊥ }
-    ensures live { live ≡ true → AnswersLive R.line W.line strict sentinel
-        (reader.old, writer) (reader.new, result.writer) }
+    ensures live { live ≡ true → AnswersLive W.line strict sentinel
+        (R.line reader.old, writer) (R.line reader.new, result.writer) }
     ensures few { UsesFew (R.line reader.old) (R.line reader.new) (last_call result.end) }
 {
     let mut telling = Telling {
@@ -134,8 +134,8 @@ pub fn unpack<R: Inlet, W: Outlet, E: Outlet>(
         (HasReadNow (R.line reader.old) (R.line reader.new))
         (Writing (W.line writer) (W.line result.0))
         (Writing (E.line faults.old) (E.line faults.new)) result.1 }
-    ensures live { hex ≡ false → AnswersLive R.line W.line strict sentinel
-        (reader.old, writer) (reader.new, result.0) }
+    ensures live { hex ≡ false → AnswersLive W.line strict sentinel
+        (R.line reader.old, writer) (R.line reader.new, result.0) }
     ensures calls { UsesFew (R.line reader.old) (R.line reader.new) 1 }
 {
     if hex {

@@ -13,10 +13,10 @@ pub returns-in-Unpack-clause-worked : goal.returns-in-Unpack-clause-worked
 returns-in-Unpack-clause-worked g c = rw c.in-Unpack.is c.unpack.ensures.worked
 
 pub returns-in-Unpack-clause-live : goal.returns-in-Unpack-clause-live
-returns-in-Unpack-clause-live g c = rw c.in-Unpack.is (λ strict e h. subst (λ s. AnswersLive g.R.Inlet.line g.W.Outlet.line s c.args.sentinel (c.args.reader.now, c.args.writer) (c.unpack.new.reader, c.unpack.result.0)) (some_is e) (c.unpack.ensures.live h))
+returns-in-Unpack-clause-live g c = rw c.in-Unpack.is (λ strict e h. subst (λ s. AnswersLive g.W.Outlet.line s c.args.sentinel (g.R.Inlet.line c.args.reader.now, c.args.writer) (g.R.Inlet.line c.unpack.new.reader, c.unpack.result.0)) (some_is e) (c.unpack.ensures.live h))
 
 pub returns-in-Strict-clause-worked : goal.returns-in-Strict-clause-worked
 returns-in-Strict-clause-worked g c = rw c.in-Strict.is c.unpack-in-Strict.ensures.worked
 
 pub returns-in-Strict-clause-live : goal.returns-in-Strict-clause-live
-returns-in-Strict-clause-live g c = rw c.in-Strict.is (λ strict e h. subst (λ s. AnswersLive g.R.Inlet.line g.W.Outlet.line s c.args.sentinel (c.args.reader.now, c.args.writer) (c.unpack-in-Strict.new.reader, c.unpack-in-Strict.result.0)) (some_is e) (c.unpack-in-Strict.ensures.live h))
+returns-in-Strict-clause-live g c = rw c.in-Strict.is (λ strict e h. subst (λ s. AnswersLive g.W.Outlet.line s c.args.sentinel (g.R.Inlet.line c.args.reader.now, c.args.writer) (g.R.Inlet.line c.unpack-in-Strict.new.reader, c.unpack-in-Strict.result.0)) (some_is e) (c.unpack-in-Strict.ensures.live h))
