@@ -4,10 +4,10 @@ use Rattle.std.proofs.lemmas.List.{append-nil}
 use Rattle.std.specs.Prelude.{slice_index}
 use Rattle.hex.specs.Hex.{encode_with, lower_digits}
 use Rattle.line_io.specs.Device.{LineState}
-use Rattle.line_io.specs.Transfers.{BrokeOff}
+use Rattle.line_io.specs.Transfers.{broken}
 use Rattle.link.specs.Run.{Send, written, session_line}
 use Rattle.link.specs.Fates.{clean_after_all}
-use Rattle.framed_lib.specs.Output.{Puts}
+use Rattle.framed_lib.specs.Output.{WritingByFew, Puts}
 use Rattle.framed_lib.specs.Program.{framed_text, shown, shown_end}
 use Rattle.framed_lib.specs.Sending.{lines_in, AreSendsOf, IsSendOfLine, Sent}
 use Rattle.framed_lib.proofs.OutputLemmas.{put-none, put-done, put-breaks}
@@ -58,7 +58,7 @@ module _ (hex : Bool) (sentinel : ℕ) where
   module _ {u v w : LineState} {held : List ℕ} (text rest : List ℕ) (done : List Send) (s : Sent text rest done) (p : Puts u v [] held (shown_of done)) where
     -- the writer failed at a line
     pub line-broke : (line tail : List ℕ) (clean : Bool) (x : Send) → lines_in rest ≡ line ∷ lines_in tail → IsSendOfLine line x → clean ≡ clean_after_all false done
-        → BrokeOff v w (held ++ shown hex (written sentinel clean x)) → (sends : List Send) → AreSendsOf (lines_in text) sends → BrokeOff u w (text_of_all sends)
+        → WritingByFew v w broken (held ++ shown hex (written sentinel clean x)) → (sends : List Send) → AreSendsOf (lines_in text) sends → WritingByFew u w broken (text_of_all sends)
     line-broke line tail clean x e o c q sends a =
         let d = Sent-split text tail (done ++ x ∷ []) sends (Sent-more text rest line tail done x s e o) a in
         let later = later-shown (done ++ x ∷ []) d.0 in

@@ -4,8 +4,8 @@ use Rattle.std.specs.Prelude.{Result, Ok, Err, OnOk, OnErr, IsErr}
 use Rattle.std.proofs.lemmas.List.{length-append}
 use Rattle.std.specs.declared.string.String.{String}
 use Rattle.line_io.specs.Device.{LineState, Wrote}
-use Rattle.line_io.specs.Calls.{Wrote-then, WentOut-none}
-use Rattle.line_io.specs.Transfers.{Writing, whole, broken}
+use Rattle.line_io.specs.Calls.{Wrote-then}
+use Rattle.line_io.specs.Transfers.{whole, broken}
 use Rattle.line_io.specs.declared.transfers.WriteFault.{WriteFault}
 use Rattle.line_io.specs.declared.transfers.End.{End}
 use Rattle.link.specs.Filled.{Filled}
@@ -16,6 +16,7 @@ use Rattle.link.specs.declared.reception.Reception.{Reception}
 use Rattle.link.specs.declared.receiver.Answer.{Answer}
 use Rattle.framed_lib.specs.Lines.{holds_text, reads_text, answer_lines}
 use Rattle.framed_lib.specs.Live.{MadeNoRead, BeforeLastRead, WasAskedFor, HandsTexts, HadWritten, AnswersLive}
+use Rattle.framed_lib.specs.Output.{WritingByFew, few-none}
 use Rattle.framed_lib.specs.Telling.{Tells, IsSettled}
 use Rattle.framed_lib.specs.declared.telling.Telling.{Telling}
 use Rattle.framed_lib.proofs.LinesLemmas.{all-same}
@@ -72,19 +73,19 @@ settled_empty held failed P (inr t) f = absurd (no_both failed t f)
 module _ {A W : Type 0} (line : W → LineState) where
   -- what was written from there
   goes_on : (asked k : Telling W) (later : List (Answer (String A))) (new : W) (w : Result (Unit {0}) WriteFault) (f : Bool) → k.failed ≡ f → asked.failed ≡ false → Tells line asked later k
-      → OnOk w ((k.failed ≡ false) × Writing (line k.writer) (line new) whole k.held.items)
-      → OnErr w (((k.failed ≡ true) × (new ≡ k.writer)) ⊎ ((k.failed ≡ false) × Writing (line k.writer) (line new) broken k.held.items))
+      → OnOk w ((k.failed ≡ false) × WritingByFew (line k.writer) (line new) whole k.held.items)
+      → OnErr w (((k.failed ≡ true) × (new ≡ k.writer)) ⊎ ((k.failed ≡ false) × WritingByFew (line k.writer) (line new) broken k.held.items))
       → (more : List ℕ) × Wrote (line asked.writer) (line new) more
-  goes_on asked k later new (Ok u) f e a t ok err = let p = t.went a ok.0 in (p.sent ++ k.held.items, Wrote-then _ _ _ _ _ p.went.wrote ok.1.wrote)
-  goes_on asked k later new (Err x) f e a t ok (inl s) = let b = t.broke a s.0 in (b.front, subst (λ z. Wrote (line asked.writer) (line z) b.front) (sym s.1) b.wrote)
-  goes_on asked k later new (Err x) f e a t ok (inr b) = let p = t.went a b.0 in (p.sent ++ b.1.front, Wrote-then _ _ _ _ _ p.went.wrote b.1.wrote)
+  goes_on asked k later new (Ok u) f e a t ok err = let p = t.went a ok.0 in (p.sent ++ k.held.items, Wrote-then _ _ _ _ _ p.went.wrote.wrote ok.1.wrote.wrote)
+  goes_on asked k later new (Err x) f e a t ok (inl s) = let b = t.broke a s.0 in (b.wrote.front, subst (λ z. Wrote (line asked.writer) (line z) b.wrote.front) (sym s.1) b.wrote.wrote)
+  goes_on asked k later new (Err x) f e a t ok (inr b) = let p = t.went a b.0 in (p.sent ++ b.1.wrote.front, Wrote-then _ _ _ _ _ p.went.wrote.wrote b.1.wrote.wrote)
 
   -- the lines of what it was told before the last read had gone out
   pub written_live : (strict : Bool) (sentinel : ℕ) (from to : LineState) (end : Option End) (old k : Telling W) (new : W) (w : Result (Unit {0}) WriteFault)
       → old.live ≡ true → old.failed ≡ false → old.held.items ≡ []
       → HandsTexts {A = A} (hearing (Tells line) (λ t. t.failed && t.live) IsSettled) strict sentinel (from, old) (to, k) end
-      → OnOk w ((k.failed ≡ false) × Writing (line k.writer) (line new) whole k.held.items)
-      → OnErr w (((k.failed ≡ true) × (new ≡ k.writer)) ⊎ ((k.failed ≡ false) × Writing (line k.writer) (line new) broken k.held.items))
+      → OnOk w ((k.failed ≡ false) × WritingByFew (line k.writer) (line new) whole k.held.items)
+      → OnErr w (((k.failed ≡ true) × (new ≡ k.writer)) ⊎ ((k.failed ≡ false) × WritingByFew (line k.writer) (line new) broken k.held.items))
       → AnswersLive line strict sentinel (from, old.writer) (to, new)
   written_live strict sentinel from to end old k new w live failed empty h ok err =
       record { end = end; bytes = h.bytes; gave = gave_now from to end h.bytes h.read; written = written h.asked }
@@ -97,13 +98,13 @@ module _ {A W : Type 0} (line : W → LineState) where
           let good : a.asked.failed ≡ false = not_failed a.asked.failed a.asked.live on a.wants in
           let none : a.asked.held.items ≡ [] = settled_empty a.asked.held a.asked.failed (a.asked.held.items ≡ []) (a.settles (λ l. inl empty) on) good in
           let put = a.heard.went failed good in
-          let gone = put-went put (subst (λ x. Writing (line a.asked.writer) (line a.asked.writer) whole x) (sym none) (WentOut-none (line a.asked.writer))) in
+          let gone = put-went put (subst (λ x. WritingByFew (line a.asked.writer) (line a.asked.writer) whole x) (sym none) (few-none (line a.asked.writer))) in
           let lines = (all-same a.early a.so.verdicts a.so.matching).0 in
           let rest = goes_on a.asked k a.later new w k.failed refl good a.hears_on ok err in record {
             verdicts = a.so.verdicts;
             given = a.so.given;
             then = a.asked.writer;
-            went = subst (λ x. Writing (line old.writer) (line a.asked.writer) whole x) (ap (λ x. x ++ answer_lines a.early) empty ∙ lines) gone;
+            went = subst (λ x. WritingByFew (line old.writer) (line a.asked.writer) whole x) (ap (λ x. x ++ answer_lines a.early) empty ∙ lines) gone;
             more = rest.0;
             on = rest.1;
           }
@@ -117,12 +118,12 @@ module _ {A W : Type 0} (line : W → LineState) where
 
 -- where a read failed, nothing was left to write, so no write failed
 pub fault_first : {W : Type 0} (line : W → LineState) (k : Telling W) (new : W) (w : Result (Unit {0}) WriteFault) → k.live ≡ true → (k.failed && k.live) ≡ false → IsSettled k
-    → OnErr w (((k.failed ≡ true) × (new ≡ k.writer)) ⊎ ((k.failed ≡ false) × Writing (line k.writer) (line new) broken k.held.items))
+    → OnErr w (((k.failed ≡ true) × (new ≡ k.writer)) ⊎ ((k.failed ≡ false) × WritingByFew (line k.writer) (line new) broken k.held.items))
     → IsErr w → ⊥
 fault_first line k new (Ok u) live enough settled err n = cc
 fault_first line k new (Err f) live enough settled (inl t) n = no_both k.failed t.0 (not_failed k.failed k.live live enough)
 fault_first line k new (Err f) live enough settled (inr b) n =
     let none = settled_empty k.held k.failed (k.held.items ≡ []) (settled live) b.0 in
-    let left = b.1.some_left in
-    let parts = b.1.bytes_are in
-    omega (arith, left, ap length none, ap length parts, length-append b.1.front b.1.rest)
+    let left = b.1.wrote.some_left in
+    let parts = b.1.wrote.bytes_are in
+    omega (arith, left, ap length none, ap length parts, length-append b.1.wrote.front b.1.wrote.rest)

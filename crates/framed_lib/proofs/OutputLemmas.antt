@@ -5,23 +5,22 @@ use Rattle.std.proofs.Math.Seq.{take-append-add}
 use borrow.Rule.Slice.PartMut.{put_mid}
 use Rattle.std.specs.Prelude.{Result, Ok, Err, OnErr, slice_set}
 use Rattle.line_io.specs.Device.{LineState}
-use Rattle.line_io.specs.Transfers.{WentOut, BrokeOff}
-use Rattle.framed_lib.specs.Output.{Puts}
-pub use Rattle.framed_lib.specs.Output.{put-none, put-then, put-broke}
-use Rattle.line_io.specs.Calls.{WentOut-none, WentOut-then, BrokeOff-then, BrokeOff-more}
+use Rattle.line_io.specs.Transfers.{whole, broken}
+use Rattle.framed_lib.specs.Output.{WritingByFew, Puts}
+pub use Rattle.framed_lib.specs.Output.{few-ok, few-err, few-none, few-then, few-broke, few-more, put-none, put-then, put-broke}
 
 -- what was held goes out, and then the bytes
-pub put-through : {u v w : LineState} {front held kept bytes : List ℕ} → front ≡ held → kept ≡ [] → WentOut u v front
-    → WentOut v w bytes → Puts u w held kept bytes
+pub put-through : {u v w : LineState} {front held kept bytes : List ℕ} → front ≡ held → kept ≡ [] → WritingByFew u v whole front
+    → WritingByFew v w whole bytes → Puts u w held kept bytes
 put-through {front = front} {bytes = bytes} e k p q = record {
   sent = front ++ bytes;
   bytes_are = ap (λ x. x ++ bytes) (sym e) ∙ (sym (append-nil (front ++ bytes)) ∙ ap (λ x. (front ++ bytes) ++ x) (sym k));
-  went = WentOut-then p q;
+  went = few-then p q;
 }
 
-pub broke-through : {u v w : LineState} {front held bytes : List ℕ} → front ≡ held → WentOut u v front
-    → BrokeOff v w bytes → BrokeOff u w (held ++ bytes)
-broke-through {u = u} {w = w} {bytes = bytes} e p q = subst (λ (x : List ℕ). BrokeOff u w (x ++ bytes)) e (BrokeOff-then p q)
+pub broke-through : {u v w : LineState} {front held bytes : List ℕ} → front ≡ held → WritingByFew u v whole front
+    → WritingByFew v w broken bytes → WritingByFew u w broken (held ++ bytes)
+broke-through {u = u} {w = w} {bytes = bytes} e p q = subst (λ (x : List ℕ). WritingByFew u w broken (x ++ bytes)) e (few-broke p q)
 
 -- the first bytes were put, and then others
 pub put-done : {u v w : LineState} {x y z a b : List ℕ} (all : List ℕ) → all ≡ a ++ b → Puts u v x y a → Puts v w y z b
@@ -30,22 +29,22 @@ put-done {u = u} {w = w} {x = x} {z = z} all e p q = let P : List ℕ → Type 0
 
 -- the first bytes were put, and then the device broke off
 pub put-breaks : {u v w : LineState} {x y a : List ℕ} (all b c : List ℕ) → all ≡ a ++ (b ++ c) → Puts u v x y a
-    → BrokeOff v w (y ++ b) → BrokeOff u w (x ++ all)
+    → WritingByFew v w broken (y ++ b) → WritingByFew u w broken (x ++ all)
 put-breaks {u = u} {w = w} {x = x} {y = y} {a = a} all b c e p q =
-    let more : BrokeOff u w ((x ++ (a ++ b)) ++ c) = BrokeOff-more c (put-broke b p q) in
+    let more : WritingByFew u w broken ((x ++ (a ++ b)) ++ c) = few-more c (put-broke b p q) in
     let same : (x ++ (a ++ b)) ++ c ≡ x ++ all = rw e (simp append_assoc) in
-    let P : List ℕ → Type 0 = λ t. BrokeOff u w t in
+    let P : List ℕ → Type 0 = λ t. WritingByFew u w broken t in
     subst P same more
 
 -- what is held goes out
-pub put-flush : {u v w : LineState} {x y a : List ℕ} → Puts u v x y a → BrokeOff v w y → BrokeOff u w (x ++ a)
+pub put-flush : {u v w : LineState} {x y a : List ℕ} → Puts u v x y a → WritingByFew v w broken y → WritingByFew u w broken (x ++ a)
 put-flush {u = u} {w = w} p q =
-    let P : List ℕ → Type 0 = λ t. BrokeOff u w t in subst P (sym p.bytes_are) (BrokeOff-then p.went q)
+    let P : List ℕ → Type 0 = λ t. WritingByFew u w broken t in subst P (sym p.bytes_are) (few-broke p.went q)
 
 -- the same, where they go out
-pub put-went : {u v w : LineState} {x y a : List ℕ} → Puts u v x y a → WentOut v w y → WentOut u w (x ++ a)
+pub put-went : {u v w : LineState} {x y a : List ℕ} → Puts u v x y a → WritingByFew v w whole y → WritingByFew u w whole (x ++ a)
 put-went {u = u} {w = w} p q =
-    let P : List ℕ → Type 0 = λ t. WentOut u w t in subst P (sym p.bytes_are) (WentOut-then p.went q)
+    let P : List ℕ → Type 0 = λ t. WritingByFew u w whole t in subst P (sym p.bytes_are) (few-then p.went q)
 
 pub on_err : {T E P : Type 0} (r : Result T E) → P → OnErr r P
 on_err (Ok x) p = tt
@@ -65,11 +64,11 @@ put-placed w held count k room new x l c e =
           ∙ take-append-add p (new ++ rest) count
           ∙ ap (λ y. p ++ y) (take-append-le count new rest c ∙ e)
           );
-      went = WentOut-none w;
+      went = few-none w;
     }
 
 -- what is held goes out, and nothing is put
-pub put-away : {u v : LineState} (held room : List ℕ) → WentOut u v held → Puts u v held (take 0 room) []
+pub put-away : {u v : LineState} (held room : List ℕ) → WritingByFew u v whole held → Puts u v held (take 0 room) []
 put-away held room w = record { sent = held; bytes_are = refl; went = w }
 
 -- bytes were put, and then what is held was written or not

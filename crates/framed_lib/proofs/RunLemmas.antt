@@ -4,9 +4,9 @@ use Rattle.std.specs.Prelude.{Result, Ok, Err, Option, Some, None}
 use Rattle.framed_lib.specs.declared.stop.Stop.{Stop}
 use Rattle.framed_lib.specs.declared.stop.Stop.TheVariants as stop
 use Rattle.line_io.specs.Device.{LineState}
-use Rattle.line_io.specs.Transfers.{Fate, Writing, whole, broken}
-use Rattle.line_io.specs.Calls.{WentOut-then, BrokeOff-then}
+use Rattle.line_io.specs.Transfers.{Fate, whole, broken}
 use Rattle.line_io.specs.declared.transfers.End.{End}
+use Rattle.framed_lib.specs.Output.{WritingByFew, few-then, few-broke}
 use Rattle.framed_lib.specs.Program.{Program, Due, CarriesOut, DeviceFails, SayingFails, RunEnds, Behind}
 use Rattle.framed_lib.specs.Working.{Worked, Reports}
 use Rattle.framed_lib.proofs.WorkLemmas.{carried}
@@ -30,22 +30,22 @@ module _ (way : Option Bool) (hex : Bool) (sentinel : ℕ) (r : Option End → L
       carried h.end h.text h.out h.said h.is h.read h.wrote (f h.said h.told)
 
   -- a last line that was said, and one that wasn't
-  told : {due : Due} {fate : Fate} {line : List ℕ} → Writing mid new whole line
-      → CarriesOut way hex sentinel r w due fate (Writing start mid whole)
-      → CarriesOut way hex sentinel r w due fate (Behind line (Writing start new whole))
-  told p h = said_so (λ said q. WentOut-then q p) h
+  told : {due : Due} {fate : Fate} {line : List ℕ} → WritingByFew mid new whole line
+      → CarriesOut way hex sentinel r w due fate (WritingByFew start mid whole)
+      → CarriesOut way hex sentinel r w due fate (Behind line (WritingByFew start new whole))
+  told p h = said_so (λ said q. few-then q p) h
 
-  untold : {due : Due} {fate : Fate} {line : List ℕ} → Writing mid new broken line
-      → CarriesOut way hex sentinel r w due fate (Writing start mid whole)
-      → CarriesOut way hex sentinel r w due fate (Behind line (Writing start new broken))
-  untold p h = said_so (λ said q. BrokeOff-then q p) h
+  untold : {due : Due} {fate : Fate} {line : List ℕ} → WritingByFew mid new broken line
+      → CarriesOut way hex sentinel r w due fate (WritingByFew start mid whole)
+      → CarriesOut way hex sentinel r w due fate (Behind line (WritingByFew start new broken))
+  untold p h = said_so (λ said q. few-broke q p) h
 
   abbrev Ends : ℕ → Type 0
-  Ends status = RunEnds way hex sentinel r w status (Writing start new)
+  Ends status = RunEnds way hex sentinel r w status (WritingByFew start new)
 
   fails : (status : ℕ) → status ≡ 3
-      → DeviceFails way hex sentinel r w (Writing start new whole)
-      ⊎ SayingFails way hex sentinel r w (Writing start new broken) → Ends status
+      → DeviceFails way hex sentinel r w (WritingByFew start new whole)
+      ⊎ SayingFails way hex sentinel r w (WritingByFew start new broken) → Ends status
   fails status e h = record {
     finished = λ l. absurd (omega arith);
     failed = λ e. h;
@@ -54,7 +54,7 @@ module _ (way : Option Bool) (hex : Bool) (sentinel : ℕ) (r : Option End → L
   }
 
   pub ends : (worked : Result ℕ Stop) (status : ℕ)
-      → Worked way hex sentinel r w (Writing start mid) worked → Reports mid new worked status
+      → Worked way hex sentinel r w (WritingByFew start mid) worked → Reports mid new worked status
       → Ends status
   ends (Ok planned) status h p =
       let low = program-low way hex sentinel h.text h.out h.said planned h.is.1 in record {

@@ -2,7 +2,7 @@
 use Rattle.std.specs.Prelude.{◌≡◌, ℕ, ◌⊎◌, Bool, false, List, [], ◌++◌, Option, None, Some}
 use Rattle.std.specs.declared.string.String.{String}
 use Rattle.line_io.specs.Device.{LineState, Wrote, Gave}
-use Rattle.line_io.specs.Transfers.{WentOut}
+use Rattle.line_io.specs.Transfers.{whole}
 use Rattle.line_io.specs.declared.transfers.End.{End}
 use Rattle.line_io.specs.declared.transfers.End.TheVariants.{NoMemory}
 use Rattle.link.specs.Each.{Handed, HasReadNow, Hearing, IsReceivedNow, LastRead}
@@ -10,6 +10,7 @@ use Rattle.link.specs.Listening.{EndsAtLoss, HasGiven}
 use Rattle.link.specs.Stream.{Verdict, Given}
 use Rattle.link.specs.declared.receiver.Answer.{Answer}
 use Rattle.framed_lib.specs.Lines.{holds_text, reads_text, lines_of}
+use Rattle.framed_lib.specs.Output.{WritingByFew}
 
 -- there was no read
 abbrev pub MadeNoRead : LineState → LineState → Option End → List ℕ → Type 0
@@ -79,7 +80,7 @@ pub record HadWritten {W : Type 0} (line : W → LineState) (strict : Bool) (sen
   -- the writer then
   pub then : W
   -- it had their lines
-  pub went : WentOut (line old) (line then) (lines_of verdicts)
+  pub went : WritingByFew (line old) (line then) whole (lines_of verdicts)
   -- what was written later
   pub more : List ℕ
   -- and it was written after them

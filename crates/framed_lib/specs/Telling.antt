@@ -7,13 +7,12 @@ use Rattle.std.proofs.Math.Bool.{and-true, and_assoc}
 use Rattle.std.proofs.lemmas.Grind.{flat_map-append}
 use Rattle.std.proofs.lemmas.List.Folds.{list_all-append}
 use Rattle.line_io.specs.Device.{LineState}
-use Rattle.line_io.specs.Transfers.{Writing, broken}
-use Rattle.line_io.specs.Calls.{BrokeOff-more}
+use Rattle.line_io.specs.Transfers.{broken}
 use Rattle.link.specs.Firsts.{not_both as no_both}
 use Rattle.link.specs.Each.{HearerLaws}
 use Rattle.link.specs.declared.receiver.Answer.{Answer}
 use Rattle.framed_lib.specs.Lines.{answer_line, answer_lines, has_value}
-use Rattle.framed_lib.specs.Output.{Puts, put-none, put-then, put-broke}
+use Rattle.framed_lib.specs.Output.{WritingByFew, few-more, Puts, put-none, put-then, put-broke}
 use Rattle.framed_lib.specs.declared.telling.Telling.{Telling}
 
 -- What is held was written, or a write failed; lines that aren't live may wait.
@@ -28,7 +27,7 @@ module _ {W : Type 0} (line : W → LineState) where
     pub went : old.failed ≡ false → new.failed ≡ false
         → Puts (line old.writer) (line new.writer) old.held.items new.held.items bytes
     pub broke : old.failed ≡ false → new.failed ≡ true
-        → Writing (line old.writer) (line new.writer) broken (old.held.items ++ bytes)
+        → WritingByFew (line old.writer) (line new.writer) broken (old.held.items ++ bytes)
     pub silent : old.failed ≡ true → (new.failed ≡ true) × (new.writer ≡ old.writer)
 
   -- the lines of these answers are put
@@ -50,16 +49,16 @@ module _ {W : Type 0} (line : W → LineState) where
     went-more true e start end = absurd (no_both m.failed (q.silent e).0 end)
 
     broke-more : (f : Bool) → k.failed ≡ f → h.failed ≡ false → m.failed ≡ true
-        → Writing (line h.writer) (line m.writer) broken
+        → WritingByFew (line h.writer) (line m.writer) broken
         (h.held.items ++ answer_lines (a ++ b))
     broke-more false e start end =
-        subst (λ x. Writing (line h.writer) (line m.writer) broken (h.held.items ++ x)) (sym (flat_map-append answer_line a b))
+        subst (λ x. WritingByFew (line h.writer) (line m.writer) broken (h.held.items ++ x)) (sym (flat_map-append answer_line a b))
         (put-broke (answer_lines b) (p.went start e) (q.broke e end))
     broke-more true e start end =
-        subst (λ w. Writing (line h.writer) (line w) broken (h.held.items ++ answer_lines (a ++ b))) (sym (q.silent e).1)
-        (subst (λ x. Writing (line h.writer) (line k.writer) broken x)
+        subst (λ w. WritingByFew (line h.writer) (line w) broken (h.held.items ++ answer_lines (a ++ b))) (sym (q.silent e).1)
+        (subst (λ x. WritingByFew (line h.writer) (line k.writer) broken x)
         (append_assoc h.held.items (answer_lines a) (answer_lines b) ∙ ap (λ x. h.held.items ++ x) (sym (flat_map-append answer_line a b)))
-        (BrokeOff-more (answer_lines b) (p.broke start e)))
+        (few-more (answer_lines b) (p.broke start e)))
 
     more : Tells h (a ++ b) m
     more = record {

@@ -4,12 +4,13 @@ use Rattle.std.specs.List.{list_all}
 use Rattle.framed_lib.specs.declared.stop.Stop.{Stop}
 use Rattle.framed_lib.specs.declared.stop.Stop.TheVariants as stop
 use Rattle.line_io.specs.Device.{LineState}
-use Rattle.line_io.specs.Transfers.{Fate, Writing, whole, broken}
+use Rattle.line_io.specs.Transfers.{Fate, whole, broken}
 use Rattle.link.specs.Stream.{Verdict}
 use Rattle.line_io.specs.declared.transfers.End.{End}
 use Rattle.line_io.specs.declared.transfers.End.TheVariants.{Ended, ReadFault, NoMemory}
 use Rattle.line_io.specs.declared.transfers.WriteFault.{WriteFault}
 use Rattle.framed_lib.specs.Lines.{AreAnswers, lines_of, is_value}
+use Rattle.framed_lib.specs.Output.{WritingByFew}
 use Rattle.framed_lib.specs.Program.{RunsToItsEnd, ReadFails, WriteFails, LacksMemory, SaysInVain, read_failed, write_failed, no_memory}
 
 -- How the work ends: with a status, or why it ends early, before the last line is said.
@@ -29,8 +30,8 @@ Worked way hex sentinel reading writing saying (Err stop.NoMemory) =
 -- The line was said, with a status; or standard error failed.
 abbrev pub SaysLast : LineState → LineState → List ℕ → ℕ → ℕ → Type 0
 SaysLast old new line planned status =
-    ((status ≡ planned) × Writing old new whole line)
-    ⊎ ((status ≡ 3) × Writing old new broken line)
+    ((status ≡ planned) × WritingByFew old new whole line)
+    ⊎ ((status ≡ 3) × WritingByFew old new broken line)
 
 -- what is said last of how the work ended, and the status then: nothing where the work is done or standard error failed
 abbrev pub Reports : LineState → LineState → Result ℕ Stop → ℕ → Type 0

@@ -1,5 +1,5 @@
 //! The results of a stream, as texts.
-ghost use Rattle.std.specs.Prelude.{◌≡◌, Some, None, true, false};
+ghost use Rattle.std.specs.Prelude.{◌≡◌, ◌+◌, ◌≤◌, Some, None, true, false};
 ghost use Rattle.framed_lib.specs.Live.{HandsTexts};
 ghost use Rattle.line_io.specs.declared.transfers.End.TheVariants.{ReadFault};
 ghost use Rattle.link.specs.Each.{hearing, UsesFew, last_call};
@@ -31,6 +31,7 @@ pub fn hand_texts<R: Inlet, H: Hearer<String>>(
     ensures enough { result ≡ None → H.enough hearer.new ≡ true }
     ensures fault { result ≡ Some ReadFault → H.enough hearer.new ≡ false }
     ensures settled { H.settled hearer.old → H.settled hearer.new }
+    ensures once { (R.line reader.new).faults ≤ (R.line reader.old).faults + 1 }
     ensures few { UsesFew (R.line reader.old) (R.line reader.new) (last_call result) }
 {
     let mut receiver = Receiver::<1024>::new_with_sentinel(sentinel);

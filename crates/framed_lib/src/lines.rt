@@ -1,6 +1,6 @@
 ghost use Rattle.std.specs.Prelude.{◌≡◌, ℕ, ◌<◌, List, ◌++◌, length, flat_map, OnOk, OnErr, IfSome, MatchOption};
-ghost use Rattle.line_io.specs.Transfers.{Writing, broken};
-ghost use Rattle.framed_lib.specs.Output.{Puts};
+ghost use Rattle.line_io.specs.Transfers.{broken};
+ghost use Rattle.framed_lib.specs.Output.{Puts, WritingByFew};
 ghost use Rattle.framed_lib.specs.Lines.{escape, value_line, answer_line, has_value};
 
 use crate::output::{Held, put};
@@ -27,7 +27,7 @@ fn split_at_escape(text: &[u8]) -> Option<(&[u8], &[u8], &[u8])>
 fn put_escaped<W: Outlet>(outlet: &mut W, held: &mut Held, text: &[u8]) -> Result<(), WriteFault>
     ensures ok { OnOk result (Puts (W.line outlet.old) (W.line outlet.new)
         held.old.items held.new.items (flat_map escape text.now)) }
-    ensures err { OnErr result (Writing (W.line outlet.old) (W.line outlet.new) broken
+    ensures err { OnErr result (WritingByFew (W.line outlet.old) (W.line outlet.new) broken
         (held.old.items ++ flat_map escape text.now)) }
 {
     let mut rest = text;
@@ -43,7 +43,7 @@ fn put_escaped<W: Outlet>(outlet: &mut W, held: &mut Held, text: &[u8]) -> Resul
 fn put_value<W: Outlet>(outlet: &mut W, held: &mut Held, text: &[u8]) -> Result<(), WriteFault>
     ensures ok { OnOk result (Puts (W.line outlet.old) (W.line outlet.new)
         held.old.items held.new.items (value_line text.now)) }
-    ensures err { OnErr result (Writing (W.line outlet.old) (W.line outlet.new) broken
+    ensures err { OnErr result (WritingByFew (W.line outlet.old) (W.line outlet.new) broken
         (held.old.items ++ value_line text.now)) }
 {
     put(outlet, held, b"value ")?;
@@ -59,7 +59,7 @@ pub fn put_answer<W: Outlet>(
 ) -> Result<(), WriteFault>
     ensures ok { OnOk result (Puts (W.line outlet.old) (W.line outlet.new)
         held.old.items held.new.items (answer_line answer.now)) }
-    ensures err { OnErr result (Writing (W.line outlet.old) (W.line outlet.new) broken
+    ensures err { OnErr result (WritingByFew (W.line outlet.old) (W.line outlet.new) broken
         (held.old.items ++ answer_line answer.now)) }
 {
     match answer {

@@ -1,6 +1,6 @@
 ghost use Rattle.std.specs.Prelude.{◌≡◌, ◌+◌, ◌≤◌, [], ◌++◌, length, take, OnOk, OnErr, IfOk};
-ghost use Rattle.line_io.specs.Transfers.{Writing, whole, broken};
-ghost use Rattle.framed_lib.specs.Output.{Puts};
+ghost use Rattle.line_io.specs.Transfers.{whole, broken};
+ghost use Rattle.framed_lib.specs.Output.{Puts, WritingByFew};
 
 use arrayvec::ArrayVec;
 use line_io::{Outlet, WriteFault, write_all};
@@ -15,7 +15,7 @@ pub type Held = ArrayVec<u8, ROOM>;
 pub fn put<W: Outlet>(outlet: &mut W, held: &mut Held, bytes: &[u8]) -> Result<(), WriteFault>
     ensures ok { OnOk result
         (Puts (W.line outlet.old) (W.line outlet.new) held.old.items held.new.items bytes.now) }
-    ensures err { OnErr result (Writing (W.line outlet.old) (W.line outlet.new) broken
+    ensures err { OnErr result (WritingByFew (W.line outlet.old) (W.line outlet.new) broken
         (held.old.items ++ bytes.now)) }
 {
     if held.try_extend_from_slice(bytes).is_ok() {
@@ -40,7 +40,7 @@ pub fn make_place<W: Outlet>(outlet: &mut W, room: &[u8], held: usize) -> Result
         (take held room.now) (take kept room.now) []) }
     ensures place { IfOk result (λ kept. kept + 2053 ≤ length room.now) }
     ensures err { OnErr result
-        (Writing (W.line outlet.old) (W.line outlet.new) broken (take held room.now)) }
+        (WritingByFew (W.line outlet.old) (W.line outlet.new) broken (take held room.now)) }
 {
     if PLACE <= room.len() - held {
         return Ok(held);

@@ -1,7 +1,8 @@
-ghost use Rattle.std.specs.Prelude.{ℕ, false, List, None, OnOk, OnErr, IsTrue, IsUtf8};
-ghost use Rattle.line_io.specs.Transfers.{Writing, whole, broken};
+ghost use Rattle.std.specs.Prelude.{ℕ, ◌+◌, ◌≤◌, false, List, None, OnOk, OnErr, IsTrue, IsUtf8};
+ghost use Rattle.line_io.specs.Transfers.{whole, broken};
 ghost use Rattle.link.specs.Each.{HasReadNow, UsesFew};
 ghost use Rattle.link.specs.Run.{Send, session_line};
+ghost use Rattle.framed_lib.specs.Output.{WritingByFew};
 ghost use Rattle.framed_lib.specs.Program.{framed_text};
 ghost use Rattle.framed_lib.specs.Sending.{lines_in, AreSendsOf};
 ghost use Rattle.framed_lib.specs.Working.{Worked};
@@ -29,10 +30,10 @@ fn write_frames<W: Outlet>(
 ) -> Result<(), WriteFault>
     requires { IsTrue is_text → IsUtf8 text.now }
     ensures ok { OnOk result ((sends : List Send) → AreSendsOf (lines_in text.now) sends
-        → Writing (W.line writer.old) (W.line writer.new) whole
+        → WritingByFew (W.line writer.old) (W.line writer.new) whole
         (framed_text hex (session_line sentinel false sends))) }
     ensures err { OnErr result ((sends : List Send) → AreSendsOf (lines_in text.now) sends
-        → Writing (W.line writer.old) (W.line writer.new) broken
+        → WritingByFew (W.line writer.old) (W.line writer.new) broken
         (framed_text hex (session_line sentinel false sends))) }
 {
     let mut room = [0u8; ROOM];
@@ -65,9 +66,10 @@ pub fn pack<R: Inlet, W: Outlet, E: Outlet>(
     faults: &mut E,
 ) -> Result<u8, Stop>
     ensures worked { Worked None hex sentinel (HasReadNow (R.line reader.old) (R.line reader.new))
-        (Writing (W.line writer.old) (W.line writer.new))
-        (Writing (E.line faults.old) (E.line faults.new)) result }
+        (WritingByFew (W.line writer.old) (W.line writer.new))
+        (WritingByFew (E.line faults.old) (E.line faults.new)) result }
     ensures calls { UsesFew (R.line reader.old) (R.line reader.new) 1 }
+    ensures once { (R.line reader.new).faults ≤ (R.line reader.old).faults + 1 }
 {
     let mut text = Vec::new(alloc);
     match read_to_end(reader, &mut text) {

@@ -1,6 +1,6 @@
 ghost use Rattle.std.specs.Prelude.{◌≡◌, ℕ, ◌<◌, List, [], ◌++◌, IfOk, OnOk, OnErr, IsTrue, IsUtf8};
-ghost use Rattle.line_io.specs.Transfers.{Writing, whole, broken};
-ghost use Rattle.framed_lib.specs.Output.{Puts};
+ghost use Rattle.line_io.specs.Transfers.{whole, broken};
+ghost use Rattle.framed_lib.specs.Output.{Puts, WritingByFew};
 ghost use Rattle.link.specs.Run.{Send};
 ghost use Rattle.std.specs.List.{list_all};
 ghost use Rattle.framed_lib.specs.Program.{SaysFirst};
@@ -17,7 +17,7 @@ use line_io::{Outlet, WriteFault, write_all};
 fn refuse<E: Outlet>(faults: &mut E, held: &mut Held, number: usize) -> Result<(), WriteFault>
     ensures ok { OnOk result (Puts (E.line faults.old) (E.line faults.new)
         held.old.items held.new.items (refusal number)) }
-    ensures err { OnErr result (Writing (E.line faults.old) (E.line faults.new) broken
+    ensures err { OnErr result (WritingByFew (E.line faults.old) (E.line faults.new) broken
         (held.old.items ++ refusal number)) }
 {
     put(faults, held, b"line ")?;
@@ -39,7 +39,7 @@ fn judge_line<E: Outlet>(
         × Puts (E.line faults.old) (E.line faults.new) held.old.items held.new.items
         (said_of number x)) }
     ensures err { OnErr result ((x : Send) × IsSendOfLine line.now x
-        × Writing (E.line faults.old) (E.line faults.new) broken
+        × WritingByFew (E.line faults.old) (E.line faults.new) broken
         (held.old.items ++ said_of number x)) }
 {
     if is_sendable(line, is_text) {
@@ -62,7 +62,7 @@ fn judge_lines<E: Outlet>(
         × (good ≡ list_all is_whole sends)
         × Puts (E.line faults.old) (E.line faults.new) [] held.new.items (refusals 1 sends)) }
     ensures err { OnErr result ((said : List ℕ) × SaysFirst text.now said
-        × Writing (E.line faults.old) (E.line faults.new) broken said) }
+        × WritingByFew (E.line faults.old) (E.line faults.new) broken said) }
 {
     let mut rest = text;
     let mut lines = 0;
@@ -86,9 +86,9 @@ pub fn say_refusals<E: Outlet>(
     requires { IsTrue is_text → IsUtf8 text.now }
     ensures ok { IfOk result (λ good. (sends : List Send) × AreSendsOf (lines_in text.now) sends
         × (good ≡ list_all is_whole sends)
-        × Writing (E.line faults.old) (E.line faults.new) whole (refusals 1 sends)) }
+        × WritingByFew (E.line faults.old) (E.line faults.new) whole (refusals 1 sends)) }
     ensures err { OnErr result ((said : List ℕ) × SaysFirst text.now said
-        × Writing (E.line faults.old) (E.line faults.new) broken said) }
+        × WritingByFew (E.line faults.old) (E.line faults.new) broken said) }
 {
     let mut held: Held = ArrayVec::new();
     let good = judge_lines(text, is_text, faults, &mut held)?;

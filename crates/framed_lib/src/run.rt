@@ -1,6 +1,6 @@
-ghost use Rattle.std.specs.Prelude.{◌≡◌, Bool, Some, false};
-ghost use Rattle.line_io.specs.Transfers.{Writing};
+ghost use Rattle.std.specs.Prelude.{◌≡◌, ◌+◌, ◌≤◌, Bool, Some, false};
 ghost use Rattle.link.specs.Each.{HasReadNow, UsesFew};
+ghost use Rattle.framed_lib.specs.Output.{WritingByFew};
 ghost use Rattle.framed_lib.specs.Live.{AnswersLive};
 ghost use Rattle.framed_lib.specs.Program.{RunEnds, unpacking};
 ghost use Rattle.framed_lib.specs.Working.{Worked, SaysLast, Reports};
@@ -36,7 +36,8 @@ pub struct Ran<R, W, E> {
 ///
 /// With `hex` the framed side is hexadecimal text, written in lower case. A sentinel is on each side of a frame, whose bytes are XORed with
 /// it. Unpacking bytes, a run has written the lines of everything before the last read, of at most 1024 bytes, before it makes that read.
-/// At most one call of the reader a byte, and one that ends the reading.
+/// It makes at most one call of the reader a byte, and one that ends the reading; of a writer at most one for each byte that is to be
+/// written. No call of a device follows one that failed.
 ///
 /// # Errors
 /// The status is 0; 1 if a line was refused or a result isn't a value; 2 if the text isn't hexadecimal; 3 if a device failed; 4 if out of
@@ -55,12 +56,13 @@ pub fn run<R: Inlet, W: Outlet, E: Outlet>(
 ) -> Ran<R, W, E>
     ensures ends { RunEnds (unpacking mode) hex sentinel
         (HasReadNow (R.line reader) (R.line result.reader))
-        (Writing (W.line writer) (W.line result.writer))
-        result.status (Writing (E.line faults) (E.line result.faults)) }
+        (WritingByFew (W.line writer) (W.line result.writer))
+        result.status (WritingByFew (E.line faults) (E.line result.faults)) }
     ensures live { (strict : Bool) → unpacking mode ≡ Some strict → hex ≡ false
         → AnswersLive W.line strict sentinel
         (R.line reader, writer) (R.line result.reader, result.writer) }
     ensures calls { UsesFew (R.line reader) (R.line result.reader) 1 }
+    ensures once { (R.line result.reader).faults ≤ (R.line reader).faults + 1 }
 {
     let (writer, worked) = work(alloc, mode, hex, sentinel, &mut reader, writer, &mut faults);
     let status = report(&mut faults, worked);
@@ -84,12 +86,13 @@ fn work<R: Inlet, W: Outlet, E: Outlet>(
 ) -> (W, Result<u8, Stop>)
     ensures worked { Worked (unpacking mode) hex sentinel
         (HasReadNow (R.line reader.old) (R.line reader.new))
-        (Writing (W.line writer) (W.line result.0))
-        (Writing (E.line faults.old) (E.line faults.new)) result.1 }
+        (WritingByFew (W.line writer) (W.line result.0))
+        (WritingByFew (E.line faults.old) (E.line faults.new)) result.1 }
     ensures live { (strict : Bool) → unpacking mode ≡ Some strict → hex ≡ false
         → AnswersLive W.line strict sentinel
         (R.line reader.old, writer) (R.line reader.new, result.0) }
     ensures calls { UsesFew (R.line reader.old) (R.line reader.new) 1 }
+    ensures once { (R.line reader.new).faults ≤ (R.line reader.old).faults + 1 }
 {
     match mode {
         Mode::Pack => {

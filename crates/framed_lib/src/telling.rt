@@ -1,7 +1,7 @@
 //! Results that are written as they come.
 ghost use Rattle.std.specs.Prelude.{◌≡◌, ◌⊎◌, ◌&&◌, [], ◌∷◌, ◌++◌, false, true, OnOk, OnErr};
-ghost use Rattle.line_io.specs.Transfers.{Writing, whole, broken};
-ghost use Rattle.framed_lib.specs.Output.{Puts};
+ghost use Rattle.line_io.specs.Transfers.{whole, broken};
+ghost use Rattle.framed_lib.specs.Output.{Puts, WritingByFew};
 ghost use Rattle.framed_lib.specs.Lines.{answer_line, has_value};
 ghost use Rattle.framed_lib.specs.Telling.{PutsLines, Tells, IsSettled, tells_laws};
 
@@ -29,7 +29,7 @@ fn flush<W: Outlet>(writer: &mut W, held: &mut Held) -> Result<(), WriteFault>
     ensures ok { OnOk result
         (Puts (W.line writer.old) (W.line writer.new) held.old.items held.new.items []) }
     ensures empty { OnOk result (held.new.items ≡ []) }
-    ensures err { OnErr result (Writing (W.line writer.old) (W.line writer.new) broken
+    ensures err { OnErr result (WritingByFew (W.line writer.old) (W.line writer.new) broken
         (held.old.items ++ [])) }
 {
     write_all(writer, held.as_slice())?;
@@ -40,10 +40,10 @@ fn flush<W: Outlet>(writer: &mut W, held: &mut Held) -> Result<(), WriteFault>
 /// Writes what is held, unless a write failed before.
 pub fn write_rest<W: Outlet>(writer: &mut W, failed: bool, held: &Held) -> Result<(), WriteFault>
     ensures ok { OnOk result ((failed ≡ false)
-        × Writing (W.line writer.old) (W.line writer.new) whole held.now.items) }
+        × WritingByFew (W.line writer.old) (W.line writer.new) whole held.now.items) }
     ensures err { OnErr result (((failed ≡ true) × (writer.new ≡ writer.old))
         ⊎ ((failed ≡ false)
-        × Writing (W.line writer.old) (W.line writer.new) broken held.now.items)) }
+        × WritingByFew (W.line writer.old) (W.line writer.new) broken held.now.items)) }
 {
     if failed {
         return Err(WriteFault);

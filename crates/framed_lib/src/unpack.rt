@@ -1,7 +1,7 @@
-ghost use Rattle.std.specs.Prelude.{◌≡◌, ℕ, List, true, false, None, Some, IsErr};
-ghost use Rattle.line_io.specs.Transfers.{Writing};
+ghost use Rattle.std.specs.Prelude.{◌≡◌, ℕ, ◌+◌, ◌≤◌, List, true, false, None, Some, IsErr};
 ghost use Rattle.line_io.specs.declared.transfers.End.TheVariants.{ReadFault};
 ghost use Rattle.link.specs.Each.{HasReadNow, UsesFew, last_call};
+ghost use Rattle.framed_lib.specs.Output.{WritingByFew};
 ghost use Rattle.framed_lib.specs.Live.{AnswersLive};
 ghost use Rattle.framed_lib.specs.Working.{Worked, TellsAnswers, outcome_of};
 
@@ -55,11 +55,12 @@ fn tell_answers<R: Inlet, W: Outlet>(
     ensures told { (bytes : List ℕ)
         × HasReadNow (R.line reader.old) (R.line reader.new) result.end bytes
         × TellsAnswers strict sentinel result.end bytes result.good result.written
-        (Writing (W.line writer) (W.line result.writer)) }
+        (WritingByFew (W.line writer) (W.line result.writer)) }
     ensures stopped { result.end ≡ None → (live ≡ true) × IsErr result.written }
     ensures first { live ≡ true → result.end ≡ Some ReadFault → IsErr result.written → ⊥ }
     ensures live { live ≡ true → AnswersLive W.line strict sentinel
         (R.line reader.old, writer) (R.line reader.new, result.writer) }
+    ensures once { (R.line reader.new).faults ≤ (R.line reader.old).faults + 1 }
     ensures few { UsesFew (R.line reader.old) (R.line reader.new) (last_call result.end) }
 {
     let mut telling = Telling {
@@ -98,9 +99,10 @@ fn unpack_hex<R: Inlet, W: Outlet, E: Outlet>(
 ) -> (W, Result<u8, Stop>)
     ensures worked { Worked (Some strict) true sentinel
         (HasReadNow (R.line reader.old) (R.line reader.new))
-        (Writing (W.line writer) (W.line result.0))
-        (Writing (E.line faults.old) (E.line faults.new)) result.1 }
+        (WritingByFew (W.line writer) (W.line result.0))
+        (WritingByFew (E.line faults.old) (E.line faults.new)) result.1 }
     ensures calls { UsesFew (R.line reader.old) (R.line reader.new) 1 }
+    ensures once { (R.line reader.new).faults ≤ (R.line reader.old).faults + 1 }
 {
     let mut text = Vec::new(alloc);
     match read_to_end(reader, &mut text) {
@@ -132,11 +134,12 @@ pub fn unpack<R: Inlet, W: Outlet, E: Outlet>(
 ) -> (W, Result<u8, Stop>)
     ensures worked { Worked (Some strict) hex sentinel
         (HasReadNow (R.line reader.old) (R.line reader.new))
-        (Writing (W.line writer) (W.line result.0))
-        (Writing (E.line faults.old) (E.line faults.new)) result.1 }
+        (WritingByFew (W.line writer) (W.line result.0))
+        (WritingByFew (E.line faults.old) (E.line faults.new)) result.1 }
     ensures live { hex ≡ false → AnswersLive W.line strict sentinel
         (R.line reader.old, writer) (R.line reader.new, result.0) }
     ensures calls { UsesFew (R.line reader.old) (R.line reader.new) 1 }
+    ensures once { (R.line reader.new).faults ≤ (R.line reader.old).faults + 1 }
 {
     if hex {
         return unpack_hex(alloc, strict, sentinel, reader, writer, faults);

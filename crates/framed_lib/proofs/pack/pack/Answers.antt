@@ -1,8 +1,8 @@
 use Rattle.std.proofs.Common.{◌++◌, [], Some, false, refl, inl}
-use Rattle.line_io.specs.Calls.{WentOut-none}
 use Rattle.line_io.specs.Transfers.{HasRead}
 use Rattle.line_io.specs.declared.transfers.End.TheVariants.{Ended, NoMemory}
 use Rattle.link.specs.Run.{session_line}
+use Rattle.framed_lib.specs.Output.{few-none}
 use Rattle.framed_lib.specs.Program.{framed_text}
 use Rattle.framed_lib.specs.Sending.{refusals}
 use Rattle.framed_lib.proofs.WorkLemmas.{carried, read-whole, read-front, text-few, front-few}
@@ -15,7 +15,7 @@ returns-in-NoMemory-clause-worked g c =
     let m = c.in-NoMemory.ensures.memory refl in
     let lost = read-front reading c.new-text.ensures.items (m.0, m.1, m.2, m.3) m.4.0 in
     carried (Some NoMemory) (c.read_to_end.new.bytes.items ++ lost.0) [] [] (refl, refl, lost.2) lost.1
-    (WentOut-none _) (WentOut-none _)
+    (few-none _) (few-none _)
 
 pub returns-in_default-clause-worked : goal.returns-in_default-clause-worked
 returns-in_default-clause-worked g c =

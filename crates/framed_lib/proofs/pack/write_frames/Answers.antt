@@ -1,6 +1,6 @@
 use Rattle.std.proofs.Common.{refl, ap, length, [], ◌∷◌, ◌++◌, arith}
 use Rattle.std.proofs.lemmas.Result.{on_ok_weaker, on_err_weaker}
-use Rattle.framed_lib.proofs.OutputLemmas.{on_err, put-done, put-flush, put-went, put-placed, put-settled}
+use Rattle.framed_lib.proofs.OutputLemmas.{on_err, few-ok, few-err, put-done, put-flush, put-went, put-placed, put-settled}
 use Rattle.framed_lib.proofs.SendingLemmas.{Sent-none, Sent-more, clean-more}
 use Rattle.framed_lib.proofs.FramesLemmas.{none-put, shown-more, line-broke, all-put}
 use Rattle.framed_lib.proofs.pack.write_frames.Goals as goal
@@ -38,11 +38,11 @@ returns-clause-ok g c =
     let i = c.loop-line.invariant in
     let placed = put-placed (g.W.Outlet.line c.loop-line.writer) c.loop-line.held c.put_end-count.result _ c.loop-line.room c.put_end-count.new.room _ (omega (arith, i.5)) c.put_end-count.ensures.within c.put_end-count.ensures.end in
     let put = all-put c.args.hex c.args.sentinel c.args.text.now c.loop-line.rest.now i.0 i.1 i.3 (ap length c.in_default.ensures.line) placed in
-    on_ok_weaker c.write_all.result (λ p sends a. put-went (put sends a) p) c.write_all.ensures.ok
+    on_ok_weaker c.write_all.result (λ p sends a. put-went (put sends a) p) (few-ok _ c.write_all.ensures)
 
 pub returns-clause-err : goal.returns-clause-err
 returns-clause-err g c =
     let i = c.loop-line.invariant in
     let placed = put-placed (g.W.Outlet.line c.loop-line.writer) c.loop-line.held c.put_end-count.result _ c.loop-line.room c.put_end-count.new.room _ (omega (arith, i.5)) c.put_end-count.ensures.within c.put_end-count.ensures.end in
     let put = all-put c.args.hex c.args.sentinel c.args.text.now c.loop-line.rest.now i.0 i.1 i.3 (ap length c.in_default.ensures.line) placed in
-    on_err_weaker c.write_all.result (λ p sends a. put-flush (put sends a) p) c.write_all.ensures.err
+    on_err_weaker c.write_all.result (λ p sends a. put-flush (put sends a) p) (few-err _ c.write_all.ensures)

@@ -1,6 +1,7 @@
 use Rattle.std.proofs.Common.{◌≡◌, ◌+◌, ◌∷◌, ◌++◌, [], length, ap, arith, ℕ, List}
 use Rattle.std.proofs.lemmas.List.{length-append}
-use Rattle.line_io.specs.Transfers.{Writing, broken}
+use Rattle.line_io.specs.Transfers.{broken}
+use Rattle.framed_lib.specs.Output.{WritingByFew}
 use Rattle.framed_lib.specs.Program.{SaysFirst}
 use Rattle.framed_lib.specs.Sending.{refusals}
 use Rattle.framed_lib.proofs.OutputLemmas.{on_err, put-done, put-broke}
@@ -19,7 +20,7 @@ returns-in_err-sendable-clause-err g c =
     c.in-Some.ensures.line.0 one.1 in
     let line = g.E.Outlet.line in
     let h : (said : List ℕ) × SaysFirst c.args.text.now said
-    × Writing (line c.args.faults.now) (line c.judge_line.new.faults) broken said =
+    × WritingByFew (line c.args.faults.now) (line c.judge_line.new.faults) broken said =
     (refusals 1 sends, first, rw said (put-broke _ i.2 one.2)) in
     on_err _ h
 

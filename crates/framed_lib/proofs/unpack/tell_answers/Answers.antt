@@ -1,8 +1,9 @@
 use Rattle.std.proofs.Common.{inl, inr, refl, sym, subst, ◌∙◌}
 use Rattle.std.proofs.lemmas.Bool.{and_parts}
 use Rattle.std.proofs.lemmas.Result.{on_ok_weaker, on_err_weaker}
-use Rattle.line_io.specs.Transfers.{Writing, broken}
+use Rattle.line_io.specs.Transfers.{broken}
 use Rattle.framed_lib.specs.Lines.{answer_lines}
+use Rattle.framed_lib.specs.Output.{WritingByFew}
 use Rattle.framed_lib.proofs.OutputLemmas.{put-flush, put-went}
 use Rattle.framed_lib.proofs.LinesLemmas.{received, all-same}
 use Rattle.framed_lib.proofs.LiveLemmas.{written_live, fault_first}
@@ -25,7 +26,7 @@ returns-clause-told g c =
         went = rw same at (on_ok_weaker w (λ o. rw c.new.ensures at (put-went (t.went refl o.0) o.1)) c.write_rest-written.ensures.ok);
         broke =
             rw same at (on_err_weaker w (λ o. elim o [
-              | inl same ↦ subst (λ x. Writing (g.W.Outlet.line c.args.writer) (g.W.Outlet.line x) broken (answer_lines h.hands.answers)) (sym same.1) (rw c.new.ensures at (t.broke refl same.0))
+              | inl same ↦ subst (λ x. WritingByFew (g.W.Outlet.line c.args.writer) (g.W.Outlet.line x) broken (answer_lines h.hands.answers)) (sym same.1) (rw c.new.ensures at (t.broke refl same.0))
               | inr broke ↦ rw c.new.ensures at (put-flush (t.went refl broke.0) broke.1)
             ]) c.write_rest-written.ensures.err);
       },

@@ -1,8 +1,7 @@
 use Rattle.std.proofs.Common.{refl}
-use Rattle.line_io.specs.Calls.{WentOut-none}
-use Rattle.line_io.specs.Transfers.{Writing}
 use Rattle.link.specs.Each.{HasReadNow}
 use Rattle.link.specs.Firsts.{not_both as no_both}
+use Rattle.framed_lib.specs.Output.{WritingByFew, few-none}
 use Rattle.framed_lib.proofs.WorkLemmas.{bytes-worked, most-few}
 use Rattle.framed_lib.proofs.unpack.unpack.Goals as goal
 
@@ -22,9 +21,9 @@ returns-clause-worked g c =
     rw (c.if-hex.false, c.outcome.ensures)
     (bytes-worked c.args.strict c.args.sentinel t.told.0
     (HasReadNow (g.R.Inlet.line c.args.reader.now) (g.R.Inlet.line c.tell_answers-told.new.reader))
-    (Writing (g.W.Outlet.line c.args.writer) (g.W.Outlet.line told.writer))
-    (Writing (g.E.Outlet.line c.args.faults.now) (g.E.Outlet.line c.args.faults.now))
-    told.good (WentOut-none _) told.end told.written t.told.2 t.told.1 (λ none. (t.stopped none).1) (t.first refl))
+    (WritingByFew (g.W.Outlet.line c.args.writer) (g.W.Outlet.line told.writer))
+    (WritingByFew (g.E.Outlet.line c.args.faults.now) (g.E.Outlet.line c.args.faults.now))
+    told.good (few-none _) told.end told.written t.told.2 t.told.1 (λ none. (t.stopped none).1) (t.first refl))
 
 pub returns-then-hex-clause-calls : goal.returns-then-hex-clause-calls
 returns-then-hex-clause-calls g c = c.unpack_hex.ensures.calls

@@ -1,8 +1,8 @@
 use Rattle.std.proofs.Common.{◌≡◌, ◌++◌, [], Some, false, true, length, refl, ap, ◌∙◌, inr, arith}
-use Rattle.line_io.specs.Calls.{WentOut-none}
-use Rattle.line_io.specs.Transfers.{HasRead, Writing}
+use Rattle.line_io.specs.Transfers.{HasRead}
 use Rattle.line_io.specs.declared.transfers.End.TheVariants.{Ended, NoMemory}
 use Rattle.link.specs.Each.{HasReadNow}
+use Rattle.framed_lib.specs.Output.{WritingByFew, few-ok, few-err, few-none}
 use Rattle.framed_lib.specs.Program.{bad_hex}
 use Rattle.framed_lib.proofs.WorkLemmas.{carried, digits-worked, ends-whole, read-whole, read-front, text-few, front-few}
 use Rattle.framed_lib.proofs.unpack.unpack_hex.Goals as goal
@@ -14,14 +14,14 @@ returns-in-NoMemory-clause-worked g c =
     let m = c.in-NoMemory.ensures.memory refl in
     let lost = read-front reading c.new-text.ensures.items (m.0, m.1, m.2, m.3) m.4.0 in
     carried (Some NoMemory) (c.read_to_end.new.bytes.items ++ lost.0) [] [] (refl, refl, lost.2) lost.1
-    (WentOut-none _) (WentOut-none _)
+    (few-none _) (few-none _)
 
 pub returns-in_default-clause-worked : goal.returns-in_default-clause-worked
 returns-in_default-clause-worked g c =
     carried (Some Ended) c.read_to_end.new.bytes.items [] bad_hex
     (refl, refl, (c.if-not-decode_hex.ensures.bad refl, refl))
     (read-whole c.new-text.ensures.items (c.in-Ended.ensures.ended refl))
-    (WentOut-none _) c.in_default.ensures.err
+    (few-none _) (few-err _ c.in_default.ensures)
 
 pub returns-then-not-decode_hex-clause-worked : goal.returns-then-not-decode_hex-clause-worked
 returns-then-not-decode_hex-clause-worked g c =
@@ -29,7 +29,7 @@ returns-then-not-decode_hex-clause-worked g c =
     carried (Some Ended) c.read_to_end.new.bytes.items [] bad_hex
     (refl, inr (record { not_hex = bad; out_is = refl; said_is = refl; status_is = refl }))
     (read-whole c.new-text.ensures.items (c.in-Ended.ensures.ended refl))
-    (WentOut-none _) c.in-Ok.ensures.ok
+    (few-none _) (few-ok _ c.in-Ok.ensures)
 
 pub returns-clause-worked : goal.returns-clause-worked
 returns-clause-worked g c =
@@ -44,9 +44,9 @@ returns-clause-worked g c =
     rw c.outcome.ensures
     (digits-worked c.args.strict c.args.sentinel c.read_to_end.new.bytes.items
     (HasReadNow (g.R.Inlet.line c.args.reader.now) (g.R.Inlet.line c.read_to_end.new.inlet))
-    (Writing (g.W.Outlet.line c.args.writer) (g.W.Outlet.line told.writer))
-    (Writing (g.E.Outlet.line c.args.faults.now) (g.E.Outlet.line c.args.faults.now))
-    told.good (WentOut-none _) c.decode_hex.new.text.items (c.if-not-decode_hex.ensures.ok refl)
+    (WritingByFew (g.W.Outlet.line c.args.writer) (g.W.Outlet.line told.writer))
+    (WritingByFew (g.E.Outlet.line c.args.faults.now) (g.E.Outlet.line c.args.faults.now))
+    told.good (few-none _) c.decode_hex.new.text.items (c.if-not-decode_hex.ensures.ok refl)
     (read-whole c.new-text.ensures.items (c.in-Ended.ensures.ended refl))
     told.end t.told.0 told.written
     (rw (same ∙ c.deref.ensures.value) at read) t.told.2)
