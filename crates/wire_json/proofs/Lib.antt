@@ -1,4 +1,5 @@
 pub mod DeeperLemmas
+pub mod FaultLemmas
 pub mod FloatLemmas
 pub mod KeyLemmas
 pub mod LeafLemmas

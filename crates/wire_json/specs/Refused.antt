@@ -1,7 +1,9 @@
 -- When nothing is read.
-use Rattle.std.specs.Prelude.{ℕ, List, [], ◌∷◌, ◌++◌, Option, Some, None, Result, IfErr, codes, decimal}
+use Rattle.std.specs.Prelude.{◌≡◌, ℕ, List, [], ◌∷◌, ◌++◌, Option, Some, None, Result, IfErr, String, codes, decimal, string_bytes}
+use Rattle.std.specs.Global.{Global}
 use Rattle.schema_table.specs.declared.node.Node.{Node}
 use Rattle.schema_table.specs.declared.node.Node.TheVariants as node
+use Rattle.wire_json.specs.declared.wrong.Wrong.{Wrong as Fault}
 use Rattle.wire_json.specs.declared.wrong.ParseError.{ParseError}
 use Rattle.wire_json.specs.declared.wrong.ParseError.TheVariants.{Wrong, OutOfMemory}
 
@@ -14,6 +16,35 @@ IsWrong OutOfMemory = ⊥
 abbrev pub refusal_text : ℕ → List ℕ → List ℕ
 refusal_text number why =
     codes "line " ++ (decimal number ++ (codes ": " ++ (why ++ 10 ∷ [])))
+
+-- the path to what is wrong after a colon, if there is one
+abbrev pub path_parts : Option (String Global) → List (List ℕ)
+path_parts None = [] ∷ [] ∷ []
+path_parts (Some path) = codes ": " ∷ string_bytes path ∷ []
+
+-- the texts that are the line of a fault, by the digits of the line's number
+abbrev pub line_parts : List ℕ → Fault → List (List ℕ)
+line_parts digits w = codes "line " ∷ digits ∷ (path_parts w.path ++ codes ": " ∷ w.why.now ∷ codes "\n" ∷ [])
+
+-- what is wrong, after the path to it, if there is one
+abbrev pub located_why : Option (String Global) → List ℕ → List ℕ
+located_why None why = why
+located_why (Some path) why = string_bytes path ++ (codes ": " ++ why)
+
+-- the line that refuses the line of that number for this fault
+abbrev pub fault_line : ℕ → Fault → List ℕ
+fault_line number w = refusal_text number (located_why w.path w.why.now)
+
+-- a prefix of a text was appended to another one
+pub record AppendsFront (old new text : List ℕ) : Type 0 where
+  -- what was appended
+  pub front : List ℕ
+  -- what is missing
+  pub rest : List ℕ
+  -- together they are the text
+  pub text_is : text ≡ front ++ rest
+  -- nothing else was appended
+  pub appended : new ≡ old ++ front
 
 -- said of a call that found a fault
 abbrev pub IfWrong : {A : Type 0} → Result A ParseError → Type 0 → Type 0

@@ -1,10 +1,10 @@
 //! What is wrong with a line, and the path to it.
-ghost use Rattle.std.specs.Prelude.{◌≡◌, ℕ, List, ◌++◌, string_bytes, OnOk};
-ghost use Rattle.wire_json.specs.Refused.{IsWrong, refusal_text};
+ghost use Rattle.std.specs.Prelude.{◌≡◌, ◌+◌, ◌<◌, ◌++◌, [], length, get_or, string_bytes, string_capacity, string_len, OnOk, OnErr};
+ghost use Rattle.wire_json.specs.Refused.{AppendsFront, IsWrong, fault_line, line_parts};
 ghost use Rattle.wire_json.specs.declared.wrong.ParseError.TheVariants.{OutOfMemory};
 
+use itoa::Buffer;
 use std::alloc::{AllocError, AllocFailed, Global};
-use std::fmt::Write;
 
 /// A fault in a line.
 #[derive(Debug, Drop)]
@@ -119,22 +119,41 @@ pub fn at_column(alloc: Global, column: usize) -> ParseError {
     }
 }
 
-/// Appends `line K: PATH: WHY` and a line feed, for the line with this number.
+/// One of the texts that are the line of a fault, in order; the sixth is the last.
+fn part_of<'a>(number: &'a str, wrong: &'a Wrong, index: usize) -> &'a str
+    ensures { result.now ≡ get_or (line_parts number.now wrong.now) index [] }
+{
+    match (index, &wrong.path) {
+        (0, _) => "line ",
+        (1, _) => number,
+        (2, Some(_)) => ": ",
+        (3, Some(path)) => path.as_str(),
+        (4, _) => ": ",
+        (5, _) => wrong.why,
+        (6, _) => "\n",
+        _ => "",
+    }
+}
+
+/// Appends `line K: PATH: WHY` and a line feed, for the line with this number; without a path `line K: WHY`.
 ///
 /// # Errors
-/// Out of memory; a part may have been appended.
+/// Out of memory, only if the capacity of `lines` doesn't suffice; a prefix of the line may have been appended.
 ///
 /// # Allocates
 /// What `lines` grows by.
 pub fn put_wrong(lines: &mut String, number: u64, wrong: &Wrong) -> Result<(), AllocError>
-    ensures { OnOk result ((why : List ℕ)
-        × (string_bytes lines.new ≡ string_bytes lines.old ++ refusal_text number why)) }
+    ensures line { OnOk result (string_bytes lines.new
+        ≡ string_bytes lines.old ++ fault_line number wrong.now) }
+    ensures front { OnErr result (AppendsFront (string_bytes lines.old) (string_bytes lines.new)
+        (fault_line number wrong.now)) }
+    ensures full { OnErr result (string_capacity lines.old
+        < string_len lines.old + length (fault_line number wrong.now)) }
 {
-    write!(lines, "line {number}: ")?;
-    if let Some(path) = &wrong.path {
-        lines.push_str(path.as_str())?;
-        lines.push_str(": ")?;
+    let mut digits = Buffer::new();
+    let number = digits.format(number);
+    for index in 0..7 {
+        lines.push_str(part_of(number, &*wrong, index))?;
     }
-    lines.push_str(wrong.why)?;
-    lines.push('\n')
+    Ok(())
 }
