@@ -1,13 +1,14 @@
 -- Records that were appended since a line stood somewhere, and one more.
-use Rattle.std.proofs.Common.{◌≡◌, ℕ, ◌+◌, Bool, true, List, [], ◌∷◌, ◌++◌, length, Option, Some, Result, Ok, Err, refl, sym, ap, ◌∙◌, subst, append_assoc, append-nil, length-append, arith}
-use Rattle.line_io.specs.Device.{LineState, Grew, Wrote}
+use Rattle.std.proofs.Common.{◌≡◌, ℕ, ◌+◌, ◌<◌, Bool, true, List, [], ◌∷◌, ◌++◌, length, drop, Option, Some, Ok, Err, sym, ap, ◌∙◌, subst, append_assoc, append-nil, length-append, length-drop, take-append-drop, arith}
+use Rattle.line_io.specs.Device.{LineState, Wrote}
 use Rattle.line_io.specs.Calls.{Wrote-then}
-use Rattle.postcard_tree.specs.Tree.{Tree}
-use Rattle.link.specs.Run.{sent, written, completed}
+use Rattle.postcard_tree.specs.Tree.{Tree, IsTree}
+use Rattle.link.specs.Run.{Send, IsSend, sent, written, completed}
 use Rattle.journal.specs.Records.{numbered}
-use Rattle.journal.specs.Appending.{Appended}
+use Rattle.journal.specs.Appending.{Appended, IsAppend}
 use Rattle.journal.specs.declared.log.AppendError.{AppendError}
-use Rattle.records.specs.Settling.{records_from, HasGrown}
+use Rattle.journal.specs.declared.log.AppendError.TheVariants.{Refused, Line, Spent, Full}
+use Rattle.records.specs.Settling.{records_from, HasGrown, IsTorn}
 
 records_more : (n : ℕ) (vs : List Tree) (v : Tree) → records_from n vs ++ sent 0 true (numbered (n + length vs) v) ≡ records_from n (vs ++ v ∷ [])
 records_more n [] v = ap (λ m. sent 0 true (numbered m v)) (let e : n + 0 ≡ n = omega arith in e) ∙ sym (append-nil (sent 0 true (numbered n v)))
@@ -39,11 +40,30 @@ grows limit spent writes n m first behind start old new values a e h =
       };
     }
 
+-- what one that failed leaves of its record
+torn : (limit : ℕ) (spent : Bool) (writes : Option Tree) (n : ℕ) (e : AppendError) (send : Send)
+    → IsSend IsTree limit 0 true send → IsAppend limit spent n writes (Err e) send → IsTorn n writes (Err e) (written 0 true send)
+torn limit spent writes n Line send s i =
+    let bytes = sent 0 true (numbered n i.0) in
+    let fewer : i.1 < length bytes = (subst (λ x. IsSend IsTree limit 0 true x) i.3 s).1 in
+    record {
+      value = i.0;
+      is = i.2;
+      missing = drop i.1 bytes;
+      some_missing = omega (arith, fewer, length-drop i.1 bytes);
+      whole = ap (λ x. written 0 true x ++ drop i.1 bytes) i.3 ∙ take-append-drop i.1 bytes;
+    }
+torn limit spent writes n (Refused e) send s i = ap (λ x. written 0 true x) i.0
+torn limit spent writes n Spent send s i = ap (λ x. written 0 true x) i.0
+torn limit spent writes n Full send s i = ap (λ x. written 0 true x) i.0
+
 -- what one that failed leaves: the same records, and what went out of it
-pub grew_by : (limit : ℕ) (spent : Bool) (writes : Option Tree) (n first behind : ℕ) (r : Result ℕ AppendError) (start old new : LineState) (values : List Tree)
-    → Appended limit spent n writes r old new → HasGrown start old first behind values [] → (rest : List ℕ) × HasGrown start new first behind values rest
-grew_by limit spent writes n first behind r start old new values a h = (
+pub grew_by : (limit : ℕ) (spent : Bool) (writes : Option Tree) (n first behind : ℕ) (e : AppendError) (start old new : LineState) (values : List Tree)
+    → Appended limit spent n writes (Err e) old new → HasGrown start old first behind values []
+    → (rest : List ℕ) × IsTorn n writes (Err e) rest × HasGrown start new first behind values rest
+grew_by limit spent writes n first behind e start old new values a h = (
   written 0 true a.send,
+  torn limit spent writes n e a.send a.is_send a.is,
   record {
     wrote = subst (λ b. Wrote start new b) (ap (λ b. b ++ written 0 true a.send) (append-nil (records_from first values))) (Wrote-then _ _ _ _ _ h.wrote a.wrote);
     numbers = h.numbers;

@@ -1,5 +1,6 @@
 //! Checking a log, and repairing one.
-ghost use Rattle.std.specs.Prelude.{◌==◌, ⊤, OnOk, OnErr};
+ghost use Rattle.std.specs.Prelude.{◌≡◌, ◌↔◌, ◌==◌, ◌&&◌, not, is_some, true, false, None, [], ◌∷◌, IfSome, OnOk, OnErr};
+ghost use Rattle.records.specs.Checking.{HasKeptStretches, keeps_laws, sealed_number, fault_word, greater_number, does_print, is_sound, greatest_told, is_sealed_record};
 
 use crate::entries::{
     Entry, INPUT, MOST, OUTPUT, open_file, read_input, say_failed, say_no_memory, status_of,
@@ -14,7 +15,9 @@ use sealed::Sealed;
 use std::io;
 
 // The number of a record that counts.
-fn number_of(answer: &Answer<(u64, Entry)>) -> Option<u64> {
+fn number_of(answer: &Answer<(u64, Entry)>) -> Option<u64>
+    ensures { result ≡ sealed_number answer.now }
+{
     match answer {
         Answer::Value((number, Sealed((sealed, _)))) if *number == *sealed => Some(*number),
         _ => None,
@@ -22,11 +25,26 @@ fn number_of(answer: &Answer<(u64, Entry)>) -> Option<u64> {
 }
 
 // Why a stretch isn't a record that counts, if it isn't.
-fn held_against(answer: &Answer<(u64, Entry)>, again: bool) -> Option<&'static str> {
+fn held_against(answer: &Answer<(u64, Entry)>, again: bool) -> Option<&'static str>
+    ensures good { result ≡ None ↔ ((is_some (sealed_number answer.now) ≡ true)
+        × (again ≡ false)) }
+    ensures word { IfSome result (λ what. what.now ≡ fault_word answer.now) }
+{
     match answer {
         _ if number_of(answer).is_some() => again.then_some("a number again"),
         Answer::TooLong => Some("too long"),
         _ => Some("damaged"),
+    }
+}
+
+// The greater of two numbers, or the only one.
+fn greater(one: Option<u64>, other: Option<u64>) -> Option<u64>
+    ensures { result ≡ greater_number one other }
+{
+    match (one, other) {
+        (Some(one), Some(other)) => Some(one.max(other)),
+        (Some(one), None) => Some(one),
+        (None, other) => other,
     }
 }
 
@@ -84,7 +102,11 @@ pub struct Printer<'a> {
 
 impl<'a> Printer<'a> {
     /// Prints to standard output, and shows the progress.
-    fn new(rt: &'a HostRuntime) -> Printer<'a> {
+    fn new(rt: &'a HostRuntime) -> Printer<'a>
+        ensures prints { does_print result ≡ true }
+        ensures sound { is_sound result ≡ true }
+        ensures greatest { greatest_told result ≡ None }
+    {
         Printer {
             to: Some(Printing {
                 rt,
@@ -98,7 +120,11 @@ impl<'a> Printer<'a> {
     }
 
     /// Prints nothing.
-    pub fn silent() -> Printer<'a> {
+    pub fn silent() -> Printer<'a>
+        ensures prints { does_print result ≡ false }
+        ensures sound { is_sound result ≡ true }
+        ensures greatest { greatest_told result ≡ None }
+    {
         Printer {
             to: None,
             sound: true,
@@ -107,10 +133,44 @@ impl<'a> Printer<'a> {
     }
 
     // Takes the progress away.
-    fn end(&mut self) {
+    fn end(&mut self)
+        ensures sound { is_sound self.new ≡ is_sound self.old }
+        ensures greatest { greatest_told self.new ≡ greatest_told self.old }
+    {
         if let Some(to) = &mut self.to {
             to.progress.end(to.rt);
         }
+    }
+
+    // Shows how far the check is: it is at the end of a stretch.
+    fn step(&mut self, at: u64)
+        ensures prints { does_print self.new ≡ does_print self.old }
+        ensures sound { is_sound self.new ≡ is_sound self.old }
+        ensures greatest { greatest_told self.new ≡ greatest_told self.old }
+    {
+        if let Some(to) = &mut self.to {
+            to.progress.step(to.rt, at.saturating_sub(to.at));
+            to.at = at;
+        }
+    }
+
+    // Keeps what is known of a stretch, and returns what is held against it, if anything is.
+    fn keep(&mut self, answer: &Answer<(u64, Entry)>, again: bool) -> Option<&'static str>
+        ensures prints { does_print self.new ≡ does_print self.old }
+        ensures greatest { greatest_told self.new
+            ≡ greater_number (greatest_told self.old) (sealed_number answer.now) }
+        ensures sound { is_sound self.new ≡ (is_sound self.old
+            && (is_some (sealed_number answer.now) && not again)) }
+        ensures good { result ≡ None ↔ ((is_some (sealed_number answer.now) ≡ true)
+            × (again ≡ false)) }
+        ensures word { IfSome result (λ what. what.now ≡ fault_word answer.now) }
+    {
+        self.greatest = greater(self.greatest, number_of(answer));
+        let what = held_against(answer, again);
+        if what.is_some() {
+            self.sound = false;
+        }
+        what
     }
 }
 
@@ -124,26 +184,23 @@ impl Judge<Entry> for Printer<'_> {
 }
 
 impl Watcher<Entry> for Printer<'_> {
-    ghost told = { λ _ _ _. ⊤ };
+    ghost told = { HasKeptStretches };
 
     // if a line can't be printed
-    ghost halts = { λ _. ⊤ };
+    ghost halts = { λ p. does_print p ≡ true };
 
-    ghost laws = { record { nothing = λ s. tt; more = λ s t u a b p q. tt } };
+    ghost laws = { keeps_laws };
 
     fn tell(&mut self, stretch: Stretch<Entry>, again: bool) -> Result<(), Halt>
-        ensures told { OnOk result ⊤ }
-        ensures halts { OnErr result ⊤ }
+        ensures told { OnOk result (HasKeptStretches self.old (stretch ∷ []) self.new) }
+        ensures halts { OnErr result (does_print self.old ≡ true) }
+        ensures sound { is_sound self.new ≡ (is_sound self.old
+            && (is_sealed_record stretch && not again)) }
     {
-        if let Some(to) = &mut self.to {
-            to.progress.step(to.rt, stretch.to.saturating_sub(to.at));
-            to.at = stretch.to;
-        }
-        self.greatest = self.greatest.max(number_of(&stretch.answer));
-        let Some(what) = held_against(&stretch.answer, again) else {
+        self.step(stretch.to);
+        let Some(what) = self.keep(&stretch.answer, again) else {
             return Ok(());
         };
-        self.sound = false;
         match &self.to {
             Some(to) => print_stretch(to.rt, to.colour, stretch.from, stretch.to, what),
             None => Ok(()),

@@ -1,11 +1,11 @@
 //! Appending lines so that their numbers may be printed: several, and then one sync after them.
-ghost use Rattle.std.specs.Prelude.{◌≡◌, ◌↔◌, ◌+◌, ◌^◌, ◌⊎◌, ◌-◌, ℕ, true, Some, List, [], ◌∷◌, ◌++◌, IfOk, OnOk, OnErr};
+ghost use Rattle.std.specs.Prelude.{◌≡◌, ◌↔◌, ◌+◌, ◌^◌, ◌⊎◌, ◌-◌, ◌≤◌, ℕ, true, false, Some, List, [], ◌∷◌, ◌++◌, IfOk, OnOk, OnErr};
 ghost use Rattle.line_io.specs.Device.{LineState};
 ghost use Rattle.line_io.specs.Transfers.{Failed};
 ghost use Rattle.postcard_tree.specs.Tree.{Tree};
 ghost use Rattle.journal.specs.Store.{Settles};
 ghost use Rattle.journal.specs.Logs.{store_of, next_of, spent_of};
-ghost use Rattle.journal.specs.Appending.{Appended};
+ghost use Rattle.journal.specs.Appending.{Appended, next_after, spent_after, UnlessSpent};
 
 use journal::stores::{Store, SyncFault};
 use journal::{AppendError, Journal};
@@ -39,7 +39,7 @@ pub struct Group {
 }
 
 impl Group {
-    ghost use Rattle.records.specs.Settling.{first_of, behind_of, first_settled, behind_settled, HasGrown, numbered_by};
+    ghost use Rattle.records.specs.Settling.{first_of, behind_of, first_settled, behind_settled, HasGrown, IsTorn, numbered_by};
 
     /// A group of no records, which begins at the journal's next number.
     pub fn new<S: Store, const N: usize>(journal: &Journal<S, N>) -> Group
@@ -60,7 +60,8 @@ impl Group {
     /// Appends an entry after those of the group.
     ///
     /// # Errors
-    /// As `Journal::append`; the group is unchanged.
+    /// As `Journal::append`; the group and the next number are unchanged. The store has all records of the group, and after them a
+    /// proper prefix of this one if it failed (`Line`), else nothing more. What survives a crash is unchanged.
     pub fn append<T: Serialize, S: Store, const N: usize>(
         &mut self,
         journal: &mut Journal<S, N>,
@@ -80,9 +81,18 @@ impl Group {
         ensures failed { OnErr result ((start : LineState) (values : List Tree)
             → HasGrown start (S.line (store_of journal.old)) (first_of self.old)
             (behind_of self.old) values []
-            → (rest : List ℕ) × HasGrown start (S.line (store_of journal.new))
-            (first_of self.new) (behind_of self.new) values rest) }
+            → (rest : List ℕ) × IsTorn (next_of journal.old) (T.form.writes entry.now) result rest
+            × HasGrown start (S.line (store_of journal.new)) (first_of self.new)
+            (behind_of self.new) values rest) }
         ensures kept { OnErr result (self.new ≡ self.old) }
+        ensures first { first_of self.new ≡ first_of self.old }
+        ensures next { next_of journal.new
+            ≡ next_after (next_of journal.old) (numbered_by (next_of journal.old) result) }
+        ensures spent { spent_of journal.new
+            ≡ spent_after (spent_of journal.old) (numbered_by (next_of journal.old) result) }
+        ensures ready { UnlessSpent (numbered_by (next_of journal.old) result)
+            (spent_of journal.old ≡ false) }
+        ensures settled { S.settled (store_of journal.new) ≡ S.settled (store_of journal.old) }
     {
         match journal.append(entry) {
             Ok(number) => {
@@ -96,7 +106,8 @@ impl Group {
     /// Syncs the log, and returns the numbers of the group, which can be printed then.
     ///
     /// # Errors
-    /// `SyncFault`: the journal was spent, or the sync failed.
+    /// `SyncFault`: the journal was spent, or the sync failed. It is spent then. What survived a crash before still does; of the
+    /// group no more is known.
     pub fn settle<S: Store, const N: usize>(
         self,
         journal: &mut Journal<S, N>,
@@ -106,13 +117,21 @@ impl Group {
             values rest
             → HasGrown start (S.line (store_of journal.new)) (first_settled s)
             (behind_settled s) values rest) }
+        ensures numbers { IfOk result (λ s. (first_settled s ≡ first_of self)
+            × (behind_settled s ≡ behind_of self)) }
         ensures settled { OnOk result
             (Settles (S.line (store_of journal.new)).told (S.settled (store_of journal.new))) }
         ensures cause { OnErr result ((spent_of journal.old ≡ true)
             ⊎ Failed (S.line (store_of journal.old)) (S.line (store_of journal.new))) }
         ensures held { (S.line (store_of journal.new)).told
             ≡ (S.line (store_of journal.old)).told }
+        ensures no_less { S.settled (store_of journal.old) ≤ S.settled (store_of journal.new) }
+        ensures untouched { spent_of journal.old ≡ true → store_of journal.new
+            ≡ store_of journal.old }
         ensures next { next_of journal.new ≡ next_of journal.old }
+        ensures ready { OnOk result ((spent_of journal.old ≡ false)
+            × (spent_of journal.new ≡ false)) }
+        ensures spent { OnErr result (spent_of journal.new ≡ true) }
     {
         journal.sync()?;
         Ok(Settled {
@@ -124,15 +143,18 @@ impl Group {
     /// The same for the store itself, after an append failed and the journal was given up.
     ///
     /// # Errors
-    /// `SyncFault`: the sync failed.
+    /// `SyncFault`: the sync failed. What survived a crash before still does; of the group no more is known.
     pub fn settle_store<S: Store>(self, store: &mut S) -> Result<Settled, SyncFault>
         ensures grown { IfOk result (λ s. (start : LineState) (values : List Tree) (rest : List ℕ)
             → HasGrown start (S.line store.old) (first_of self) (behind_of self) values rest
             → HasGrown start (S.line store.new) (first_settled s) (behind_settled s)
             values rest) }
+        ensures numbers { IfOk result (λ s. (first_settled s ≡ first_of self)
+            × (behind_settled s ≡ behind_of self)) }
         ensures settled { OnOk result (Settles (S.line store.new).told (S.settled store.new)) }
         ensures cause { OnErr result (Failed (S.line store.old) (S.line store.new)) }
         ensures held { (S.line store.new).told ≡ (S.line store.old).told }
+        ensures no_less { S.settled store.old ≤ S.settled store.new }
     {
         store.sync()?;
         Ok(Settled {

@@ -1,4 +1,4 @@
-use Rattle.std.proofs.Common.{◌≡◌, ◌+◌, arith}
+use Rattle.std.proofs.Common.{arith}
 use Rattle.records.proofs.SettlingLemmas.{grows, grew_by}
 use Rattle.records.proofs.settling.Group.append.Goals as goal
 
