@@ -1,12 +1,15 @@
 //! Attributes, and calls of macros.
 use crate::tokens::{NO_NAME, Tokens, Word, Words};
 
-/// Goes over attributes and marks, of which those in a `cfg_attr` are by themselves. What has no words is none.
-#[derive(Clone, Copy, Drop)]
+/// Goes over attributes and marks, of which those in a `cfg_attr` are by themselves, also in one within another. What has no
+/// words is none.
+#[derive(Clone, Copy, Default, Drop)]
 pub struct AttributeWalk {
     rest: Words,
     parts: Words,
     condition: Words,
+    /// Whether one within another began: all that precedes a part is then its condition.
+    is_nested: bool,
 }
 
 impl AttributeWalk {
@@ -14,8 +17,7 @@ impl AttributeWalk {
     pub fn of(rest: Words) -> AttributeWalk {
         AttributeWalk {
             rest,
-            parts: Words::default(),
-            condition: Words::default(),
+            ..AttributeWalk::default()
         }
     }
 
@@ -23,9 +25,7 @@ impl AttributeWalk {
     /// many as there are words.
     pub fn next(&mut self, tokens: &Tokens) -> (Words, Words) {
         if !self.parts.is_empty() {
-            let (words, rest) = tokens.first_part(self.parts);
-            self.parts = rest;
-            return (tokens.behind_attributes(words), self.condition);
+            return self.next_part(tokens);
         }
         let behind = self.rest.behind_first();
         let (words, rest) = match tokens.attribute(self.rest) {
@@ -37,7 +37,25 @@ impl AttributeWalk {
             return (words, Words::default());
         }
         (self.condition, self.parts) = tokens.first_part(tokens.held(words));
+        self.is_nested = false;
         (Words::default(), Words::default())
+    }
+
+    /// The next one of a `cfg_attr`. Of one within it the parts follow, up to the mark that ends it.
+    fn next_part(&mut self, tokens: &Tokens) -> (Words, Words) {
+        let rest = tokens.up_to(self.parts, &[Word::Comma, Word::Close]);
+        let words = tokens.behind_attributes(self.parts.before(rest));
+        self.parts = rest.behind_first();
+        if matches!(tokens.front(words), Word::Conditional) {
+            let (_, inside) = tokens.first_part(tokens.held(words));
+            self.parts.from = inside.from.max(words.behind_first().from);
+            self.is_nested = true;
+            return (Words::default(), Words::default());
+        }
+        if self.is_nested {
+            return (words, self.condition.before(words));
+        }
+        (words, self.condition)
     }
 }
 

@@ -101,8 +101,7 @@ impl Marking {
             let first = tokens.first(words);
             match first.word {
                 Word::Mark => marking.add_comment(tokens, first),
-                // more conditions may make a `cfg`, and `r#cfg` is one
-                Word::Condition | Word::Conditional | Word::Raw => marking.is_conditional = true,
+                Word::Condition => marking.is_conditional = true,
                 Word::Derive => marking.add_derived(tokens, tokens.held(words), condition),
                 _ => {}
             }

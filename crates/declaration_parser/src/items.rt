@@ -86,13 +86,12 @@ pub struct Walk<'a> {
 }
 
 impl Item {
-    /// Whether it has an attribute of this name, also under a condition. One under more of them, or written `r#name`, may be any.
+    /// Whether it has an attribute of this name, also under a condition.
     pub fn has(&self, tokens: &Tokens, name: Word) -> bool {
         let mut walk = AttributeWalk::of(self.attributes);
         for _ in 0..=self.attributes.len() {
             let (words, _) = walk.next(tokens);
-            let word = tokens.front(words);
-            if word == name || matches!(word, Word::Conditional | Word::Raw) {
+            if tokens.front(words) == name {
                 return true;
             }
         }

@@ -42,6 +42,20 @@ fn is_blank(character: char) -> bool {
     character.is_whitespace() || matches!(character, '\u{200e}' | '\u{200f}')
 }
 
+/// Whether a word is an attribute's, or a derive.
+fn is_of_attributes(word: Word) -> bool {
+    matches!(
+        word,
+        Word::Condition
+            | Word::Conditional
+            | Word::Derive
+            | Word::OfSerde
+            | Word::Path
+            | Word::Serde
+            | Word::With
+    )
+}
+
 fn first_line(text: &str) -> &str {
     text.lines().next().unwrap_or("")
 }
@@ -308,6 +322,8 @@ impl<'a> Reader<'a> {
         };
         let first = first_letter(text).unwrap_or(' ');
         let word = match word {
+            // they are no words of the language, so that they are the same either way
+            Some(Word::Raw) if is_of_attributes(word_of(name)) => word_of(name),
             Some(word) => word,
             None if first == '\'' && !text.ends_with('\'') => Word::Lifetime,
             None => word_of(name),
@@ -321,8 +337,24 @@ impl<'a> Reader<'a> {
         });
     }
 
+    /// Drops a comma before the end of what `all` or `any` holds, where it says nothing.
+    fn drop_comma(&mut self) {
+        let count = self.tokens.all.len();
+        let last = self.tokens.at(count.saturating_sub(1));
+        if let Some(first) = self.open.last().copied()
+            && matches!(last.word, Word::Comma)
+            && let before = self.tokens.at(first.saturating_sub(1)).name
+            && is_listed(self.tokens.text(before), "all any")
+        {
+            _ = self.tokens.all.pop();
+        }
+    }
+
     /// Appends a token. One that ends a group says in the one that begins it how many tokens there are.
     fn push(&mut self, token: Token) {
+        if matches!(token.word, Word::Close) {
+            self.drop_comma();
+        }
         let place = self.tokens.all.len();
         match token.word {
             Word::Paren | Word::Bracket | Word::Brace => {

@@ -84,12 +84,8 @@ impl Parser<'_, '_> {
                 Word::Serde => self.read_serde(words, condition, &mut said),
                 // that of a derive has parentheses
                 Word::With if tokens.held(words).is_empty() => self.read_way(words, &mut said),
-                Word::Condition | Word::Conditional if !is_item => {
-                    self.at.refuse(first.name, ON_SOME_DEVICES);
-                }
-                // `r#cfg` is a condition too
-                _ if first.word != Word::Raw && is_harmless(tokens, words, attributes, is_item) =>
-                    {}
+                Word::Condition if !is_item => self.at.refuse(first.name, ON_SOME_DEVICES),
+                _ if is_harmless(tokens, words, attributes, is_item) => {}
                 _ => self.at.refuse(first.name, UNKNOWN),
             }
         }
