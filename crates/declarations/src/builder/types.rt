@@ -274,7 +274,8 @@ impl<'a> Builder<'a> {
         if scope == self.asked && space == Space::Types {
             match self.names.find_asked(path, last) {
                 Found::Not if !path.is_empty() => {}
-                Found::Not if is_known(self.tokens.text(last)) => return Found::Known(last),
+                Found::Not if is_known(self.tokens.text(last)) && !self.names.has(last) =>
+                    return Found::Known(last),
                 found => return found,
             }
         }

@@ -152,10 +152,35 @@ impl<'a> Scopes<'a> {
         false
     }
 
+    /// Whether a `use` gives a name to what has another one.
+    fn is_given(&self, name: Name) -> bool {
+        for it in &self.imports {
+            if it.name == name && it.last != name {
+                return true;
+            }
+        }
+        false
+    }
+
+    /// Whether these are the rules of a macro of this name, or of one to which a `use` gives it, if any does.
+    fn are_called(&self, rules: &items::Item, name: Name, is_given: bool) -> bool {
+        let own = self.tokens.nth(rules.words, 2).name;
+        if own == name || !is_given {
+            return own == name;
+        }
+        for it in &self.imports {
+            if it.name == name && it.last == own {
+                return true;
+            }
+        }
+        false
+    }
+
     /// Whether these files have the rules of a macro of this name.
     fn has_rules(&self, name: Name) -> bool {
+        let is_given = self.is_given(name);
         for it in &self.rules {
-            if self.tokens.nth(it.words, 2).name == name {
+            if self.are_called(it, name, is_given) {
                 return true;
             }
         }
@@ -206,10 +231,11 @@ impl<'a> Scopes<'a> {
         let is_near = (is_alone || is_own) && !self.is_imported(item.scope, name, is_alone);
         let mut is_foreign = !self.is_inner(item.scope) && !is_listed(text, OF_HANDED);
         let (mut is_open, _) = made_by(tokens, item.inside);
+        let is_given = self.is_given(name);
         for place in 0..self.rules.len() {
             if let Some(rules) = self.rules.get(place).copied()
                 && is_near
-                && tokens.nth(rules.words, 2).name == name
+                && self.are_called(&rules, name, is_given)
             {
                 is_foreign = false;
                 is_open = self.read_rules(item.scope, item.inside, &rules) || is_open;
@@ -228,23 +254,39 @@ impl<'a> Scopes<'a> {
         if rules.scope != scope {
             self.read_made(scope, false, rules.inside, false);
         }
-        let (is_open, is_maker) = made_by(tokens, rules.inside);
-        if is_maker && is_everywhere(tokens.text(tokens.name_at(handed))) {
+        if is_everywhere(tokens.text(tokens.name_at(handed))) && self.are_makers(rules) {
             self.add(scope, false, handed, What::Refused(MADE));
         }
+        let (is_open, _) = made_by(tokens, rules.inside);
         is_open || self.calls_another(rules)
+    }
+
+    /// Whether the rules of a macro may declare a type by the first name that they are handed, also by another macro.
+    fn are_makers(&self, rules: &items::Item) -> bool {
+        for it in &self.rules {
+            let (_, is_maker) = made_by(self.tokens, it.inside);
+            let may_be = is_maker || self.calls_another(it);
+            if may_be && self.may_call(rules, it) {
+                return true;
+            }
+        }
+        made_by(self.tokens, rules.inside).1
     }
 
     /// Whether the rules of a macro may call another one of these files.
     fn calls_another(&self, rules: &items::Item) -> bool {
         for it in &self.rules {
-            let name = self.tokens.nth(it.words, 2).name;
-            let is_own = name == self.tokens.nth(rules.words, 2).name;
-            if !is_own && self.tokens.has_name(rules.inside, name) {
+            if self.may_call(rules, it) {
                 return true;
             }
         }
         false
+    }
+
+    /// Whether the rules of a macro may call this other one.
+    fn may_call(&self, rules: &items::Item, other: &items::Item) -> bool {
+        let name = self.tokens.nth(other.words, 2).name;
+        name != self.tokens.nth(rules.words, 2).name && self.tokens.has_name(rules.inside, name)
     }
 
     /// Whether a scope may have the macro of this name from another crate, by a `use` or by `extern crate`; or one to which a path
