@@ -1,15 +1,16 @@
 -- What one more argument sets.
-use Rattle.std.proofs.Common.{◌≡◌, ◌↔◌, ◌==◌, ◌<◌, ◌≤◌, ◌+◌, ℕ, Bool, true, false, length, List, [], ◌∷◌, ◌++◌, Option, Some, None, Ok, Err, Result, MatchOption, codes, refl, sym, subst, ap, ◌∙◌, inl, inr, if◌then◌else◌, arith, map, take, get_or, String, Global, string_bytes}
+use Rattle.std.proofs.Common.{◌≡◌, ◌↔◌, ◌==◌, ◌<◌, ◌≤◌, ◌+◌, ◌⊎◌, ℕ, Bool, true, false, length, List, [], ◌∷◌, ◌++◌, Option, Some, None, Ok, Err, Result, MatchOption, codes, refl, sym, subst, ap, ◌∙◌, inl, inr, if◌then◌else◌, arith, zero, suc, map, take, drop, take-append-drop, get_or, String, Global, string_bytes}
 use Rattle.std.proofs.lemmas.Bool.Decides.{nat_tests}
-use Rattle.std.specs.List.{Contains}
+use Rattle.std.specs.List.{All, Contains}
 use Rattle.std.specs.Option.{option_map}
-use Rattle.std.proofs.lemmas.List.{take_more, take_all, map-append}
-use Rattle.std.proofs.lemmas.List.Elements.{Contains-append_left, Contains-push, Contains-push_cases}
+use Rattle.std.proofs.lemmas.List.{take_more, take_all, drop_more, map-append}
+use Rattle.std.proofs.lemmas.List.Elements.{All-append, Contains-append_left, Contains-push, Contains-push_cases}
 use Rattle.std.specs.Result.{result_ok}
 use Rattle.std.specs.Str.Parse.{ParsesUnsigned}
 use denote.Ref.{Bor}
 use Rattle.hex.specs.Hex.{decode_sized}
-use Rattle.wire_lib.specs.Arguments.{value_behind, later_of, last_value, WritesNumber, AreSetBy, AddsArgument}
+use Rattle.wire_lib.specs.Arguments.{value_behind, later_of, last_value, WritesNumber, AreSetBy, AddsArgument, IsArgument, IsRefusedFor, HasNoFrames}
+use Rattle.wire_lib.specs.declared.words.Action.{Action}
 use Rattle.wire_lib.specs.declared.words.Options.{Options}
 
 -- the last value, with one more argument
@@ -112,186 +113,194 @@ pub number_read : {E : Type 0} (k : ℕ) (text : List ℕ) (r : Result ℕ E) (o
 number_read k text (Ok x) o n p e is = grind (arith, p, e, is)
 number_read k text (Err x) o n p e is = absurd (none_number (sym e ∙ is))
 
+-- the arguments so far, and one more
+one_more : (words : List (String Global)) (i : ℕ) (w : String Global) (word : List ℕ) → i < length words → w ≡ get_or words i w → word ≡ string_bytes w
+    → map string_bytes (take (i + 1) words) ≡ map string_bytes (take i words) ++ word ∷ []
+one_more words i w word l is same =
+    ap (map string_bytes) (take_more words i w l ∙ ap (λ x. take i words ++ x ∷ []) (sym is))
+    ∙ (map-append string_bytes (take i words) (w ∷ []) ∙ ap (λ x. map string_bytes (take i words) ++ x ∷ []) (sym same))
+
+-- the arguments before it and after it
+around : (words : List (String Global)) (i : ℕ) (w : String Global) (word : List ℕ) → i < length words → w ≡ get_or words i w → word ≡ string_bytes w
+    → map string_bytes words ≡ map string_bytes (take i words) ++ word ∷ map string_bytes (drop (i + 1) words)
+around words i w word l is same =
+    let after = map string_bytes (drop (i + 1) words) in
+    ap (map string_bytes) (sym (take-append-drop i words))
+    ∙ (map-append string_bytes (take i words) (drop i words) ∙ ap (λ x. map string_bytes (take i words) ++ x)
+    (ap (map string_bytes) (drop_more words i w l) ∙ (ap (λ y. string_bytes y ∷ after) (sym is) ∙ ap (λ y. y ∷ after) (sym same))))
+
 -- one more of the arguments was added
-pub one_added : (words : List (String Global)) (i : ℕ) (w : String Global) (old new : Options) (word : List ℕ) → i < length words
-    → w ≡ get_or words i w → word ≡ string_bytes w → AddsArgument word old new
-    → AreSetBy (map string_bytes (take i words)) old → AreSetBy (map string_bytes (take (i + 1) words)) new
-one_added words i w old new word l is same adds before =
-    let parts : map string_bytes (take (i + 1) words) ≡ map string_bytes (take i words) ++ string_bytes w ∷ [] =
-    ap (map string_bytes) (take_more words i w l ∙ ap (λ x. take i words ++ x ∷ []) (sym is)) ∙ map-append string_bytes (take i words) (w ∷ []) in
-    subst (λ xs. AreSetBy xs new) (sym (parts ∙ ap (λ x. map string_bytes (take i words) ++ x ∷ []) (sym same))) (adds (map string_bytes (take i words)) before)
+pub one_added : (mode : Action) (words : List (String Global)) (i : ℕ) (w : String Global) (old new : Options) (word : List ℕ) → i < length words
+    → w ≡ get_or words i w → word ≡ string_bytes w → AddsArgument word old new → IsArgument mode word
+    → AreSetBy (map string_bytes (take i words)) old × All (IsArgument mode) (map string_bytes (take i words))
+    → AreSetBy (map string_bytes (take (i + 1) words)) new × All (IsArgument mode) (map string_bytes (take (i + 1) words))
+one_added mode words i w old new word l is same adds right before =
+    let parts = one_more words i w word l is same in (
+      subst (λ xs. AreSetBy xs new) (sym parts) (adds (map string_bytes (take i words)) before.0),
+      subst (λ xs. All (IsArgument mode) xs) (sym parts) (All-append (IsArgument mode) (map string_bytes (take i words)) (word ∷ []) before.1 (alone word right)),
+    )
+  where
+    alone : (x : List ℕ) → IsArgument mode x → All (IsArgument mode) (x ∷ [])
+    alone x h zero d l = h
+    alone x h (suc k) d l = absurd (omega (arith, l))
+
+-- before the first
+pub none_wrong : (mode : Action) → All (IsArgument mode) []
+none_wrong mode k d l = absurd (omega (arith, l))
+
+-- one is wrong, and none before it
+pub first_wrong : (mode : Action) (words : List (String Global)) (i : ℕ) (w : String Global) (word : List ℕ) → i < length words
+    → w ≡ get_or words i w → word ≡ string_bytes w → All (IsArgument mode) (map string_bytes (take i words)) → (IsArgument mode word → ⊥)
+    → IsRefusedFor mode (map string_bytes words) word
+first_wrong mode words i w word l is same right wrong = inl (record {
+  before = map string_bytes (take i words);
+  after = map string_bytes (drop (i + 1) words);
+  words_are = around words i w word l is same;
+  right = right;
+  wrong = wrong;
+})
+
+-- all are right
+pub all_right : (mode : Action) (words : List (String Global)) (i : ℕ) → length words ≤ i
+    → All (IsArgument mode) (map string_bytes (take i words)) → All (IsArgument mode) (map string_bytes words)
+all_right mode words i l h = subst (λ xs. All (IsArgument mode) (map string_bytes xs)) (take_all i words l) h
 
 -- and all of them
 pub all_added : (words : List (String Global)) (i : ℕ) (o : Options) → length words ≤ i
     → AreSetBy (map string_bytes (take i words)) o → AreSetBy (map string_bytes words) o
 all_added words i o l h = subst (λ xs. AreSetBy (map string_bytes xs) o) (take_all i words l) h
 
+-- what all of them set can't be combined
+pub cant_combine : (mode : Action) (words : List (String Global)) (i : ℕ) (o : Options) → length words ≤ i
+    → AreSetBy (map string_bytes (take i words)) o × All (IsArgument mode) (map string_bytes (take i words)) → HasNoFrames o
+    → IsRefusedFor mode (map string_bytes words) (codes "raw")
+cant_combine mode words i o l h wrong = inr (
+  refl,
+  record {
+    right = all_right mode words i l h.1;
+    options = o;
+    set = all_added words i o l h.0;
+    wrong = wrong;
+  },
+)
+
+-- What one argument does to a flag: nothing, or it sets it.
+abbrev FlagStep : List ℕ → List ℕ → Bool → Bool → Type 0
+FlagStep flag word old new = ((value_behind flag word ≡ None) × (new ≡ old)) ⊎ ((word ≡ flag) × (new ≡ true))
+
+flag_then : (words : List (List ℕ)) (flag word : List ℕ) (old new : Bool) → FlagStep flag word old new
+    → (old ≡ true ↔ Contains words flag) → (new ≡ true ↔ Contains (words ++ word ∷ []) flag)
+flag_then words flag word old new (inl other) h =
+    subst (λ b. b ≡ true ↔ Contains (words ++ word ∷ []) flag) (sym other.1) (set_before words word flag old other.0 h)
+flag_then words flag word old new (inr this) h =
+    subst (λ b. b ≡ true ↔ Contains (words ++ word ∷ []) flag) (sym this.1)
+    (subst (λ w. true ≡ true ↔ Contains (words ++ w ∷ []) flag) (sym this.0) (set_now words flag))
+
+-- What it does to a value, of which this was and this is to hold: nothing, or it sets it.
+abbrev ValueStep : List ℕ → List ℕ → (Option (List ℕ) → Type 0) → (Option (List ℕ) → Type 0) → Type 0
+ValueStep name word old new = ((value_behind name word ≡ None) × ((v : Option (List ℕ)) → old v → new v))
+    ⊎ ((value : List ℕ) × (value_behind name word ≡ Some value) × new (Some value))
+
+value_then : (words : List (List ℕ)) (name word : List ℕ) (old new : Option (List ℕ) → Type 0) → ValueStep name word old new
+    → old (last_value name words) → new (last_value name (words ++ word ∷ []))
+value_then words name word old new (inl other) h = value_before words name word new other.0 (other.1 _ h)
+value_then words name word old new (inr this) h = value_now words name word this.0 new this.1 this.2
+
+-- what is to hold of the last value of each name
+abbrev IsSentinelBy : ℕ → Option (List ℕ) → Type 0
+IsSentinelBy n v = MatchOption v (n ≡ 0) (λ value. decode_sized value 1 ≡ Ok (n ∷ []))
+
+abbrev IsNumberBy : ℕ → ℕ → Option (List ℕ) → Type 0
+IsNumberBy otherwise n v = MatchOption v (n ≡ otherwise) (λ value. WritesNumber 64 value n)
+
+abbrev IsDepthBy : ℕ → Option (List ℕ) → Type 0
+IsDepthBy n v = MatchOption v (n ≡ 60) (λ value. WritesNumber 32 value n × (0 < n) × (n ≤ 1000))
+
+abbrev IsOnlyBy : Option (Bor (List ℕ)) → Option (List ℕ) → Type 0
+IsOnlyBy o v = option_map (λ name. name.now) o ≡ v
+
+-- what an argument does to all options
+adds : (word : List ℕ) (o n : Options)
+    → FlagStep (codes "hex") word o.hex n.hex → FlagStep (codes "strict") word o.strict n.strict → FlagStep (codes "raw") word o.raw n.raw
+    → FlagStep (codes "crc32") word o.summed n.summed → FlagStep (codes "time") word o.time n.time → FlagStep (codes "bytes=hex") word o.digits n.digits
+    → ValueStep (codes "sentinel=") word (IsSentinelBy o.sentinel) (IsSentinelBy n.sentinel) → ValueStep (codes "from=") word (IsNumberBy 0 o.from) (IsNumberBy 0 n.from)
+    → ValueStep (codes "depth=") word (IsDepthBy o.depth) (IsDepthBy n.depth) → ValueStep (codes "empty=") word (IsNumberBy 65536 o.empty) (IsNumberBy 65536 n.empty)
+    → ValueStep (codes "only=") word (IsOnlyBy o.only) (IsOnlyBy n.only) → AddsArgument word o n
+adds word o n hex strict raw summed time digits sentinel from depth empty only words h = record {
+  hex = flag_then words (codes "hex") word o.hex n.hex hex h.hex;
+  strict = flag_then words (codes "strict") word o.strict n.strict strict h.strict;
+  raw = flag_then words (codes "raw") word o.raw n.raw raw h.raw;
+  summed = flag_then words (codes "crc32") word o.summed n.summed summed h.summed;
+  time = flag_then words (codes "time") word o.time n.time time h.time;
+  digits = flag_then words (codes "bytes=hex") word o.digits n.digits digits h.digits;
+  sentinel = value_then words (codes "sentinel=") word (IsSentinelBy o.sentinel) (IsSentinelBy n.sentinel) sentinel h.sentinel;
+  from = value_then words (codes "from=") word (IsNumberBy 0 o.from) (IsNumberBy 0 n.from) from h.from;
+  depth = value_then words (codes "depth=") word (IsDepthBy o.depth) (IsDepthBy n.depth) depth h.depth;
+  empty = value_then words (codes "empty=") word (IsNumberBy 65536 o.empty) (IsNumberBy 65536 n.empty) empty h.empty;
+  only = value_then words (codes "only=") word (IsOnlyBy o.only) (IsOnlyBy n.only) only h.only;
+}
+
 -- what each argument sets
 pub sets_hex : (o : Options) → AddsArgument (codes "hex") o (record o { hex = true })
-sets_hex o words h = record {
-  hex = set_now words (codes "hex");
-  strict = set_before words (codes "hex") (codes "strict") o.strict refl h.strict;
-  raw = set_before words (codes "hex") (codes "raw") o.raw refl h.raw;
-  summed = set_before words (codes "hex") (codes "crc32") o.summed refl h.summed;
-  time = set_before words (codes "hex") (codes "time") o.time refl h.time;
-  digits = set_before words (codes "hex") (codes "bytes=hex") o.digits refl h.digits;
-  sentinel = value_before words (codes "sentinel=") (codes "hex") (λ v. MatchOption v (o.sentinel ≡ 0) (λ value. decode_sized value 1 ≡ Ok (o.sentinel ∷ []))) refl h.sentinel;
-  from = value_before words (codes "from=") (codes "hex") (λ v. MatchOption v (o.from ≡ 0) (λ value. WritesNumber 64 value o.from)) refl h.from;
-  depth = value_before words (codes "depth=") (codes "hex") (λ v. MatchOption v (o.depth ≡ 60) (λ value. WritesNumber 32 value o.depth × (0 < o.depth) × (o.depth ≤ 1000))) refl h.depth;
-  empty = value_before words (codes "empty=") (codes "hex") (λ v. MatchOption v (o.empty ≡ 65536) (λ value. WritesNumber 64 value o.empty)) refl h.empty;
-  only = value_before words (codes "only=") (codes "hex") (λ v. option_map (λ name. name.now) o.only ≡ v) refl h.only;
-}
+sets_hex o = adds (codes "hex") o (record o { hex = true })
+    (inr (refl, refl)) (inl (refl, refl)) (inl (refl, refl)) (inl (refl, refl)) (inl (refl, refl)) (inl (refl, refl))
+    (inl (refl, λ v h. h)) (inl (refl, λ v h. h)) (inl (refl, λ v h. h)) (inl (refl, λ v h. h)) (inl (refl, λ v h. h))
 
 pub sets_strict : (o : Options) → AddsArgument (codes "strict") o (record o { strict = true })
-sets_strict o words h = record {
-  hex = set_before words (codes "strict") (codes "hex") o.hex refl h.hex;
-  strict = set_now words (codes "strict");
-  raw = set_before words (codes "strict") (codes "raw") o.raw refl h.raw;
-  summed = set_before words (codes "strict") (codes "crc32") o.summed refl h.summed;
-  time = set_before words (codes "strict") (codes "time") o.time refl h.time;
-  digits = set_before words (codes "strict") (codes "bytes=hex") o.digits refl h.digits;
-  sentinel = value_before words (codes "sentinel=") (codes "strict") (λ v. MatchOption v (o.sentinel ≡ 0) (λ value. decode_sized value 1 ≡ Ok (o.sentinel ∷ []))) refl h.sentinel;
-  from = value_before words (codes "from=") (codes "strict") (λ v. MatchOption v (o.from ≡ 0) (λ value. WritesNumber 64 value o.from)) refl h.from;
-  depth = value_before words (codes "depth=") (codes "strict") (λ v. MatchOption v (o.depth ≡ 60) (λ value. WritesNumber 32 value o.depth × (0 < o.depth) × (o.depth ≤ 1000))) refl h.depth;
-  empty = value_before words (codes "empty=") (codes "strict") (λ v. MatchOption v (o.empty ≡ 65536) (λ value. WritesNumber 64 value o.empty)) refl h.empty;
-  only = value_before words (codes "only=") (codes "strict") (λ v. option_map (λ name. name.now) o.only ≡ v) refl h.only;
-}
+sets_strict o = adds (codes "strict") o (record o { strict = true })
+    (inl (refl, refl)) (inr (refl, refl)) (inl (refl, refl)) (inl (refl, refl)) (inl (refl, refl)) (inl (refl, refl))
+    (inl (refl, λ v h. h)) (inl (refl, λ v h. h)) (inl (refl, λ v h. h)) (inl (refl, λ v h. h)) (inl (refl, λ v h. h))
 
 pub sets_raw : (o : Options) → AddsArgument (codes "raw") o (record o { raw = true })
-sets_raw o words h = record {
-  hex = set_before words (codes "raw") (codes "hex") o.hex refl h.hex;
-  strict = set_before words (codes "raw") (codes "strict") o.strict refl h.strict;
-  raw = set_now words (codes "raw");
-  summed = set_before words (codes "raw") (codes "crc32") o.summed refl h.summed;
-  time = set_before words (codes "raw") (codes "time") o.time refl h.time;
-  digits = set_before words (codes "raw") (codes "bytes=hex") o.digits refl h.digits;
-  sentinel = value_before words (codes "sentinel=") (codes "raw") (λ v. MatchOption v (o.sentinel ≡ 0) (λ value. decode_sized value 1 ≡ Ok (o.sentinel ∷ []))) refl h.sentinel;
-  from = value_before words (codes "from=") (codes "raw") (λ v. MatchOption v (o.from ≡ 0) (λ value. WritesNumber 64 value o.from)) refl h.from;
-  depth = value_before words (codes "depth=") (codes "raw") (λ v. MatchOption v (o.depth ≡ 60) (λ value. WritesNumber 32 value o.depth × (0 < o.depth) × (o.depth ≤ 1000))) refl h.depth;
-  empty = value_before words (codes "empty=") (codes "raw") (λ v. MatchOption v (o.empty ≡ 65536) (λ value. WritesNumber 64 value o.empty)) refl h.empty;
-  only = value_before words (codes "only=") (codes "raw") (λ v. option_map (λ name. name.now) o.only ≡ v) refl h.only;
-}
+sets_raw o = adds (codes "raw") o (record o { raw = true })
+    (inl (refl, refl)) (inl (refl, refl)) (inr (refl, refl)) (inl (refl, refl)) (inl (refl, refl)) (inl (refl, refl))
+    (inl (refl, λ v h. h)) (inl (refl, λ v h. h)) (inl (refl, λ v h. h)) (inl (refl, λ v h. h)) (inl (refl, λ v h. h))
 
 pub sets_summed : (o : Options) → AddsArgument (codes "crc32") o (record o { summed = true })
-sets_summed o words h = record {
-  hex = set_before words (codes "crc32") (codes "hex") o.hex refl h.hex;
-  strict = set_before words (codes "crc32") (codes "strict") o.strict refl h.strict;
-  raw = set_before words (codes "crc32") (codes "raw") o.raw refl h.raw;
-  summed = set_now words (codes "crc32");
-  time = set_before words (codes "crc32") (codes "time") o.time refl h.time;
-  digits = set_before words (codes "crc32") (codes "bytes=hex") o.digits refl h.digits;
-  sentinel = value_before words (codes "sentinel=") (codes "crc32") (λ v. MatchOption v (o.sentinel ≡ 0) (λ value. decode_sized value 1 ≡ Ok (o.sentinel ∷ []))) refl h.sentinel;
-  from = value_before words (codes "from=") (codes "crc32") (λ v. MatchOption v (o.from ≡ 0) (λ value. WritesNumber 64 value o.from)) refl h.from;
-  depth = value_before words (codes "depth=") (codes "crc32") (λ v. MatchOption v (o.depth ≡ 60) (λ value. WritesNumber 32 value o.depth × (0 < o.depth) × (o.depth ≤ 1000))) refl h.depth;
-  empty = value_before words (codes "empty=") (codes "crc32") (λ v. MatchOption v (o.empty ≡ 65536) (λ value. WritesNumber 64 value o.empty)) refl h.empty;
-  only = value_before words (codes "only=") (codes "crc32") (λ v. option_map (λ name. name.now) o.only ≡ v) refl h.only;
-}
+sets_summed o = adds (codes "crc32") o (record o { summed = true })
+    (inl (refl, refl)) (inl (refl, refl)) (inl (refl, refl)) (inr (refl, refl)) (inl (refl, refl)) (inl (refl, refl))
+    (inl (refl, λ v h. h)) (inl (refl, λ v h. h)) (inl (refl, λ v h. h)) (inl (refl, λ v h. h)) (inl (refl, λ v h. h))
 
 pub sets_time : (o : Options) → AddsArgument (codes "time") o (record o { time = true })
-sets_time o words h = record {
-  hex = set_before words (codes "time") (codes "hex") o.hex refl h.hex;
-  strict = set_before words (codes "time") (codes "strict") o.strict refl h.strict;
-  raw = set_before words (codes "time") (codes "raw") o.raw refl h.raw;
-  summed = set_before words (codes "time") (codes "crc32") o.summed refl h.summed;
-  time = set_now words (codes "time");
-  digits = set_before words (codes "time") (codes "bytes=hex") o.digits refl h.digits;
-  sentinel = value_before words (codes "sentinel=") (codes "time") (λ v. MatchOption v (o.sentinel ≡ 0) (λ value. decode_sized value 1 ≡ Ok (o.sentinel ∷ []))) refl h.sentinel;
-  from = value_before words (codes "from=") (codes "time") (λ v. MatchOption v (o.from ≡ 0) (λ value. WritesNumber 64 value o.from)) refl h.from;
-  depth = value_before words (codes "depth=") (codes "time") (λ v. MatchOption v (o.depth ≡ 60) (λ value. WritesNumber 32 value o.depth × (0 < o.depth) × (o.depth ≤ 1000))) refl h.depth;
-  empty = value_before words (codes "empty=") (codes "time") (λ v. MatchOption v (o.empty ≡ 65536) (λ value. WritesNumber 64 value o.empty)) refl h.empty;
-  only = value_before words (codes "only=") (codes "time") (λ v. option_map (λ name. name.now) o.only ≡ v) refl h.only;
-}
+sets_time o = adds (codes "time") o (record o { time = true })
+    (inl (refl, refl)) (inl (refl, refl)) (inl (refl, refl)) (inl (refl, refl)) (inr (refl, refl)) (inl (refl, refl))
+    (inl (refl, λ v h. h)) (inl (refl, λ v h. h)) (inl (refl, λ v h. h)) (inl (refl, λ v h. h)) (inl (refl, λ v h. h))
 
 pub sets_digits : (o : Options) → AddsArgument (codes "bytes=hex") o (record o { digits = true })
-sets_digits o words h = record {
-  hex = set_before words (codes "bytes=hex") (codes "hex") o.hex refl h.hex;
-  strict = set_before words (codes "bytes=hex") (codes "strict") o.strict refl h.strict;
-  raw = set_before words (codes "bytes=hex") (codes "raw") o.raw refl h.raw;
-  summed = set_before words (codes "bytes=hex") (codes "crc32") o.summed refl h.summed;
-  time = set_before words (codes "bytes=hex") (codes "time") o.time refl h.time;
-  digits = set_now words (codes "bytes=hex");
-  sentinel = value_before words (codes "sentinel=") (codes "bytes=hex") (λ v. MatchOption v (o.sentinel ≡ 0) (λ value. decode_sized value 1 ≡ Ok (o.sentinel ∷ []))) refl h.sentinel;
-  from = value_before words (codes "from=") (codes "bytes=hex") (λ v. MatchOption v (o.from ≡ 0) (λ value. WritesNumber 64 value o.from)) refl h.from;
-  depth = value_before words (codes "depth=") (codes "bytes=hex") (λ v. MatchOption v (o.depth ≡ 60) (λ value. WritesNumber 32 value o.depth × (0 < o.depth) × (o.depth ≤ 1000))) refl h.depth;
-  empty = value_before words (codes "empty=") (codes "bytes=hex") (λ v. MatchOption v (o.empty ≡ 65536) (λ value. WritesNumber 64 value o.empty)) refl h.empty;
-  only = value_before words (codes "only=") (codes "bytes=hex") (λ v. option_map (λ name. name.now) o.only ≡ v) refl h.only;
-}
+sets_digits o = adds (codes "bytes=hex") o (record o { digits = true })
+    (inl (refl, refl)) (inl (refl, refl)) (inl (refl, refl)) (inl (refl, refl)) (inl (refl, refl)) (inr (refl, refl))
+    (inl (refl, λ v h. h)) (inl (refl, λ v h. h)) (inl (refl, λ v h. h)) (inl (refl, λ v h. h)) (inl (refl, λ v h. h))
 
 pub sets_sentinel : (o : Options) (value : List ℕ) (n : ℕ) → decode_sized value 1 ≡ Ok (n ∷ [])
     → AddsArgument (codes "sentinel=" ++ value) o (record o { sentinel = n })
-sets_sentinel o value n is words h = record {
-  hex = set_before words (codes "sentinel=" ++ value) (codes "hex") o.hex refl h.hex;
-  strict = set_before words (codes "sentinel=" ++ value) (codes "strict") o.strict refl h.strict;
-  raw = set_before words (codes "sentinel=" ++ value) (codes "raw") o.raw refl h.raw;
-  summed = set_before words (codes "sentinel=" ++ value) (codes "crc32") o.summed refl h.summed;
-  time = set_before words (codes "sentinel=" ++ value) (codes "time") o.time refl h.time;
-  digits = set_before words (codes "sentinel=" ++ value) (codes "bytes=hex") o.digits refl h.digits;
-  sentinel = value_now words (codes "sentinel=") (codes "sentinel=" ++ value) value (λ v. MatchOption v (n ≡ 0) (λ value. decode_sized value 1 ≡ Ok (n ∷ []))) refl is;
-  from = value_before words (codes "from=") (codes "sentinel=" ++ value) (λ v. MatchOption v (o.from ≡ 0) (λ value. WritesNumber 64 value o.from)) refl h.from;
-  depth = value_before words (codes "depth=") (codes "sentinel=" ++ value) (λ v. MatchOption v (o.depth ≡ 60) (λ value. WritesNumber 32 value o.depth × (0 < o.depth) × (o.depth ≤ 1000))) refl h.depth;
-  empty = value_before words (codes "empty=") (codes "sentinel=" ++ value) (λ v. MatchOption v (o.empty ≡ 65536) (λ value. WritesNumber 64 value o.empty)) refl h.empty;
-  only = value_before words (codes "only=") (codes "sentinel=" ++ value) (λ v. option_map (λ name. name.now) o.only ≡ v) refl h.only;
-}
+sets_sentinel o value n is = adds (codes "sentinel=" ++ value) o (record o { sentinel = n })
+    (inl (refl, refl)) (inl (refl, refl)) (inl (refl, refl)) (inl (refl, refl)) (inl (refl, refl)) (inl (refl, refl))
+    (inr (value, refl, is)) (inl (refl, λ v h. h)) (inl (refl, λ v h. h)) (inl (refl, λ v h. h)) (inl (refl, λ v h. h))
 
 pub sets_from : (o : Options) (value : List ℕ) (n : ℕ) → WritesNumber 64 value n
     → AddsArgument (codes "from=" ++ value) o (record o { from = n })
-sets_from o value n is words h = record {
-  hex = set_before words (codes "from=" ++ value) (codes "hex") o.hex refl h.hex;
-  strict = set_before words (codes "from=" ++ value) (codes "strict") o.strict refl h.strict;
-  raw = set_before words (codes "from=" ++ value) (codes "raw") o.raw refl h.raw;
-  summed = set_before words (codes "from=" ++ value) (codes "crc32") o.summed refl h.summed;
-  time = set_before words (codes "from=" ++ value) (codes "time") o.time refl h.time;
-  digits = set_before words (codes "from=" ++ value) (codes "bytes=hex") o.digits refl h.digits;
-  sentinel = value_before words (codes "sentinel=") (codes "from=" ++ value) (λ v. MatchOption v (o.sentinel ≡ 0) (λ value. decode_sized value 1 ≡ Ok (o.sentinel ∷ []))) refl h.sentinel;
-  from = value_now words (codes "from=") (codes "from=" ++ value) value (λ v. MatchOption v (n ≡ 0) (λ value. WritesNumber 64 value n)) refl is;
-  depth = value_before words (codes "depth=") (codes "from=" ++ value) (λ v. MatchOption v (o.depth ≡ 60) (λ value. WritesNumber 32 value o.depth × (0 < o.depth) × (o.depth ≤ 1000))) refl h.depth;
-  empty = value_before words (codes "empty=") (codes "from=" ++ value) (λ v. MatchOption v (o.empty ≡ 65536) (λ value. WritesNumber 64 value o.empty)) refl h.empty;
-  only = value_before words (codes "only=") (codes "from=" ++ value) (λ v. option_map (λ name. name.now) o.only ≡ v) refl h.only;
-}
+sets_from o value n is = adds (codes "from=" ++ value) o (record o { from = n })
+    (inl (refl, refl)) (inl (refl, refl)) (inl (refl, refl)) (inl (refl, refl)) (inl (refl, refl)) (inl (refl, refl))
+    (inl (refl, λ v h. h)) (inr (value, refl, is)) (inl (refl, λ v h. h)) (inl (refl, λ v h. h)) (inl (refl, λ v h. h))
 
 pub sets_depth : (o : Options) (value : List ℕ) (n : ℕ) → WritesNumber 32 value n × (0 < n) × (n ≤ 1000)
     → AddsArgument (codes "depth=" ++ value) o (record o { depth = n })
-sets_depth o value n is words h = record {
-  hex = set_before words (codes "depth=" ++ value) (codes "hex") o.hex refl h.hex;
-  strict = set_before words (codes "depth=" ++ value) (codes "strict") o.strict refl h.strict;
-  raw = set_before words (codes "depth=" ++ value) (codes "raw") o.raw refl h.raw;
-  summed = set_before words (codes "depth=" ++ value) (codes "crc32") o.summed refl h.summed;
-  time = set_before words (codes "depth=" ++ value) (codes "time") o.time refl h.time;
-  digits = set_before words (codes "depth=" ++ value) (codes "bytes=hex") o.digits refl h.digits;
-  sentinel = value_before words (codes "sentinel=") (codes "depth=" ++ value) (λ v. MatchOption v (o.sentinel ≡ 0) (λ value. decode_sized value 1 ≡ Ok (o.sentinel ∷ []))) refl h.sentinel;
-  from = value_before words (codes "from=") (codes "depth=" ++ value) (λ v. MatchOption v (o.from ≡ 0) (λ value. WritesNumber 64 value o.from)) refl h.from;
-  depth = value_now words (codes "depth=") (codes "depth=" ++ value) value (λ v. MatchOption v (n ≡ 60) (λ value. WritesNumber 32 value n × (0 < n) × (n ≤ 1000))) refl is;
-  empty = value_before words (codes "empty=") (codes "depth=" ++ value) (λ v. MatchOption v (o.empty ≡ 65536) (λ value. WritesNumber 64 value o.empty)) refl h.empty;
-  only = value_before words (codes "only=") (codes "depth=" ++ value) (λ v. option_map (λ name. name.now) o.only ≡ v) refl h.only;
-}
+sets_depth o value n is = adds (codes "depth=" ++ value) o (record o { depth = n })
+    (inl (refl, refl)) (inl (refl, refl)) (inl (refl, refl)) (inl (refl, refl)) (inl (refl, refl)) (inl (refl, refl))
+    (inl (refl, λ v h. h)) (inl (refl, λ v h. h)) (inr (value, refl, is)) (inl (refl, λ v h. h)) (inl (refl, λ v h. h))
 
 pub sets_empty : (o : Options) (value : List ℕ) (n : ℕ) → WritesNumber 64 value n
     → AddsArgument (codes "empty=" ++ value) o (record o { empty = n })
-sets_empty o value n is words h = record {
-  hex = set_before words (codes "empty=" ++ value) (codes "hex") o.hex refl h.hex;
-  strict = set_before words (codes "empty=" ++ value) (codes "strict") o.strict refl h.strict;
-  raw = set_before words (codes "empty=" ++ value) (codes "raw") o.raw refl h.raw;
-  summed = set_before words (codes "empty=" ++ value) (codes "crc32") o.summed refl h.summed;
-  time = set_before words (codes "empty=" ++ value) (codes "time") o.time refl h.time;
-  digits = set_before words (codes "empty=" ++ value) (codes "bytes=hex") o.digits refl h.digits;
-  sentinel = value_before words (codes "sentinel=") (codes "empty=" ++ value) (λ v. MatchOption v (o.sentinel ≡ 0) (λ value. decode_sized value 1 ≡ Ok (o.sentinel ∷ []))) refl h.sentinel;
-  from = value_before words (codes "from=") (codes "empty=" ++ value) (λ v. MatchOption v (o.from ≡ 0) (λ value. WritesNumber 64 value o.from)) refl h.from;
-  depth = value_before words (codes "depth=") (codes "empty=" ++ value) (λ v. MatchOption v (o.depth ≡ 60) (λ value. WritesNumber 32 value o.depth × (0 < o.depth) × (o.depth ≤ 1000))) refl h.depth;
-  empty = value_now words (codes "empty=") (codes "empty=" ++ value) value (λ v. MatchOption v (n ≡ 65536) (λ value. WritesNumber 64 value n)) refl is;
-  only = value_before words (codes "only=") (codes "empty=" ++ value) (λ v. option_map (λ name. name.now) o.only ≡ v) refl h.only;
-}
+sets_empty o value n is = adds (codes "empty=" ++ value) o (record o { empty = n })
+    (inl (refl, refl)) (inl (refl, refl)) (inl (refl, refl)) (inl (refl, refl)) (inl (refl, refl)) (inl (refl, refl))
+    (inl (refl, λ v h. h)) (inl (refl, λ v h. h)) (inl (refl, λ v h. h)) (inr (value, refl, is)) (inl (refl, λ v h. h))
 
 pub sets_only : (o : Options) (name : Bor (List ℕ)) → AddsArgument (codes "only=" ++ name.now) o (record o { only = Some name })
-sets_only o name words h = record {
-  hex = set_before words (codes "only=" ++ name.now) (codes "hex") o.hex refl h.hex;
-  strict = set_before words (codes "only=" ++ name.now) (codes "strict") o.strict refl h.strict;
-  raw = set_before words (codes "only=" ++ name.now) (codes "raw") o.raw refl h.raw;
-  summed = set_before words (codes "only=" ++ name.now) (codes "crc32") o.summed refl h.summed;
-  time = set_before words (codes "only=" ++ name.now) (codes "time") o.time refl h.time;
-  digits = set_before words (codes "only=" ++ name.now) (codes "bytes=hex") o.digits refl h.digits;
-  sentinel = value_before words (codes "sentinel=") (codes "only=" ++ name.now) (λ v. MatchOption v (o.sentinel ≡ 0) (λ value. decode_sized value 1 ≡ Ok (o.sentinel ∷ []))) refl h.sentinel;
-  from = value_before words (codes "from=") (codes "only=" ++ name.now) (λ v. MatchOption v (o.from ≡ 0) (λ value. WritesNumber 64 value o.from)) refl h.from;
-  depth = value_before words (codes "depth=") (codes "only=" ++ name.now) (λ v. MatchOption v (o.depth ≡ 60) (λ value. WritesNumber 32 value o.depth × (0 < o.depth) × (o.depth ≤ 1000))) refl h.depth;
-  empty = value_before words (codes "empty=") (codes "only=" ++ name.now) (λ v. MatchOption v (o.empty ≡ 65536) (λ value. WritesNumber 64 value o.empty)) refl h.empty;
-  only = value_now words (codes "only=") (codes "only=" ++ name.now) name.now (λ v. Some name.now ≡ v) refl refl;
-}
+sets_only o name = adds (codes "only=" ++ name.now) o (record o { only = Some name })
+    (inl (refl, refl)) (inl (refl, refl)) (inl (refl, refl)) (inl (refl, refl)) (inl (refl, refl)) (inl (refl, refl))
+    (inl (refl, λ v h. h)) (inl (refl, λ v h. h)) (inl (refl, λ v h. h)) (inl (refl, λ v h. h)) (inr (name.now, refl, refl))
+
+-- one of two, the second beside what was tested before it
+pub second_alone : {A B C : Type 0} → A ⊎ (B × C) → A ⊎ C
+second_alone (inl a) = inl a
+second_alone (inr p) = inr p.1

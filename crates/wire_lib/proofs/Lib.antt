@@ -3,6 +3,7 @@ pub mod DamageLemmas
 pub mod DrawnLemmas
 pub mod FeedLemmas
 pub mod LineLemmas
+pub mod NamesLemmas
 pub mod RawLemmas
 pub mod ResentLemmas
 pub mod SeenLemmas

@@ -1,12 +1,12 @@
 -- What a sender makes, line by line.
-use Rattle.std.proofs.Common.{◌≡◌, ◌≢◌, ℕ, zero, suc, ◌+◌, ◌<◌, ◌≤◌, Bool, true, false, ◌&&◌, List, [], ◌∷◌, ◌++◌, length, take, refl, sym, ap, ◌∙◌, subst, append_assoc, inl, arith}
+use Rattle.std.proofs.Common.{◌≡◌, ◌≢◌, ℕ, zero, suc, ◌+◌, ◌<◌, ◌≤◌, Bool, true, false, ◌&&◌, List, [], ◌∷◌, ◌++◌, length, take, Result, Ok, Err, OnErr, refl, sym, ap, ◌∙◌, subst, append_assoc, inl, arith}
 use Rattle.std.specs.List.{All, flat_map}
 use Rattle.std.specs.Prelude.{slice_index}
 use Rattle.std.proofs.lemmas.List.{append-nil, get_or-take, length-append, length-take-le}
 use Rattle.std.proofs.lemmas.List.Elements.{All-append}
 use Rattle.std.proofs.lemmas.Grind.{flat_map-append}
-use Rattle.wire_lib.specs.Sent.{LineMade, framed, refused, IsTextMade, IsUnsendable, IsLineWith, IsLineMade, last_line, is_framed, framed_bytes, refused_bytes, are_all_framed, number_behind, AreLinesMade, LacksFeed, with_feed, IsTextOf, HasMadeBy, AppendedApart, IsFrameToSend}
-use Rattle.wire_json.specs.Refused.{refusal_text}
+use Rattle.wire_lib.specs.Sent.{LineMade, framed, refused, IsTextMade, IsUnsendable, IsLineWith, IsLineMade, last_line, is_framed, framed_bytes, refused_bytes, are_all_framed, number_behind, AreLinesMade, LacksFeed, with_feed, IsTextOf, HasMadeBy, HaveBecome, AppendedApart, StopsBehind, IsFrameToSend}
+use Rattle.wire_json.specs.Refused.{refusal_text, AppendsFront}
 use Rattle.wire_lib.specs.declared.send.Sending.{Sending}
 
 -- one line more
@@ -135,3 +135,45 @@ last_made s (x ∷ xs) number number' good good' text made m some h is counted g
       ((x ∷ xs, inl refl, subst (λ n. IsTextMade s n (x ∷ xs) m) behind is), tt),
       good_is ∙ ap (λ g. g && is_framed m) h.good_is ∙ sym (all_framed_then made m),
     )
+
+-- what holds, holds at an error
+pub at_error : {T E P : Type 0} (r : Result T E) → P → OnErr r P
+at_error (Ok x) p = tt
+at_error (Err e) p = p
+
+-- nothing of a line was appended
+pub stops_kept : (frames frames' wrongs : List ℕ) → frames' ≡ frames → StopsBehind frames frames' wrongs wrongs []
+stops_kept frames frames' wrongs same = record {
+  to_frames = same ∙ sym (append-nil frames);
+  number = 0;
+  why = [];
+  to_wrongs = record {
+    front = [];
+    rest = refusal_text 0 [];
+    text_is = refl;
+    appended = sym (append-nil wrongs) ∙ sym (append-nil (wrongs ++ []));
+  };
+}
+
+-- a part of a line's refusal was appended
+pub stops_refused : (frames wrongs wrongs' : List ℕ) (number : ℕ) → (why : List ℕ) × AppendsFront wrongs wrongs' (refusal_text number why)
+    → StopsBehind frames frames wrongs wrongs' []
+stops_refused frames wrongs wrongs' number (why, part) = record {
+  to_frames = sym (append-nil frames);
+  number = number;
+  why = why;
+  to_wrongs = subst (λ x. AppendsFront x wrongs' (refusal_text number why)) (sym (append-nil wrongs)) part;
+}
+
+-- lines were sent, and then it stopped
+pub stops_then : (f g h v w x : List ℕ) (ms : List LineMade) → AppendedApart f g v w ms → StopsBehind g h w x [] → StopsBehind f h v x ms
+stops_then f g h v w x ms a b = record {
+  to_frames = b.to_frames ∙ append-nil g ∙ a.to_frames;
+  number = b.number;
+  why = b.why;
+  to_wrongs = subst (λ y. AppendsFront y x (refusal_text b.number b.why)) (append-nil w ∙ a.to_wrongs) b.to_wrongs;
+}
+
+-- what a sender has made of a text, by the same sending
+pub have_become : (s t : Sending) (begun : List ℕ) (number : ℕ) (good : Bool) (text text' : List ℕ) (made : List LineMade) → t ≡ s → text ≡ text' → HasMadeBy t begun number good text made → HaveBecome s text' made
+have_become s t begun number good text text' made e f h = (begun, number, good, subst (λ x. HasMadeBy s begun number good x made) f (subst (λ x. HasMadeBy x begun number good text made) e h))

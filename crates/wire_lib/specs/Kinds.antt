@@ -8,6 +8,7 @@ use Rattle.schema_table.specs.declared.schema.Schema.{Schema}
 use Rattle.schema_table.specs.Telling.{names_at}
 use Rattle.schema_table.specs.declared.value.Value.{Value, out-Value}
 use Rattle.schema_table.specs.declared.value.Value.TheOpen.{Value-F}
+use Rattle.wire_json.specs.Meant.{IsOneOf}
 
 -- the index of a variant; else 0, the only kind
 abbrev pub kind_of_level : Value-F Value → ℕ
@@ -31,3 +32,8 @@ kind_names _ own = own ∷ []
 -- the names of the kinds of messages of the type at a place
 abbrev pub kinds_of : Schema → ℕ → List (List ℕ)
 kinds_of schema i = kind_names (names_at schema i) (type_name (slice_get schema.types.items i))
+
+-- names are those of an enum with a variant of this name
+abbrev pub HasVariantNamed : Option Names → List ℕ → Type 0
+HasVariantNamed (Some (names.Variants ns)) name = IsOneOf name ns.items
+HasVariantNamed _ name = ⊥

@@ -1,8 +1,8 @@
 //! Lines of JSON as a stream of frames.
-ghost use Rattle.std.specs.Prelude.{◌≡◌, ℕ, ◌<◌, ◌≤◌, ◌&&◌, false, List, [], ◌∷◌, ◌++◌, length, take, string_bytes, IfOk, OnOk};
-ghost use Rattle.wire_json.specs.Refused.{IfWrong, refusal_text};
+ghost use Rattle.std.specs.Prelude.{◌≡◌, ℕ, ◌<◌, ◌≤◌, ◌&&◌, false, List, [], ◌∷◌, ◌++◌, length, take, string_bytes, IfOk, OnOk, OnErr};
+ghost use Rattle.wire_json.specs.Refused.{IfWrong, refusal_text, AppendsFront};
 ghost use Rattle.wire_lib.specs.Said.{OnlyAppended};
-ghost use Rattle.wire_lib.specs.Sent.{IsFrameToSend, IsUnsendable, LineMade, IsTextMade, IsLineMade, IsLineWith, AreLinesMade, last_line, is_framed, are_all_framed, number_behind, sending_of, begun_line, HasMade, AppendedApart};
+ghost use Rattle.wire_lib.specs.Sent.{IsFrameToSend, IsUnsendable, LineMade, IsTextMade, IsLineMade, IsLineWith, AreLinesMade, last_line, is_framed, are_all_framed, number_behind, sending_of, begun_line, HasMade, HaveBecome, AppendedApart, StopsBehind};
 
 use crate::raw::message_of;
 use crate::receive::LIMIT;
@@ -34,6 +34,7 @@ type Sent = Result<(), AllocError>;
 /// Appends bytes.
 fn append(to: &mut Vec<u8>, bytes: &[u8]) -> Sent
     ensures items { OnOk result (to.new.items ≡ to.old.items ++ bytes.now) }
+    ensures kept { OnErr result (to.new.items ≡ to.old.items) }
     ensures only { OnlyAppended to.old.items to.new.items }
 {
     to.extend_from_slice(bytes)
@@ -106,6 +107,8 @@ impl<'a> FramesOfLines<'a> {
             (string_bytes wrongs.new) (m ∷ [])
             × (self.new.is_good ≡ (self.old.is_good && is_framed m))) }
         ensures only { OnlyAppended frames.old.items frames.new.items }
+        ensures lost { OnErr result (StopsBehind frames.old.items frames.new.items
+            (string_bytes wrongs.old) (string_bytes wrongs.new) []) }
         ensures number { self.new.number ≡ number_behind self.old.number }
         ensures same { (self.new.sending ≡ self.old.sending)
             × (self.new.line.items ≡ self.old.line.items) }
@@ -122,6 +125,8 @@ impl<'a> FramesOfLines<'a> {
     fn refuse(&mut self, why: &Wrong, wrongs: &mut String) -> Sent
         ensures said { OnOk result ((text : List ℕ) × (string_bytes wrongs.new
             ≡ string_bytes wrongs.old ++ refusal_text self.old.number text)) }
+        ensures lost { OnErr result ((text : List ℕ) × AppendsFront (string_bytes wrongs.old)
+            (string_bytes wrongs.new) (refusal_text self.old.number text)) }
         ensures good { self.new ≡ record self.old { is_good = false } }
     {
         self.is_good = false;
@@ -137,6 +142,8 @@ impl<'a> FramesOfLines<'a> {
             × (self.new.is_good ≡ (self.old.is_good && is_framed m))
             × (self.new.line.items ≡ [])) }
         ensures only { OnlyAppended frames.old.items frames.new.items }
+        ensures lost { OnErr result (StopsBehind frames.old.items frames.new.items
+            (string_bytes wrongs.old) (string_bytes wrongs.new) []) }
         ensures number { OnOk result (self.new.number ≡ number_behind self.old.number) }
         ensures sending { sending_of self.new ≡ sending_of self.old }
     {
@@ -164,6 +171,8 @@ impl<'a> FramesOfLines<'a> {
             × AppendedApart frames.old.items frames.new.items (string_bytes wrongs.old)
             (string_bytes wrongs.new) more) }
         ensures only { OnlyAppended frames.old.items frames.new.items }
+        ensures lost { OnErr result (StopsBehind frames.old.items frames.new.items
+            (string_bytes wrongs.old) (string_bytes wrongs.new) []) }
         ensures within { IfOk result (λ used. used ≤ length rest.now) }
         ensures forward { 0 < length rest.now → IfOk result (λ used. 0 < used) }
         ensures sending { sending_of self.new ≡ sending_of self.old }
@@ -184,7 +193,8 @@ impl<'a> FramesOfLines<'a> {
     /// instead; lines count from 1. Chunk boundaries don't matter.
     ///
     /// # Errors
-    /// Out of memory; what the lines before that became has been appended.
+    /// Out of memory. What the chunk's lines before that became has been appended, and maybe a part of one more refusal.
+    /// `frames` ends with a whole frame, or as it was.
     ///
     /// # Allocates
     /// What `frames`, `wrongs` and the begun line grow by. A value and its frame at a time are freed.
@@ -193,6 +203,11 @@ impl<'a> FramesOfLines<'a> {
             → HasMade self.old text made → (more : List LineMade)
             × HasMade self.new (text ++ piece.now) (made ++ more)
             × AppendedApart frames.old.items frames.new.items (string_bytes wrongs.old)
+            (string_bytes wrongs.new) more) }
+        ensures lost { OnErr result ((text : List ℕ) (made : List LineMade)
+            → HasMade self.old text made → (used : ℕ) × (more : List LineMade)
+            × HaveBecome (sending_of self.old) (text ++ take used piece.now) (made ++ more)
+            × StopsBehind frames.old.items frames.new.items (string_bytes wrongs.old)
             (string_bytes wrongs.new) more) }
         ensures only { OnlyAppended frames.old.items frames.new.items }
         ensures sending { sending_of self.new ≡ sending_of self.old }
@@ -215,6 +230,8 @@ impl<'a> FramesOfLines<'a> {
             × AppendedApart frames.old.items frames.new.items (string_bytes wrongs.old)
             (string_bytes wrongs.new) last
             × (self.new.is_good ≡ are_all_framed (made ++ last))) }
+        ensures lost { OnErr result (StopsBehind frames.old.items frames.new.items
+            (string_bytes wrongs.old) (string_bytes wrongs.new) []) }
         ensures only { OnlyAppended frames.old.items frames.new.items }
     {
         if self.line.is_empty() {
@@ -227,7 +244,7 @@ impl<'a> FramesOfLines<'a> {
     /// Ends the text: sends a last line without a line feed, and returns whether all lines became frames.
     ///
     /// # Errors
-    /// Out of memory.
+    /// Out of memory. `frames` is unchanged; a part of a refusal may have been appended.
     ///
     /// # Allocates
     /// What `frames` and `wrongs` grow by. The last value and its frame are freed.
@@ -239,6 +256,8 @@ impl<'a> FramesOfLines<'a> {
             × AppendedApart frames.old.items frames.new.items (string_bytes wrongs.old)
             (string_bytes wrongs.new) last
             × (good ≡ are_all_framed (made ++ last))) }
+        ensures lost { OnErr result (StopsBehind frames.old.items frames.new.items
+            (string_bytes wrongs.old) (string_bytes wrongs.new) []) }
         ensures only { OnlyAppended frames.old.items frames.new.items }
     {
         self.send_rest(frames, wrongs)?;

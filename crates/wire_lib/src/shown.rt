@@ -1,4 +1,9 @@
 //! Which lines of a stream are shown, with their time, and in which colour.
+ghost use Rattle.std.specs.Prelude.{◌≡◌, true, false};
+ghost use Rattle.schema_table.specs.Telling.{names_at};
+ghost use Rattle.wire_json.specs.Meant.{IsOneOf};
+ghost use Rattle.wire_lib.specs.Kinds.{HasVariantNamed};
+
 use crate::watching::screen::{PLAIN, RED};
 use cobs::before_sentinel;
 use schema_table::{Names, Schema};
@@ -28,7 +33,10 @@ fn joined(alloc: Global, pieces: &[&str]) -> Result<Vec<u8>, AllocError> {
 }
 
 /// Returns whether the type at index `place` is an enum with a variant of this name.
-pub fn has_variant(schema: &Schema, place: usize, name: &str) -> bool {
+pub fn has_variant(schema: &Schema, place: usize, name: &str) -> bool
+    ensures found { result ≡ true → HasVariantNamed (names_at schema.now place) name.now }
+    ensures absent { result ≡ false → HasVariantNamed (names_at schema.now place) name.now → ⊥ }
+{
     match schema.names.get(place) {
         Some(Names::Variants(names)) => is_among(names, name),
         _ => false,
@@ -36,7 +44,10 @@ pub fn has_variant(schema: &Schema, place: usize, name: &str) -> bool {
 }
 
 /// Whether `wanted` is one of the names.
-fn is_among(names: &[String], wanted: &str) -> bool {
+fn is_among(names: &[String], wanted: &str) -> bool
+    ensures found { result ≡ true → IsOneOf wanted.now names.now }
+    ensures absent { result ≡ false → IsOneOf wanted.now names.now → ⊥ }
+{
     for name in names {
         if name.as_str() == wanted {
             return true;

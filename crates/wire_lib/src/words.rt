@@ -1,7 +1,8 @@
 //! The arguments of the program after the type.
-ghost use Rattle.std.specs.Prelude.{◌≡◌, ◌↔◌, ◌<◌, ◌≤◌, ◌++◌, true, [], ◌∷◌, None, Ok, codes, IfSome, IfOk, IsErr, map, string_bytes};
+ghost use Rattle.std.specs.Prelude.{◌≡◌, ◌↔◌, ◌<◌, ◌≤◌, ◌++◌, true, [], ◌∷◌, false, None, Ok, codes, IfSome, IfOk, IfErr, IsErr, map, string_bytes, ℕ};
+ghost use Rattle.std.specs.List.{All};
 ghost use Rattle.hex.specs.Hex.{decode_sized};
-ghost use Rattle.wire_lib.specs.Arguments.{WritesNumber, AddsArgument, AreSetBy};
+ghost use Rattle.wire_lib.specs.Arguments.{WritesNumber, AddsArgument, AreSetBy, IsAmong, IsDepth, IsValueOf, IsValid, IsArgument, HasNoFrames, IsRefusedFor, name_in, names_of};
 
 use crate::DEPTH;
 
@@ -97,6 +98,7 @@ fn depth_of(value: &str) -> Option<u32>
     ensures number { IfSome result (λ n. WritesNumber 32 value.now n) }
     ensures some { IfSome result (λ n. 0 < n) }
     ensures most { IfSome result (λ n. n ≤ 1000) }
+    ensures none { result ≡ None → (n : ℕ) → IsDepth value.now n → ⊥ }
 {
     let depth = value.parse::<u32>().ok()?;
     if depth == 0 || depth > DEEPEST {
@@ -119,7 +121,8 @@ fn is_hex(value: &str) -> bool
 fn with_value<'a>(options: Options<'a>, name: &str, value: &'a str) -> Option<Options<'a>>
     ensures sets { IfSome result (λ new.
         AddsArgument (name.now ++ (codes "=" ++ value.now)) options.entry new) }
-    ensures none { name.now ≡ codes "sentinel" → result ≡ None → IsErr (decode_sized value.now 1) }
+    ensures none { result ≡ None → IsValueOf name.now value.now → ⊥ }
+    ensures valid { IfSome result (λ _. IsValueOf name.now value.now) }
 {
     let mut options = options;
     match name {
@@ -136,7 +139,9 @@ fn with_value<'a>(options: Options<'a>, name: &str, value: &'a str) -> Option<Op
 
 /// The options with one more argument.
 fn with_word<'a>(options: Options<'a>, word: &'a str) -> Option<Options<'a>>
-    ensures { IfSome result (λ new. AddsArgument word.now options.entry new) }
+    ensures sets { IfSome result (λ new. AddsArgument word.now options.entry new) }
+    ensures none { result ≡ None → IsValid word.now → ⊥ }
+    ensures valid { IfSome result (λ _. IsValid word.now) }
 {
     let mut options = options;
     match word {
@@ -154,7 +159,9 @@ fn with_word<'a>(options: Options<'a>, word: &'a str) -> Option<Options<'a>>
 }
 
 /// An argument without `=` and its value.
-fn name_of(word: &str) -> &str {
+fn name_of(word: &str) -> &str
+    ensures { result.now ≡ name_in word.now }
+{
     match word.split_once('=') {
         Some((name, _)) => name,
         None => word,
@@ -175,7 +182,10 @@ fn why_wrong(name: &str) -> &'static str {
 }
 
 /// Whether a mode has an argument of this name.
-fn has_word(mode: Action, name: &str) -> bool {
+fn has_word(mode: Action, name: &str) -> bool
+    ensures found { result ≡ true → IsAmong name.now (names_of mode) }
+    ensures absent { result ≡ false → IsAmong name.now (names_of mode) → ⊥ }
+{
     match name {
         "sentinel" | "depth" | "empty" => true,
         "strict" | "bytes" => mode != Action::Write,
@@ -191,7 +201,11 @@ fn has_word(mode: Action, name: &str) -> bool {
 /// # Errors
 /// The first argument that the mode hasn't, or whose value is invalid; `raw` with a `sentinel` that isn't 00 or a `from` that isn't 0.
 pub fn options_of<'a>(mode: Action, words: &'a [String]) -> Result<Options<'a>, WrongWord<'a>>
-    ensures { IfOk result (λ options. AreSetBy (map string_bytes words.now) options) }
+    ensures set { IfOk result (λ options. AreSetBy (map string_bytes words.now) options) }
+    ensures right { IfOk result (λ _. All (IsArgument mode) (map string_bytes words.now)) }
+    ensures combined { IfOk result (λ options. HasNoFrames options → ⊥) }
+    ensures refused { IfErr result (λ wrong.
+        IsRefusedFor mode (map string_bytes words.now) wrong.word.now) }
 {
     let mut options = PLAIN;
     for word in words {

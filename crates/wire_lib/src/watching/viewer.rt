@@ -8,6 +8,8 @@ ghost use Rattle.schema_table.specs.declared.value.Value.{Value as Values};
 ghost use Rattle.wire_lib.specs.Damages.{IsDamageWord};
 ghost use Rattle.wire_lib.specs.Fronts.{dots_after, damage_said};
 ghost use Rattle.wire_lib.specs.Kinds.{kinds_of};
+ghost use Rattle.wire_lib.specs.Printable.{AddsPrintableLine};
+ghost use Rattle.wire_lib.specs.Said.{OnlyAppended};
 ghost use Rattle.wire_lib.specs.Tables.{row_names};
 ghost use Rattle.wire_lib.specs.Received.{held_by, read_by, are_all_values};
 ghost use Rattle.wire_lib.specs.Rates.{CountsOneMore};
@@ -91,6 +93,7 @@ impl<'a> Viewer<'a> {
         ensures counted { OnOk result (CountsMessage value.now self.old.table self.new.table) }
         ensures kinds { row_names self.new.table.rows.items ≡ row_names self.old.table.rows.items }
         ensures damages { self.new.table.damages ≡ self.old.table.damages }
+        ensures only { OnlyAppended lines.old.items lines.new.items }
         ensures same { StandsStill self.old self.new }
     {
         let alloc = self.reading.alloc;
@@ -116,6 +119,8 @@ impl<'a> Viewer<'a> {
             (self.old.at - 1 - stretch) stretch self.old.front.items self.old.table
             self.new.table) }
         ensures rows { self.new.table.rows ≡ self.old.table.rows }
+        ensures line { OnOk result (AddsPrintableLine lines.old.items lines.new.items) }
+        ensures only { OnlyAppended lines.old.items lines.new.items }
         ensures same { StandsStill self.old self.new }
     {
         let alloc = self.reading.alloc;
@@ -138,6 +143,7 @@ impl<'a> Viewer<'a> {
             (self.old.at - 1 - stretch) stretch self.old.front.items self.old.table
             self.new.table) }
         ensures kinds { row_names self.new.table.rows.items ≡ row_names self.old.table.rows.items }
+        ensures only { OnlyAppended lines.old.items lines.new.items }
         ensures same { StandsStill self.old self.new }
     {
         match answer {
@@ -164,6 +170,7 @@ impl<'a> Viewer<'a> {
             × HasSeen self.new (stream ++ take used rest.now) (answers ++ more)) }
         ensures reading { reading_of self.new ≡ reading_of self.old }
         ensures kinds { row_names self.new.table.rows.items ≡ row_names self.old.table.rows.items }
+        ensures only { OnlyAppended lines.old.items lines.new.items }
         ensures within { IfOk result (λ used. used ≤ length rest.now) }
         ensures forward { IfOk result (λ used. 0 < used) }
     {
@@ -195,7 +202,7 @@ impl<'a> Viewer<'a> {
     /// line for it. Chunk boundaries don't matter.
     ///
     /// # Errors
-    /// Out of memory; the table may have counted only some of the chunk's results.
+    /// Out of memory; the table may have counted only some of the chunk's results. What `lines` held is unchanged.
     ///
     /// # Allocates
     /// What `lines` and the table grow by. A value at a time is freed.
@@ -205,6 +212,7 @@ impl<'a> Viewer<'a> {
             × HasSeen self.new (stream ++ piece.now) (answers ++ more)) }
         ensures reading { reading_of self.new ≡ reading_of self.old }
         ensures kinds { row_names self.new.table.rows.items ≡ row_names self.old.table.rows.items }
+        ensures only { OnlyAppended lines.old.items lines.new.items }
     {
         let mut rest = piece;
         while !rest.is_empty() {
@@ -218,7 +226,7 @@ impl<'a> Viewer<'a> {
     /// Ends the stream: counts a partial frame as damage, and returns whether all results were messages.
     ///
     /// # Errors
-    /// Out of memory.
+    /// Out of memory. What `lines` held is unchanged.
     ///
     /// # Allocates
     /// What `lines` and the table grow by.
@@ -232,6 +240,7 @@ impl<'a> Viewer<'a> {
         ensures kept { OnOk result ((stream : List ℕ) (answers : List (Answers Values))
             → HasSeen self.old stream answers → KeepsAll self.old self.new.table stream answers) }
         ensures rows { self.new.table.rows ≡ self.old.table.rows }
+        ensures only { OnlyAppended lines.old.items lines.new.items }
     {
         let begun = self.receiver.begun_bytes();
         if begun == 0 {
@@ -276,7 +285,10 @@ fn damage_text(
 }
 
 /// Appends a printable line of these words.
-fn put_line(alloc: Global, lines: &mut Vec<u8>, words: &[&str]) -> Result<(), AllocError> {
+fn put_line(alloc: Global, lines: &mut Vec<u8>, words: &[&str]) -> Result<(), AllocError>
+    ensures line { OnOk result (AddsPrintableLine lines.old.items lines.new.items) }
+    ensures only { OnlyAppended lines.old.items lines.new.items }
+{
     let mut text = String::new(alloc);
     for word in words {
         if !text.is_empty() && !word.is_empty() {

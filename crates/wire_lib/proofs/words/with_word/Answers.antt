@@ -3,8 +3,8 @@ use Rattle.wire_lib.proofs.ArgumentsLemmas.{by_word, sets_hex, sets_strict, sets
 use Rattle.wire_lib.proofs.words.with_word.Goals.{in-hex, in-strict, in-raw, in-crc32, in-time}
 use Rattle.wire_lib.proofs.words.with_word.Goals as goal
 
-pub returns : goal.returns
-returns c =
+pub returns-clause-sets : goal.returns-clause-sets
+returns-clause-sets c =
     let o = c.args.options in
     let word = c.args.word.now in
     elim c.match-word.branch [

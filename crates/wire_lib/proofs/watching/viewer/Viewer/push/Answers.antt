@@ -1,5 +1,6 @@
 use Rattle.std.proofs.Common.{◌≡◌, ℕ, List, [], ◌∷◌, ◌++◌, take, length, refl, sym, ap, subst, ◌∙◌, arith, rules, append-nil}
 use Rattle.wire_lib.specs.Seen.{HasSeen}
+use Rattle.wire_lib.proofs.LineLemmas.{only_none, only_then}
 use Rattle.wire_lib.proofs.SeenLemmas.{seen_none, seen_then, parts_on}
 use Rattle.wire_lib.proofs.watching.viewer.Viewer.push.Goals as goal
 
@@ -9,7 +10,7 @@ empty [] e = refl
 empty (x ∷ xs) e = absurd (omega arith)
 
 pub loop-rest-init : goal.loop-rest-init
-loop-rest-init c = ([], refl, refl, λ stream answers h. ([], seen_none c.args.self.now stream answers h), refl)
+loop-rest-init c = ([], refl, refl, λ stream answers h. ([], seen_none c.args.self.now stream answers h), refl, only_none c.args.lines.now.items)
 
 pub loop-rest-preserved : goal.loop-rest-preserved
 loop-rest-preserved c =
@@ -26,6 +27,7 @@ loop-rest-preserved c =
             seen_then c.push_one.new.self stream i.0 (take used rest) answers seen.0 next.0 next.1,
           ),
       c.push_one.ensures.kinds ∙ i.4,
+      only_then _ _ _ i.5 c.push_one.ensures.only,
     )
 
 pub returns-clause-seen : goal.returns-clause-seen

@@ -1,6 +1,7 @@
 use Rattle.std.proofs.Common.{◌≡◌, ℕ, List, ◌++◌, length}
 use Rattle.link.specs.declared.receiver.Answer.{Answer}
 use Rattle.schema_table.specs.declared.value.Value.{Value}
+use Rattle.wire_lib.specs.Said.{OnlyAppended}
 use Rattle.wire_lib.specs.Seen.{HasSeen, reading_of}
 use Rattle.wire_lib.specs.Tables.{row_names}
 use Rattle.wire_lib.proofs.watching.viewer.Viewer.push.Given as goal
@@ -12,6 +13,7 @@ invariant-loop-rest l =
     × ((stream : List ℕ) (answers : List (Answer Value)) → HasSeen l.fn.self stream answers
     → (more : List (Answer Value)) × HasSeen l.self (stream ++ done) (answers ++ more))
     × (row_names l.self.table.rows.items ≡ row_names l.fn.self.table.rows.items)
+    × OnlyAppended l.fn.lines.items l.lines.items
 
 abbrev pub decreases-loop-rest : goal.decreases-loop-rest
 decreases-loop-rest l = length l.rest
