@@ -1,2 +1,3 @@
 mod DifferLemmas
+mod LooksLemmas
 mod PushedLemmas

@@ -4,3 +4,6 @@ pub mod Integers
 pub mod Values
 pub mod Schemas
 pub mod ValueLaws
+pub mod Floats
+pub mod Looks
+pub mod Printed

@@ -1,10 +1,11 @@
 //! What message types are, as one table: its nodes, and the names of their values; and values of such types.
 //!
-//! `schemas` reads values by a table, and makes the table of a Rust type, `declarations` makes one of Rust's declarations, `wire_json`
-//! shows values by the names. A value is written as every message is.
+//! `schemas` reads values by a table, and makes the table of a Rust type, `declarations` makes one of Rust's declarations, `wire_print`
+//! prints values by the names, `wire_json` reads what is printed. A value is written as every message is.
 #![tactic(auto)]
 
 mod integer;
+pub mod looks;
 mod node;
 mod parts;
 mod schema;

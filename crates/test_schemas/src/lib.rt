@@ -1,5 +1,5 @@
-//! Tests of `schemas`, `declarations`, `wire_json` and `wire_lib`, by their public calls alone: outside vectors of every kind of node,
-//! tables of declarations, values as JSON and back, and errors.
+//! Tests of `schemas`, `declarations`, `wire_print`, `wire_json` and `wire_lib`, by their public calls alone: outside vectors of every
+//! kind of node, tables of declarations, values as JSON and back, and errors.
 #![tactic(auto)]
 
 #[cfg(test)]

@@ -5,9 +5,9 @@ use schemas::{Value, from_bytes};
 use std::alloc::Global;
 use std::process::Abort;
 use wire_json::parse::parse;
-use wire_json::print::{Look, print};
 use wire_json::wrong::ParseError;
 use wire_lib::DEPTH;
+use wire_print::print::{Look, print};
 
 /// The types that the rows name, after the one that is read.
 const BESIDE: &str = "

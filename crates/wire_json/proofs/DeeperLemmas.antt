@@ -22,10 +22,10 @@ use Rattle.schema_table.specs.declared.integer.Integer.TheVariants as integers
 use Rattle.schema_table.specs.declared.value.Value.{Value, out-Value}
 use Rattle.schema_table.specs.declared.value.Value.TheOpen.{Value-F}
 use Rattle.schema_table.specs.Schemas.{SchemaTakes, SchemaHas, TakesFields, TakesPayload, TakesNode, TakesPlace, NodeHas, PlaceHas, OfOption, OfList, OfGroup, OfVariant, EachHas, FieldsHave, PayloadHas}
-use Rattle.wire_json.specs.Floats.{ShowsFinite}
+use Rattle.schema_table.specs.Floats.{ShowsFinite}
 use Rattle.wire_json.specs.InRange.{Fits}
-use Rattle.wire_json.specs.Looks.{IsPresentBy, IsUnder, is_byte_node, is_empty_named, is_float_named, is_map_named, null_within, pair_node, first_is_key, variant_named}
-use Rattle.wire_json.specs.Printed.{digits_by, integer_json, byte_items, bytes_json, plain_json, members_by, called, Shows, ShowsAll, ShowsArray, ShowsChosen, ShowsEnum, ShowsField, ShowsFirst, ShowsFixed, ShowsFloat, ShowsHeld, ShowsInteger, ShowsList, ShowsMap, ShowsNamed, ShowsNode, ShowsObject, ShowsOption, ShowsPair, ShowsPart, ShowsStruct, ShowsVariant, two_values}
+use Rattle.schema_table.specs.Looks.{IsPresentBy, IsUnder, is_byte_node, is_empty_named, is_float_named, is_map_named, null_within, pair_node, first_is_key, variant_named}
+use Rattle.schema_table.specs.Printed.{digits_by, integer_json, byte_items, bytes_json, plain_json, members_by, called, Shows, ShowsAll, ShowsArray, ShowsChosen, ShowsEnum, ShowsField, ShowsFirst, ShowsFixed, ShowsFloat, ShowsHeld, ShowsInteger, ShowsList, ShowsMap, ShowsNamed, ShowsNode, ShowsObject, ShowsOption, ShowsPair, ShowsPart, ShowsStruct, ShowsVariant, two_values}
 
 -- trees
 

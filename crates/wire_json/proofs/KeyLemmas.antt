@@ -18,7 +18,7 @@ use Rattle.schema_table.specs.declared.value.Value.TheOpen.{Value-F}
 use Rattle.schema_table.specs.Schemas.{SchemaHas, NodeHas, PlaceHas, FieldsHave, PayloadHas}
 use Rattle.schema_table.specs.Values.{tree_of, trees_in, AreOneTree}
 use Rattle.wire_json.specs.InRange.{are_in_range, all_true}
-use Rattle.wire_json.specs.Looks.{HasNoFields, is_empty_named, is_float_named, is_newtype_named, are_empty_named, variant_named, plain_key_node, key_node, key_type, key_within, asked_by, inside_of, only_field, only_part, only_value, typed_part, part_of, inside_part, inside_within, key_at, key_named, variant_key, plain_key, truth_key}
+use Rattle.schema_table.specs.Looks.{HasNoFields, is_empty_named, is_float_named, is_newtype_named, are_empty_named, variant_named, plain_key_node, key_node, key_type, key_within, asked_by, inside_of, only_field, only_part, only_value, typed_part, part_of, inside_part, inside_within, key_at, key_named, variant_key, plain_key, truth_key}
 use Rattle.wire_json.specs.Meant.{IsNamed, MeansNumber, KeyMeansPlain, KeyMeansNode, KeyMeansBy, KeyMeans}
 use Rattle.wire_json.specs.Refused.{IsNumberNode}
 use Rattle.wire_json.proofs.LeafLemmas.{level, ranged, same_level, range_level, number_back, character_back, both_true}

@@ -26,11 +26,12 @@ use Rattle.schema_table.specs.declared.value.Value.TheOpen.{Value-F}
 use Rattle.schema_table.specs.Integers.{type_of, little_tree_of, big_tree_of}
 use Rattle.schema_table.specs.Schemas.{NodeHas}
 use Rattle.schema_table.specs.Values.{tree_of, tree_step, AreOneTree}
-use Rattle.wire_json.specs.Floats.{ShowsFinite, word_of, IsNanOf}
+use Rattle.schema_table.specs.Floats.{ShowsFinite, word_of}
+use Rattle.wire_json.specs.Floats.{IsNanOf}
 use Rattle.wire_json.specs.InRange.{is_in_range, are_bytes, range_step, are_in_range}
-use Rattle.wire_json.specs.Looks.{integer_key, plain_key}
+use Rattle.schema_table.specs.Looks.{integer_key, plain_key}
 use Rattle.wire_json.specs.Meant.{IsInteger, MeansNumber, MeansBytes, AreBytesOf, MeansPlain, MeansFloat}
-use Rattle.wire_json.specs.Printed.{digits_by, integer_json, byte_items, bytes_json, plain_json, ShowsFloat}
+use Rattle.schema_table.specs.Printed.{digits_by, integer_json, byte_items, bytes_json, plain_json, ShowsFloat}
 use Rattle.wire_json.specs.Refused.{IsNumberNode}
 use Rattle.wire_json.proofs.NumeralLemmas.{unsigned_back, signed_back}
 use Rattle.wire_json.proofs.WordLemmas.{word_back, bits_back}

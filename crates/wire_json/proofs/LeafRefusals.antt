@@ -29,7 +29,7 @@ use Rattle.json.specs.Value.{value_view, items_view, members_view}
 use Rattle.json.specs.declared.value.Value as json
 use Rattle.json.specs.declared.value.Value.TheOpen.{Value-F as Parsed-F}
 use Rattle.wire_json.specs.InRange.{AreAllBytes, Fits, InRange, IsByte, are_bytes, are_in_range}
-use Rattle.wire_json.specs.Looks.{HasNoFields, is_byte_node, variant_named}
+use Rattle.schema_table.specs.Looks.{HasNoFields, is_byte_node, variant_named}
 use Rattle.wire_json.specs.Meant.{AreNamedOnce, AreBytes, AreBytesOf, AreNamed, HasMember, HasOnlyFields, HasShape, IsHex, IsIndexOf, IsNamed, IsOneOf, MeansByte, MeansBytes, MeansPlain, count_items, count_members}
 use Rattle.wire_json.specs.Parsed.{IsOfEnum, IsOfLeaf, IsOfType}
 use Rattle.wire_json.specs.Refused.{NoneOf}

@@ -4,13 +4,11 @@ pub mod FloatLemmas
 pub mod KeyLemmas
 pub mod LeafLemmas
 pub mod LeafRefusals
-pub mod LooksLemmas
 pub mod NullLemmas
 pub mod NumberRefusals
 pub mod NumeralLemmas
 pub mod ParsedLemmas
 pub mod PartsLemmas
-pub mod PrintedLemmas
 pub mod RefusedLemmas
 pub mod RoundLemmas
 pub mod ShownNumbers

@@ -18,9 +18,9 @@ use Rattle.schema_table.specs.declared.integer.Integer.TheVariants as integers
 use Rattle.schema_table.specs.declared.value.Value.{Value, out-Value}
 use Rattle.schema_table.specs.declared.value.Value.TheOpen.{Value-F}
 use Rattle.schema_table.specs.Schemas.{SchemaHas, NodeHas, PlaceHas, FieldsHave}
-use Rattle.wire_json.specs.Floats.{ShowsFinite}
-use Rattle.wire_json.specs.Looks.{is_unit_named, is_newtype_named, is_empty_named, is_float_named, null_node, null_type, null_within, asked_by, inside_of, only_field, variant_named}
-use Rattle.wire_json.specs.Printed.{digits_by, integer_json, bytes_json, plain_json, Shows, ShowsAll, ShowsMap, ShowsNamed, ShowsNode, ShowsVariant, ShowsChosen, ShowsFloat, ShowsInteger}
+use Rattle.schema_table.specs.Floats.{ShowsFinite}
+use Rattle.schema_table.specs.Looks.{is_unit_named, is_newtype_named, is_empty_named, is_float_named, null_node, null_type, null_within, asked_by, inside_of, only_field, variant_named}
+use Rattle.schema_table.specs.Printed.{digits_by, integer_json, bytes_json, plain_json, Shows, ShowsAll, ShowsMap, ShowsNamed, ShowsNode, ShowsVariant, ShowsChosen, ShowsFloat, ShowsInteger}
 use Rattle.wire_json.proofs.LeafLemmas.{IsLeaf}
 use Rattle.wire_json.proofs.ParsedLemmas.{IsStruct, inside_struct}
 

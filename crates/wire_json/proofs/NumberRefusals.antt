@@ -22,7 +22,7 @@ use Rattle.schema_table.specs.Schemas.{AtTop, NodeHas, SchemaHas, OfBool, OfChar
 use mir.Val.{hbits}
 use Rattle.wire_json.specs.declared.wrong.ParseError.{ParseError}
 use Rattle.wire_json.specs.InRange.{InRange, IsIntegerOf, range_step, are_in_range}
-use Rattle.wire_json.specs.Looks.{is_float_named, truth_key}
+use Rattle.schema_table.specs.Looks.{is_float_named, truth_key}
 use Rattle.wire_json.specs.Meant.{IsInteger, IsSigned, IsUnsigned, KeyMeansPlain, MeansFixed, MeansFloat, MeansNode, MeansNumber, MeansPlain}
 use Rattle.wire_json.specs.Parsed.{IsOfLeaf}
 use Rattle.wire_json.specs.Refused.{IfNone, IfWrong, IsNumberNode, NoneOf}

@@ -27,9 +27,9 @@ use Rattle.schema_table.specs.Values.{tree_of, trees_in}
 use Rattle.schema_table.specs.Schemas.{SchemaTakes, SchemaHas, TakesFields, TakesNode, TakesPayload, NodeHas, AtTop, OfChar, OfText, OfList, OfGroup, OfVariant, EachHas, FieldsHave, PayloadHas}
 use Rattle.json.specs.Json.{Json, null, boolean, number, string, array, object}
 use Rattle.wire_json.specs.Floats.{NumberMeansFloat, WordMeansFloat}
-use Rattle.wire_json.specs.Looks.{variant_named, is_byte_node, is_newtype_named, only_type, only_field, inside_of, two_types, pair_node, only_part, only_value}
+use Rattle.schema_table.specs.Looks.{variant_named, is_byte_node, is_newtype_named, only_type, only_field, inside_of, two_types, pair_node, only_part, only_value}
 use Rattle.wire_json.specs.Meant.{MeansFloat, Means, MeansNode, MeansEnum, MeansStruct, KeyMeans, KeyMeansBy, KeyMeansNode, chosen, AreBytesOf, MeansFields, HasOnlyFields, HasShape, IsIndexOf, IsInteger, MeansHolding, MeansNumber, MeansPlain, KeyMeansPlain}
-use Rattle.wire_json.specs.Printed.{two_in, two_values}
+use Rattle.schema_table.specs.Printed.{two_in, two_values}
 use Rattle.wire_json.specs.Parsed.{IsGroupOf, IsOfType, IsOfNode, IsOfStruct, IsOfEnum, IsOfLeaf}
 
 -- one level of a value

@@ -15,7 +15,7 @@ use Rattle.schema_table.specs.declared.value.Value.{Value}
 use Rattle.schema_table.specs.Values.{tree_of, trees_in, AreOneTree}
 use Rattle.schema_table.specs.Schemas.{EachHas, FieldsHave}
 use Rattle.wire_json.specs.Meant.{MeansItems, MeansMembers, MeansFields, field_json}
-use Rattle.wire_json.specs.Printed.{members_by, called, ShowsField, ShowsPart}
+use Rattle.schema_table.specs.Printed.{members_by, called, ShowsField, ShowsPart}
 
 -- what is read of a type at a place from what shows a value of it, has its tree
 abbrev pub ReadsBack : (ℕ → Value → Type 0) → (ℕ → Value → Type 0) → (ℕ → Value → Json → Type 0) → (ℕ → Json → Value → Type 0) → Type 0

@@ -21,10 +21,10 @@ use Rattle.schema_table.specs.declared.value.Value.TheOpen.{Value-F}
 use Rattle.schema_table.specs.Schemas.{SchemaTakes, SchemaHas, TakesFields, TakesPlace, NodeHas, PlaceHas, AtTop, OfList, OfGroup, OfOption, OfVariant, EachHas, FieldsHave, PayloadHas}
 use Rattle.schema_table.specs.Values.{tree_of, trees_in}
 use Rattle.wire_json.specs.InRange.{Fits, InRange, all_true, are_in_range}
-use Rattle.wire_json.specs.Looks.{IsPresentBy, inside_of, is_float_named, is_newtype_named, null_within, only_part, only_value, pair_node}
+use Rattle.schema_table.specs.Looks.{IsPresentBy, inside_of, is_float_named, is_newtype_named, null_within, only_part, only_value, pair_node}
 use Rattle.wire_json.specs.Meant.{AreBytes, IsIndexOf, IsPresent, KeyMeans, KeyMeansBy, KeyMeansNode, KeyMeansPlain, Means, MeansElements, MeansEnum, MeansField, MeansFields, MeansHeld, MeansHolding, MeansItems, MeansList, MeansMember, MeansMembers, MeansNamed, MeansNode, MeansOption, MeansPlain, MeansValue, chosen, count_items, count_members}
 use Rattle.wire_json.specs.Parsed.{IsOfEnum, IsOfLeaf, IsOfNode, IsOfStruct, IsOfType}
-use Rattle.wire_json.specs.Printed.{two_in, two_values}
+use Rattle.schema_table.specs.Printed.{two_in, two_values}
 use Rattle.wire_json.specs.Refused.{IsNumberNode, NoneOf}
 use Rattle.wire_json.proofs.KeyLemmas.{group_range, group_tree, list_range, list_tree}
 use Rattle.wire_json.proofs.LeafLemmas.{both_true}

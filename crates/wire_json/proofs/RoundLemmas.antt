@@ -28,9 +28,9 @@ use Rattle.schema_table.specs.Integers.{little_tree_of}
 use Rattle.schema_table.specs.Schemas.{SchemaHas, NodeHas, PlaceHas, AtTop, OfU8, OfOption, OfList, OfGroup, OfVariant, EachHas, FieldsHave, PayloadHas}
 use Rattle.schema_table.specs.Values.{tree_of, trees_in, AreOneTree}
 use Rattle.wire_json.specs.InRange.{are_bytes, are_in_range, all_true}
-use Rattle.wire_json.specs.Looks.{IsPresentBy, is_byte_node, is_empty_named, is_float_named, is_map_named, null_within, pair_node, first_is_key, key_text, variant_named}
+use Rattle.schema_table.specs.Looks.{IsPresentBy, is_byte_node, is_empty_named, is_float_named, is_map_named, null_within, pair_node, first_is_key, key_text, variant_named}
 use Rattle.wire_json.specs.Meant.{AreBytes, IsHex, KeyMeans, Means, MeansElements, MeansEnum, MeansFields, MeansFixed, MeansHeld, MeansLine, MeansList, MeansNamed, MeansNode, MeansOption, MeansPlain, MeansStruct, chosen, field_json, or_null}
-use Rattle.wire_json.specs.Printed.{IsJsonOf, byte_before, bytes_in, two_in, two_values, Shows, ShowsAll, ShowsChosen, ShowsElements, ShowsHeld, ShowsList, ShowsMap, ShowsNamed, ShowsNode, ShowsOption, ShowsPair, ShowsStruct, ShowsVariant, ShowsEnum, ShowsFixed, ShowsInteger}
+use Rattle.schema_table.specs.Printed.{IsJsonOf, byte_before, bytes_in, two_in, two_values, Shows, ShowsAll, ShowsChosen, ShowsElements, ShowsHeld, ShowsList, ShowsMap, ShowsNamed, ShowsNode, ShowsOption, ShowsPair, ShowsStruct, ShowsVariant, ShowsEnum, ShowsFixed, ShowsInteger}
 use Rattle.wire_json.specs.RoundTrip.{ReadsPrinted, line_inside}
 use Rattle.wire_json.proofs.LeafLemmas.{level, ranged, same_level, range_level, both_true, hex_back, bytes_in_range, leaf_back, float_back}
 use Rattle.wire_json.proofs.NullLemmas.{null_shown}

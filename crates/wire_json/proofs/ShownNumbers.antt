@@ -14,7 +14,7 @@ use Rattle.std.proofs.Math.ListN.{get_or-append, length-append}
 use Rattle.json.specs.Json.{number}
 use Rattle.json.specs.Word.{head, after_whole, after_number}
 use Rattle.wire_json.specs.Meant.{IsUnsigned, IsSigned}
-use Rattle.wire_json.specs.Printed.{digits_by, digits_json}
+use Rattle.schema_table.specs.Printed.{digits_by, digits_json}
 use Rattle.wire_json.proofs.NumeralLemmas.{no_plus, no_minus, plain_sign}
 
 -- as that number

@@ -28,9 +28,9 @@ use Rattle.schema_table.specs.declared.value.Value.TheOpen.{Value-F}
 use Rattle.schema_table.specs.Schemas.{SchemaHas, NodeHas, PlaceHas, AtTop, OfU8, OfOption, OfList, OfGroup, OfVariant, EachHas, FieldsHave, PayloadHas}
 use Rattle.schema_table.specs.Values.{AreOneTree}
 use Rattle.wire_json.specs.InRange.{Fits, is_in_range, are_bytes, are_in_range, all_true}
-use Rattle.wire_json.specs.Looks.{HasNoFields, IsPresentBy, is_byte_node, is_empty_named, is_float_named, is_map_named, is_newtype_named, are_empty_named, null_within, pair_node, first_is_key, variant_named, plain_key_node, key_node, key_type, key_within, asked_by, inside_of, only_field, only_part, typed_part, part_of, inside_part, inside_within, key_at, key_named, key_text, plain_key, integer_key, variant_key}
+use Rattle.schema_table.specs.Looks.{HasNoFields, IsPresentBy, is_byte_node, is_empty_named, is_float_named, is_map_named, is_newtype_named, are_empty_named, null_within, pair_node, first_is_key, variant_named, plain_key_node, key_node, key_type, key_within, asked_by, inside_of, only_field, only_part, typed_part, part_of, inside_part, inside_within, key_at, key_named, key_text, plain_key, integer_key, variant_key}
 use Rattle.wire_json.specs.Meant.{AreBytes, AreBytesOf, IsIndexOf, IsInteger, IsNamed, KeyMeans, KeyMeansBy, KeyMeansNode, KeyMeansPlain, MayHold, Means, MeansBytes, MeansElements, MeansEnum, MeansFields, MeansFixed, MeansHeld, MeansHolding, MeansItems, MeansLine, MeansList, MeansMembers, MeansNode, MeansNumber, MeansOption, MeansPlain, MeansStruct, chosen, count_items, count_members, field_json}
-use Rattle.wire_json.specs.Printed.{IsJsonOf, byte_before, byte_items, bytes_in, bytes_json, called, integer_json, members_by, plain_json, two_values, Shows, ShowsAll, ShowsChosen, ShowsElements, ShowsEnum, ShowsField, ShowsFixed, ShowsHeld, ShowsInteger, ShowsList, ShowsMap, ShowsNamed, ShowsNode, ShowsOption, ShowsPair, ShowsPart, ShowsStruct, ShowsVariant}
+use Rattle.schema_table.specs.Printed.{IsJsonOf, byte_before, byte_items, bytes_in, bytes_json, called, integer_json, members_by, plain_json, two_values, Shows, ShowsAll, ShowsChosen, ShowsElements, ShowsEnum, ShowsField, ShowsFixed, ShowsHeld, ShowsInteger, ShowsList, ShowsMap, ShowsNamed, ShowsNode, ShowsOption, ShowsPair, ShowsPart, ShowsStruct, ShowsVariant}
 use Rattle.wire_json.specs.Refused.{IsNumberNode}
 use Rattle.wire_json.specs.RoundTrip.{ReadsLine, TakesPrinted, TakesLine, line_inside}
 use Rattle.wire_json.proofs.DeeperLemmas.{fits_deeper, shown_nests}

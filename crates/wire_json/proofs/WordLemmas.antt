@@ -12,7 +12,8 @@ use Rattle.ryu.proofs.Signs.{finite_number}
 use Rattle.schema_table.specs.declared.integer.IntegerType.{IntegerType}
 use Rattle.schema_table.specs.declared.integer.IntegerType.TheVariants as types
 use Rattle.schema_table.specs.declared.integer.Integer.TheVariants as integers
-use Rattle.wire_json.specs.Floats.{word_of, nan_word, IsNanWord, IsNanOf, WordMeansSingle, WordMeansDouble, WordMeansFloat}
+use Rattle.schema_table.specs.Floats.{word_of, nan_word}
+use Rattle.wire_json.specs.Floats.{IsNanWord, IsNanOf, WordMeansSingle, WordMeansDouble, WordMeansFloat}
 use Rattle.wire_json.specs.InRange.{IsIntegerOf}
 use Rattle.wire_json.specs.Refused.{IfNone, NoneOf}
 use lib.Ieee.{top}

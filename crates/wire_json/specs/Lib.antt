@@ -1,9 +1,6 @@
 pub mod Floats
 pub mod InRange
-pub mod Looks
 pub mod Meant
 pub mod Parsed
-pub mod Printed
 pub mod Refused
 pub mod RoundTrip
-pub mod TokenLaws

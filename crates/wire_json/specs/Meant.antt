@@ -23,8 +23,8 @@ use Rattle.schema_table.specs.declared.value.Value.TheOpen.{Value-F}
 use Rattle.schema_table.specs.Schemas.{OfList, OfGroup}
 use Rattle.wire_json.specs.Floats.{NumberMeansFloat, WordMeansFloat}
 use Rattle.wire_json.specs.InRange.{Fits}
-use Rattle.wire_json.specs.Looks.{HasNoFields, IsPresentBy, IsUnder, is_byte_node, is_empty_named, is_float_named, is_map_named, inside_of, first_is_key, null_within, only_part, pair_node, truth_key, variant_named}
-use Rattle.wire_json.specs.Printed.{two_values}
+use Rattle.schema_table.specs.Looks.{HasNoFields, IsPresentBy, IsUnder, is_byte_node, is_empty_named, is_float_named, is_map_named, inside_of, first_is_key, null_within, only_part, pair_node, truth_key, variant_named}
+use Rattle.schema_table.specs.Printed.{two_values}
 
 -- Values without parts
 

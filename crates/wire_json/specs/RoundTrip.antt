@@ -7,7 +7,7 @@ use Rattle.schema_table.specs.Values.{AreOneTree}
 use Rattle.wire_json.specs.InRange.{Fits}
 use Rattle.wire_json.specs.Meant.{MeansText}
 use Rattle.wire_json.specs.Parsed.{IsOfType}
-use Rattle.wire_json.specs.Printed.{IsJsonOf, Prints}
+use Rattle.schema_table.specs.Printed.{IsJsonOf, Prints}
 
 -- a text is no object with the only member `value`
 abbrev pub IsBare : List ℕ → Type 0

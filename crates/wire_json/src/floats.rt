@@ -1,97 +1,14 @@
-//! Floats by their bits, from JSON numbers and strings, and the strings for those that JSON has no number for.
-ghost use Rattle.std.specs.Prelude.{◌≡◌, ◌<◌, ◌%◌, ◌^◌, ℕ, List, false, true, None, Some, IfOk, IfSome, from_bits, length, string_bytes};
+//! Floats by their bits, from JSON numbers and strings.
+ghost use Rattle.std.specs.Prelude.{◌≡◌, ◌<◌, ◌%◌, ◌^◌, ℕ, List, false, true, None, Some, IfSome, from_bits, length};
 ghost use Rattle.std.specs.Float.{binary32, binary64, float_is_finite};
 ghost use Rattle.schema_table.specs.Integers.{type_of};
 ghost use Rattle.std.specs.Int.{w32, w64};
-ghost use Rattle.wire_json.specs.Floats.{IsNanOf, IsNanWord, IsNearest, NumberMeansFloat, WordMeansDouble, WordMeansFloat, WordMeansSingle, double_word, nan_word, single_word};
+ghost use Rattle.wire_json.specs.Floats.{IsNanOf, IsNanWord, IsNearest, NumberMeansFloat, WordMeansDouble, WordMeansFloat, WordMeansSingle};
 ghost use Rattle.wire_json.specs.InRange.{IsIntegerOf};
 ghost use Rattle.wire_json.specs.Refused.{IfNone, NoneOf};
 
+use schema_table::looks::{DOUBLE_EXPONENT, DOUBLE_SIGN, EXPONENT, NAN_PREFIX, SIGN};
 use schema_table::{Integer, IntegerType};
-use std::alloc::{AllocError, Global};
-
-/// The prefix of the string for a NaN other than the usual one; its bits follow in hexadecimal.
-const BITS: &str = "NaN:";
-
-/// The sign bit of an `f32`, and the exponent bits of an infinity; greater without the sign is a NaN.
-const SIGN: u32 = 0x8000_0000;
-
-const EXPONENT: u32 = 0x7f80_0000;
-
-/// The same for an `f64`.
-const DOUBLE_SIGN: u64 = 0x8000_0000_0000_0000;
-
-const DOUBLE_EXPONENT: u64 = 0x7ff0_0000_0000_0000;
-
-/// Returns the `f32` with these bits, or `None` if it isn't finite.
-pub fn single(bits: u32) -> Option<f32>
-    ensures some { IfSome result (λ x. (x ≡ from_bits binary32 bits) × (float_is_finite x ≡ true)) }
-    ensures none { result ≡ None → float_is_finite (from_bits binary32 bits) ≡ false }
-{
-    if bits % SIGN > EXPONENT {
-        return None;
-    }
-    let float = f32::from_bits(bits);
-    if float.is_finite() { Some(float) } else { None }
-}
-
-/// Returns the `f64` with these bits, or `None` if it isn't finite.
-pub fn double(bits: u64) -> Option<f64>
-    ensures some { IfSome result (λ x. (x ≡ from_bits binary64 bits) × (float_is_finite x ≡ true)) }
-    ensures none { result ≡ None → float_is_finite (from_bits binary64 bits) ≡ false }
-{
-    if bits % DOUBLE_SIGN > DOUBLE_EXPONENT {
-        return None;
-    }
-    let float = f64::from_bits(bits);
-    if float.is_finite() { Some(float) } else { None }
-}
-
-/// `NaN:` and the hexadecimal digits of these bytes.
-fn word_of_nan(alloc: Global, bytes: &[u8]) -> Result<String, AllocError>
-    ensures { IfOk result (λ word. string_bytes word ≡ nan_word bytes.now) }
-{
-    let digits = hex::encode(alloc, bytes)?;
-    let mut word = String::from_str(alloc, BITS)?;
-    word.push_str(digits.as_str())?;
-    Ok(word)
-}
-
-/// Returns the string for an `f32` that isn't finite: `Infinity`, `-Infinity`, `NaN`, or with its bits `NaN:7fc00001`.
-///
-/// # Errors
-/// Out of memory.
-///
-/// # Allocates
-/// The string.
-pub fn word_of(alloc: Global, bits: u32) -> Result<String, AllocError>
-    ensures { IfOk result (λ word. string_bytes word ≡ single_word bits) }
-{
-    match bits {
-        0x7f80_0000 => String::from_str(alloc, "Infinity"),
-        0xff80_0000 => String::from_str(alloc, "-Infinity"),
-        0x7fc0_0000 => String::from_str(alloc, "NaN"),
-        _ => word_of_nan(alloc, &bits.to_be_bytes()),
-    }
-}
-
-/// Returns the string for an `f64` that isn't finite, as [`word_of`] does.
-///
-/// # Errors
-/// Out of memory.
-///
-/// # Allocates
-/// The string.
-pub fn word_of_double(alloc: Global, bits: u64) -> Result<String, AllocError>
-    ensures { IfOk result (λ word. string_bytes word ≡ double_word bits) }
-{
-    match bits {
-        0x7ff0_0000_0000_0000 => String::from_str(alloc, "Infinity"),
-        0xfff0_0000_0000_0000 => String::from_str(alloc, "-Infinity"),
-        0x7ff8_0000_0000_0000 => String::from_str(alloc, "NaN"),
-        _ => word_of_nan(alloc, &bits.to_be_bytes()),
-    }
-}
 
 /// Whether a word is `NaN:` and the hexadecimal digits of all these bytes, which it sets.
 fn has_bits(word: &str, bytes: &mut [u8]) -> bool
@@ -99,7 +16,7 @@ fn has_bits(word: &str, bytes: &mut [u8]) -> bool
     ensures no { result ≡ false → (bs : List ℕ) → length bs ≡ length bytes.old
         → IsNanWord word.now bs → ⊥ }
 {
-    match word.strip_prefix(BITS) {
+    match word.strip_prefix(NAN_PREFIX) {
         Some(digits) => hex::decode_to_slice(digits.as_bytes(), bytes).is_ok(),
         None => false,
     }

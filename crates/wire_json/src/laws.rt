@@ -4,8 +4,8 @@ ghost use Rattle.schema_table.specs.declared.schema.Schema.{Schema as Tables};
 ghost use Rattle.schema_table.specs.Telling.{NamesTellParts};
 ghost use Rattle.wire_json.specs.RoundTrip.{ReadsLine, ReadsPrinted, TakesLine, TakesPrinted};
 
-/// What [`parse`](crate::parse::parse) reads from the text that [`print`](crate::print::print) wrote of a value has the bytes of
-/// that value. And that text means the value, so `parse` doesn't refuse it.
+/// What [`parse`](crate::parse::parse) reads from the text that `print` of `wire_print` wrote of a value has the bytes of that value.
+/// And that text means the value, so `parse` doesn't refuse it.
 ///
 /// `printed` and `printed_taken` say it of the text itself, unless that is an object with the only member `value`, which `parse`
 /// takes for a line of a receiver. `line` and `line_taken` say it of that line, `{"value": ..}` round the text, whatever it is.

@@ -1,9 +1,7 @@
-//! Values of a table of types as lines of JSON, and back.
+//! Values of a table of types from lines of JSON.
 #![tactic(auto)]
 
 mod floats;
 pub mod laws;
-mod looks;
 pub mod parse;
-pub mod print;
 pub mod wrong;

@@ -8,19 +8,19 @@ ghost use Rattle.schema_table.specs.declared.value.Value.{Group, List as Listed}
 ghost use Rattle.schema_table.specs.Integers.{type_of};
 ghost use Rattle.schema_table.specs.Schemas.{AtTop, EachHas, OfGroup};
 ghost use Rattle.wire_json.specs.InRange.{AreAllBytes, Fits, InRange, IsByte, IsIntegerOf};
-ghost use Rattle.wire_json.specs.Looks.{HasNoFields, first_is_key, is_byte_node, is_map_named, pair_node, variant_named};
+ghost use Rattle.schema_table.specs.Looks.{HasNoFields, first_is_key, is_byte_node, is_map_named, pair_node, variant_named};
 ghost use Rattle.wire_json.specs.Meant.{AreNamedOnce, AreBytes, AreBytesOf, HasMember, HasOnlyFields, HasShape, IsHex, IsIndexOf, IsInteger, IsNamed, IsOneOf, IsPresent, KeyMeans, KeyMeansPlain, Means, MeansByte, MeansBytes, MeansElements, MeansEnum, MeansField, MeansFloat, MeansHolding, MeansItems, MeansLine, MeansList, MeansMember, MeansMembers, MeansNode, MeansNumber, MeansOption, MeansPlain, MeansStruct, MeansText, MeansValue, chosen, field_json, held_json};
 ghost use Rattle.wire_json.specs.Parsed.{AreOfType, IsGroupOf, IsOfEnum, IsOfLeaf, IsOfNode, IsOfStruct, IsOfType};
 ghost use Rattle.wire_json.specs.Refused.{IfNone, IfWrong, IsNumberNode, IsWrong, NoneOf};
 
 use crate::floats::{float_of_number, float_of_word};
-use crate::looks::{
-    PRESENT, has_text_keys, inside_newtype, is_byte, is_empty, may_be_null, names_of, node_of,
-    pair_of,
-};
 use crate::wrong::{ParseError, at_column, inside, inside_element, refusal};
 use hex::FromHexError;
 use json::{Error, Reader, Scratch, Value as Json};
+use schema_table::looks::{
+    PRESENT, has_text_keys, inside_newtype, is_byte, is_empty, may_be_null, names_of, node_of,
+    pair_of,
+};
 use schema_table::{Integer, IntegerType, Names, Node, Schema, Value};
 use std::alloc::Global;
 use std::str::from_utf8;
@@ -1142,7 +1142,7 @@ fn value_of_text(alloc: Global, schema: &Schema, place: usize, depth: u32, text:
 
 /// Returns the value of the type at index `place` that a line of JSON contains, with at most `depth` nested nodes.
 ///
-/// The line is a value as [`print`](crate::print::print) writes it, or `{"value": ..}`. The fields of a struct can have any order.
+/// The line is a value as `print` of `wire_print` writes it, or `{"value": ..}`. The fields of a struct can have any order.
 /// Bytes can be an array or a string of hexadecimal digits, a map whose keys can be texts an object or an array of pairs, and a
 /// variant without fields its name or an object with `null`.
 ///

@@ -22,11 +22,11 @@ use Rattle.json.specs.Lex.{tokens}
 use Rattle.json.specs.Print.{print}
 use Rattle.json.specs.Token.{Token}
 use Rattle.json.specs.Tree.{json_tokens}
-use Rattle.wire_json.specs.Printed.{Shows}
+use Rattle.schema_table.specs.Printed.{Shows}
 use Rattle.wire_lib.specs.Sent.{LacksFeed}
 use Rattle.wire_lib.specs.Said.{OnlyAppended, IsLineOf, IsTextFor, SaysLine, known_to, end_said, value_line}
 use Rattle.wire_lib.proofs.FeedLemmas.{text_lacks}
-use Rattle.wire_json.specs.TokenLaws.{text_shown, text_read, text_utf8}
+use Rattle.wire_print.specs.TokenLaws.{text_shown, text_read, text_utf8}
 use Rattle.std.proofs.lemmas.Result.{on_ok_weaker}
 use Rattle.wire_lib.specs.Received.{held_by, read_by, as_list, place_to, IsLineAt, AreSaid, TellsEach, TellsEnd}
 

@@ -8,9 +8,10 @@ use Rattle.json.specs.Tree.{json_tokens, items_tokens, members_tokens}
 use Rattle.json.specs.Value.{items_of}
 use Rattle.schema_table.specs.declared.node.Node.{Node}
 use Rattle.schema_table.specs.declared.schema.Names.{Names}
-use Rattle.wire_json.specs.Printed.{member_tokens, members_by}
+use Rattle.wire_print.specs.Appended.{member_tokens}
+use Rattle.schema_table.specs.Printed.{members_by}
 use Rattle.wire_lib.specs.TableJson.{parts_json, nodes_json}
-use Rattle.wire_json.specs.TokenLaws.{array_tokens, object_tokens}
+use Rattle.wire_print.specs.TokenLaws.{array_tokens, object_tokens}
 use Rattle.std.proofs.lemmas.Result.{on_ok_weaker}
 
 -- members behind others

@@ -5,7 +5,7 @@ use Rattle.cobs.specs.Sentinel.{masked}
 use Rattle.schema_table.specs.declared.value.Value.{Value}
 use Rattle.link.specs.declared.receiver.Answer.{Answer}
 use Rattle.link.specs.declared.receiver.Answer.TheVariants as answer
-use Rattle.wire_json.specs.Printed.{Prints}
+use Rattle.schema_table.specs.Printed.{Prints}
 use Rattle.wire_lib.specs.Sent.{LacksFeed}
 use Rattle.wire_lib.specs.declared.receive.Reading.{Reading}
 

@@ -13,7 +13,8 @@ use Rattle.schema_table.specs.declared.schema.Names.{Names}
 use Rattle.schema_table.specs.declared.schema.Names.TheVariants as names
 use Rattle.schema_table.specs.declared.schema.Named.{Named}
 use Rattle.schema_table.specs.declared.schema.Schema.{Schema}
-use Rattle.wire_json.specs.Printed.{member_tokens, members_by}
+use Rattle.wire_print.specs.Appended.{member_tokens}
+use Rattle.schema_table.specs.Printed.{members_by}
 use Rattle.wire_lib.specs.Sizes.{AreSizesOf}
 
 -- members were appended

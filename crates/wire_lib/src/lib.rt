@@ -1,5 +1,5 @@
 //! The library of the program `wire`: messages of any device as lines of JSON. Frames as lines, lines as frames, a live view of a
-//! stream, tables as JSON, and the program's arguments. `wire_json` makes JSON of values, and values of JSON.
+//! stream, tables as JSON, and the program's arguments. `wire_print` makes JSON of values, `wire_json` values of JSON.
 #![tactic(auto)]
 
 pub mod laws;

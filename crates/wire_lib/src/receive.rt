@@ -17,7 +17,7 @@ use schemas::Value;
 use std::alloc::{AllocError, Global};
 use std::cell::Cell;
 use std::mem;
-use wire_json::print::{Look, print_into};
+use wire_print::print::{Look, print_into};
 
 /// The most bytes between two sentinels; more are too long.
 pub const LIMIT: usize = 65536;

@@ -1,7 +1,7 @@
 //! A table of types as JSON, for other tools. README.md of the program `wire` documents its form.
 ghost use Rattle.std.specs.Prelude.{◌≡◌, [], ◌∷◌, IfOk};
 ghost use Rattle.json.specs.Json.{string};
-ghost use Rattle.wire_json.specs.Printed.{AppendsJson};
+ghost use Rattle.wire_print.specs.Appended.{AppendsJson};
 ghost use Rattle.wire_lib.specs.TableJson.{AppendsMembers, IsTableText, array_members, enum_members, fixed_members, integer_name as integer_name_of, kind_of, list_members, maybe_number, named_json, node_members, nodes_of, number_of, parts_of, places_of, plain_name as plain_kind, sized_json, struct_members, table_of, text_members, type_json, types_of};
 
 use crate::sizes::greatest_sizes;

@@ -9,7 +9,7 @@ use crate::watching::table::Row;
 use schema_table::{Names, Schema};
 use schemas::{Node, Value};
 use std::alloc::{AllocError, Global};
-use wire_json::print::{Look, print};
+use wire_print::print::{Look, print};
 
 /// How many bytes are kept of a message's text.
 pub const LONGEST: usize = 1024;

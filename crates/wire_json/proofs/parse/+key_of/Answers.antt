@@ -3,7 +3,7 @@ use Rattle.std.specs.List.{slice_get}
 use Rattle.schema_table.specs.declared.node.Node.TheVariants as node
 use Rattle.schema_table.specs.Telling.{names_at, node_at}
 use Rattle.schema_table.specs.declared.value.Value.{out-Value}
-use Rattle.wire_json.specs.Looks.{inside_of}
+use Rattle.schema_table.specs.Looks.{inside_of}
 use Rattle.wire_json.specs.InRange.{Fits}
 use Rattle.wire_json.specs.Meant.{KeyMeans}
 use Rattle.wire_json.specs.Refused.{IfWrong, NoneOf}

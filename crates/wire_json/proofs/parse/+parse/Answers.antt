@@ -9,7 +9,7 @@ use Rattle.json.specs.Value.{items_view, members_view, value_view}
 use Rattle.schema_table.specs.declared.node.Node.TheVariants as node
 use Rattle.schema_table.specs.Telling.{names_at, node_at}
 use Rattle.schema_table.specs.Schemas.{EachHas, FieldsHave}
-use Rattle.wire_json.specs.Looks.{first_is_key, is_float_named, is_map_named, pair_node}
+use Rattle.schema_table.specs.Looks.{first_is_key, is_float_named, is_map_named, pair_node}
 use Rattle.wire_json.specs.Meant.{HasOnlyFields, HasShape, IsPresent, KeyMeans, Means, MeansElements, MeansField, MeansFields, MeansItems, MeansList, MeansMember, MeansMembers, MeansStruct, MeansValue, held_json}
 use Rattle.wire_json.specs.Parsed.{IsOfNode, IsOfType}
 use Rattle.wire_json.specs.InRange.{Fits}

@@ -3,7 +3,7 @@ use Rattle.std.specs.List.{slice_get}
 use Rattle.std.proofs.Common.{arith, ap, inl, inr, rules}
 use Rattle.std.proofs.lemmas.Bool.{cases_lt}
 use Rattle.std.proofs.lemmas.Option.{slice_get_read}
-use Rattle.wire_json.specs.Looks.{variant_named}
+use Rattle.schema_table.specs.Looks.{variant_named}
 use Rattle.wire_json.proofs.ParsedLemmas.{named_at}
 use Rattle.wire_json.proofs.LeafRefusals.{below_next, none_below, not_named, unnamed}
 use Rattle.wire_json.proofs.parse.index_of.Goals as goal

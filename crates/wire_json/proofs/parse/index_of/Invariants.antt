@@ -1,5 +1,5 @@
 use Rattle.std.proofs.Common.{◌≡◌, ◌≢◌, ◌<◌, ℕ, Some}
-use Rattle.wire_json.specs.Looks.{variant_named}
+use Rattle.schema_table.specs.Looks.{variant_named}
 use Rattle.wire_json.proofs.parse.index_of.Given as goal
 
 abbrev pub invariant-loop-name : goal.invariant-loop-name

@@ -1,0 +1,3 @@
+pub mod FloatLemmas
+pub mod InsideLemmas
+pub mod PrintedLemmas
