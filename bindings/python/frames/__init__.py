@@ -482,8 +482,10 @@ def _pieces(source: Any, ends: bool, is_over: Optional[Callable[[], bool]] = Non
     Where it may be over, it waits before it reads, if it can: a read that waits would take what comes when nobody wants it any more.
     """
     descriptor = _descriptor(source)
-    is_port = hasattr(source, "in_waiting")
-    never_waits = descriptor is not None and not is_port and hasattr(os, "get_blocking") and not os.get_blocking(descriptor)
+    is_port, below = hasattr(source, "in_waiting"), getattr(source, "raw", source)
+    is_blocking = descriptor is None or not hasattr(os, "get_blocking") or os.get_blocking(descriptor)
+    # of others a read of nothing is the end, though their socket doesn't block: it has a time limit, and may stay open, as that of a response
+    never_waits = not is_blocking and not is_port and isinstance(below, io.FileIO)
     waits = is_over is not None and _shows(source, descriptor, ends)
     is_buffered = isinstance(source, io.BufferedReader)
     is_ready, may_hold = False, is_buffered  # the latter: bytes that came before, of which the descriptor shows nothing
@@ -492,6 +494,8 @@ def _pieces(source: Any, ends: bool, is_over: Optional[Callable[[], bool]] = Non
             is_ready = (is_port and source.in_waiting > 0) or _is_ready(descriptor)
             continue
         piece = _read(source)
+        if piece == b"" and not is_blocking and is_buffered and isinstance(below, socket.SocketIO):
+            piece = below.read(_MOST)  # of which the buffer doesn't say whether it ended or has none yet
         may_hold = is_buffered and piece is not None and len(piece) == _MOST
         if piece:
             is_ready = False

@@ -9,6 +9,7 @@ import ctypes.util
 import fcntl
 import functools
 import gc
+import http.client
 import io
 import os
 import pathlib
@@ -400,6 +401,37 @@ def test_waits():
         late.start()
         assert list(frames.listen(source, limit=64)) == [b"hi", frames.Cut(1)], is_raw
         late.join(), source.close()
+    here, there = socket.socketpair()
+    here.setblocking(False)
+    late = threading.Timer(0.2, lambda: (there.sendall(b"\0\x04\x02hi\0\x07"), there.close()))
+    late.start()
+    with here, here.makefile("rb") as source:
+        assert in_time(lambda: list(frames.listen(source, limit=64))) == [b"hi", frames.Cut(1)]
+    late.join()
+
+
+class Shut(socket.socket):
+    """A socket that reads nothing once a stream has ended, though it stays open, as that of TLS does."""
+
+    def recv_into(self, *given):
+        return super().recv_into(*given) if select.select([self], [], [], 0)[0] else 0
+
+
+def test_time_limit():
+    """What has a time limit ends where a read gives nothing, though its socket doesn't block and stays open behind that."""
+    stream = b"\0\x04\x02hi\0\x07"
+    for limit in (None, 60):
+        here, there = socket.socketpair()
+        here.settimeout(limit)
+        there.sendall(b"HTTP/1.1 200 OK\r\nContent-Length: %d\r\n\r\n" % len(stream) + stream)
+        with here, there, http.client.HTTPResponse(here) as response:
+            response.begin()
+            assert in_time(lambda: list(frames.listen(response, limit=64))) == [b"hi", frames.Cut(1)], limit
+        here, there = socket.socketpair()
+        with Shut(fileno=here.detach()) as shut, there:
+            shut.settimeout(limit)
+            there.sendall(stream)
+            assert in_time(lambda: list(frames.listen(shut.makefile("rb"), limit=64))) == [b"hi", frames.Cut(1)], limit
 
 
 def test_aio():
@@ -1043,6 +1075,7 @@ def main():
     test_port()
     test_threads()
     test_waits()
+    test_time_limit()
     test_aio()
     test_inside(None)
     test_raised(None)
