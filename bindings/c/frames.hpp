@@ -109,7 +109,13 @@ class receiver {
     }
     receiver &operator=(receiver &&other) noexcept {
         if (this != &other) {
+            // the callback of a push puts another one in this place: the rest of a frame that was too long is no frame for that either
+            const bool is_inside = pushing_ && state_.past;
             state_ = std::exchange(other.state_, frames_receiver(other.state_.sentinel));
+            if (is_inside && !other.pushing_) {
+                state_.count = 0;
+                state_.past = 1;
+            }
             buffer_ = std::move(other.buffer_);
             other.buffer_.clear();
             kind_ = other.kind_;
@@ -140,8 +146,9 @@ class receiver {
     // How many bytes are begun.
     std::size_t begun() const { return frames_begun(&state_); }
 
-    // Ends the stream, and begins a new one: whether it ended inside a frame.
-    bool finish() { return frames_finish(&state_); }
+    // Ends the stream, and begins a new one: whether it ended inside a frame. Inside `hear` it changes nothing and returns false: the rest of
+    // the chunk may be the end of a frame.
+    bool finish() { return !pushing_ && frames_finish(&state_); }
 };
 
 // Sends messages over a line. Moving it keeps whether the last send went out, and leaves a new sender. Two senders of one line would be a

@@ -50,6 +50,20 @@ static void inside() {
     };
     HOLDS(receiver.push(line, note));
     HOLDS((heard == std::vector<std::string>{"damaged", "last", "outer", "last"}));
+    // the end of a frame that is too long is no message, whatever is done inside: a stream that ends, another receiver in its place
+    for (const bool is_replaced : {false, true}) {
+        frames::receiver small(4);
+        heard.clear();
+        HOLDS(small.push(std::string("\0\x09\7abc\4\2hi\0\4\2ok\0", 16), [&](const frames::event &e) {
+            if (auto *m = std::get_if<frames::message>(&e))
+                heard.push_back(text(m->content));
+            else if (is_replaced)
+                small = frames::receiver(32);
+            else
+                HOLDS(!small.finish());
+        }));
+        HOLDS((heard == std::vector<std::string>{"ok"}));
+    }
     // a receiver answers by a sender, and a line that loops back finds it sending
     std::string answers;
     HOLDS(receiver.push(line, [&](const frames::event &) { HOLDS(sender.send(inner, [&](frames::bytes b) { return answers.append(b.begin(), b.end()), true; })); }));
