@@ -8,6 +8,7 @@ const it = (id) => document.getElementById(id);
 const SHOWN = 500, KEPT = 100000, KEPT_BYTES = 1 << 26, WINDOW = 2000;
 let table, lines, writing, port, reader;
 let began = performance.now(), entries = [], held = 0, dropped = 0, kept = new Kept(KEPT_BYTES), kinds = new Map(), recent = [], fresh = [], paused = false;
+let last; // byte that came of the port
 
 const form = () => it("form").value;
 const settings = () => ({ form: form(), table, type: it("type").value, sentinel: parseInt(it("sentinel").value || "0", 16), hex: it("hex").checked });
@@ -39,11 +40,11 @@ function settle() {
   it("send").disabled = !port || !writing;
   show();
 }
-/** Begins a stream anew. */
+/** Begins a stream anew; of an open port, by other settings, where it is. */
 function begin() {
-  const chosen = settings();
+  const chosen = settings(), isInside = port !== undefined && last !== undefined && last !== chosen.sentinel;
   if (chosen.form === "value" && !chosen.type) { lines = writing = undefined; return; }
-  lines = new Lines(chosen);
+  lines = new Lines(chosen, isInside);
   writing = new Writing(chosen);
 }
 function clear() {
@@ -58,6 +59,7 @@ function clear() {
 /** Takes bytes from the line. */
 export function take(bytes) {
   keep(bytes);
+  last = bytes.at(-1) ?? last;
   if (lines) note(lines.push(bytes));
 }
 function keep(bytes) {
@@ -144,7 +146,7 @@ async function connect() {
   const chosen = await navigator.serial.requestPort();
   await chosen.open({ baudRate: Number(it("baud").value) });
   if (isBusy()) return chosen.close(); // a file was dropped meanwhile
-  port = chosen;
+  [port, last] = [chosen, undefined];
   it("connect").disabled = true;
   it("close").disabled = false;
   begin();

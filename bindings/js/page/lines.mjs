@@ -28,11 +28,15 @@ function kindOf(table, type, place, text) {
   return variants.find(({ name }) => text === JSON.stringify(name) || text.startsWith(`{${JSON.stringify(name)}:`))?.name ?? type;
 }
 
-/** How messages are read: `form` is "value" (of a table's type), "counted" or "plain"; `hex` shows the bytes of a value as digits. */
+/**
+ * How messages are read: `form` is "value" (of a table's type), "counted" or "plain"; `hex` shows the bytes of a value as digits. If it begins
+ * inside a frame, nothing is shown up to the next delimiter: the end of a frame may look like a message.
+ */
 export class Lines {
-  #receiver; #at = 0; #recent = new Uint8Array(0);
-  constructor({ form, table, type, sentinel = 0, hex = false }) {
-    Object.assign(this, { form, table, type, hex });
+  #receiver; #at = 0; #recent = new Uint8Array(0); #isInside;
+  constructor({ form, table, type, sentinel = 0, hex = false }, isInside = false) {
+    Object.assign(this, { form, table, type, sentinel, hex });
+    this.#isInside = isInside;
     this.place = form === "value" ? placeIn(table, type) : undefined;
     this.#receiver = new Receiver(LIMIT, { plain: form !== "counted", sentinel });
   }
@@ -40,6 +44,12 @@ export class Lines {
   get bytes() { return this.#at; }
   /** An entry for each message and each damage that these bytes end: `kind`, `from` and `to`, `text`, its `bytes`, whether it is `bad`. */
   push(chunk) {
+    if (this.#isInside) {
+      const end = chunk.indexOf(this.sentinel) + 1, passed = end || chunk.length;
+      this.#isInside = end === 0;
+      this.#at += passed;
+      chunk = chunk.subarray(passed);
+    }
     const entries = this.#receiver.push(chunk).map((event) => this.#entry(event, chunk));
     this.#at += chunk.length;
     // the bytes of what is begun, to be shown if it is damaged

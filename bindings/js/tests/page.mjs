@@ -36,6 +36,7 @@ const stub = `
       open: async ({ baudRate }) => { if (globalThis.refuses) throw new Error("it is open elsewhere"); globalThis.baud = baudRate; }, close: async () => { globalThis.isClosed = true; },
       readable: new ReadableStream({ async start(to) {
         for (let at = 0, n = 1; at < bytes.length; n = (n * 7 + 3) % 61 + 1) { to.enqueue(bytes.slice(at, at + n)); at += n; await new Promise((go) => setTimeout(go, 1)); }
+        globalThis.more = (...more) => to.enqueue(Uint8Array.from(more));
         globalThis.lost = () => { port.readable = null; to.error(new Error("the device is gone")); };
       } }),
       writable: { getWriter: () => ({ async write(it) { if (fails) throw new Error("broken"); written.push(...it); }, releaseLock() {} }) },
@@ -195,6 +196,20 @@ try {
     await drop("blob.bin", `Uint8Array.of(4, 2, 1, 255, 0)`);
     await browser.until(`document.querySelector("#rows td.text")?.textContent === ${JSON.stringify(text)}`, text);
   }
+
+  // a setting that is changed inside a frame: its end, which would be a message by itself, is none
+  await set("form", "plain", "change");
+  await click("clear");
+  await browser.run("globalThis.lost = undefined; globalThis.isClosed = false");
+  await click("connect");
+  await browser.until(`globalThis.lost && document.getElementById("foot").innerText.startsWith("${session.length} bytes")`, "all bytes have come again");
+  await set("sentinel", "00");
+  await click("clear");
+  await browser.run("more(2, 104, 0, 2, 105, 0)");
+  await browser.until(`document.querySelectorAll("#rows tr").length > 0`, "the next message is shown");
+  assert.deepEqual((await rows()).map((it) => [it[1], it[3]]), [["3–5", '"i"']]);
+  await click("close");
+  await browser.until(`globalThis.isClosed`, "the port is closed again");
 
   // of long lines no more is kept than of the bytes
   await set("form", "plain", "change");

@@ -282,6 +282,12 @@ function lines() {
     for (const it of [...entries, ...shown.finish()]) assert.deepEqual(it.bytes, line.slice(it.from, it.to));
     for (const it of entries) JSON.parse(logLine({ ...it, seconds: 1 }));
   }
+  // inside a frame, whose end would be a message by itself
+  const inside = Uint8Array.of(4, 2, 104, 105, 0, 4, 2, 111, 107, 0);
+  for (let at = 0; at <= inside.length; at++) {
+    const shown = new Lines({ form: "counted" }, true), entries = [inside.subarray(0, at), inside.subarray(at)].flatMap((it) => shown.push(it));
+    assert.deepEqual([shown.bytes, ...entries.map(({ from, to, text, bytes }) => [from, to, text, ...bytes])], [10, [5, 9, '"ok"', 4, 2, 111, 107]]);
+  }
   const writing = new Writing({ form: "counted" }), shown = new Lines({ form: "counted" }), sender = new frames.Sender();
   for (const m of ["hi", "\ufeffhi", "\n", "é€", ""].map((it) => new TextEncoder().encode(it))) {
     const [{ text }] = shown.push(sender.send(m));
