@@ -2,7 +2,7 @@
 
     with TypedReceiver("messages.rs", "Reading") as receiver:
         for answer in receiver.listen(open("line.bin", "rb")):
-            ...                     # {"value": {...}}, {"damaged": {...}}, {"too_long": {...}}, {"cut": {...}}
+            ...                     # {"value": {...}}, {"damaged": {...}}, {"too_deep": {...}}, {"too_long": {...}}, {"cut": {...}}
     frame = write("messages.rs", "Reading", [{"level": -21, "light": "Dark"}])
 
 The library reads the declarations anew in each call; it takes one file. The program is used for a folder or several files, if `wire=` or
