@@ -238,7 +238,8 @@ static inline struct frames_event frames_push_plain(struct frames_receiver *rece
     return frames_c_push_plain(receiver, frames_to(buffer), room, frames_from(bytes), length);
 }
 
-/* A push of one byte, for an interrupt handler. Returns what was found, and writes the event unless that is FRAMES_MORE. */
+/* A push of one byte, for an interrupt handler. Returns what was found, and writes the event unless that is FRAMES_MORE or
+ * FRAMES_MISUSED. */
 static inline uint8_t frames_push_byte(struct frames_receiver *receiver, uint8_t *buffer, size_t room, uint8_t byte,
                                        struct frames_event *event) {
     if (!receiver || !event || !frames_is_there(buffer, room)) {
