@@ -494,7 +494,7 @@ def _pieces(source: Any, ends: bool, is_over: Optional[Callable[[], bool]] = Non
             is_ready = (is_port and source.in_waiting > 0) or _is_ready(descriptor)
             continue
         piece = _read(source)
-        if piece == b"" and not is_blocking and is_buffered and isinstance(below, socket.SocketIO):
+        if piece == b"" and not is_blocking and is_buffered and not never_waits:
             piece = below.read(_MOST)  # of which the buffer doesn't say whether it ended or has none yet
         may_hold = is_buffered and piece is not None and len(piece) == _MOST
         if piece:

@@ -401,13 +401,33 @@ def test_waits():
         late.start()
         assert list(frames.listen(source, limit=64)) == [b"hi", frames.Cut(1)], is_raw
         late.join(), source.close()
-    here, there = socket.socketpair()
-    here.setblocking(False)
-    late = threading.Timer(0.2, lambda: (there.sendall(b"\0\x04\x02hi\0\x07"), there.close()))
-    late.start()
-    with here, here.makefile("rb") as source:
-        assert in_time(lambda: list(frames.listen(source, limit=64))) == [b"hi", frames.Cut(1)]
-    late.join()
+    for is_own in (False, True):  # of the system's socket, and of a device of one's own
+        here, there = socket.socketpair()
+        here.setblocking(False)
+        late = threading.Timer(0.2, lambda: (there.sendall(b"\0\x04\x02hi\0\x07"), there.close()))
+        late.start()
+        with here, io.BufferedReader(Late(here)) if is_own else here.makefile("rb") as source:
+            assert in_time(lambda: list(frames.listen(source, limit=64))) == [b"hi", frames.Cut(1)], is_own
+        late.join()
+
+
+class Late(io.RawIOBase):
+    """A device that doesn't block, over a socket."""
+
+    def __init__(self, socket):
+        self.socket = socket
+
+    def readable(self):
+        return True
+
+    def fileno(self):
+        return self.socket.fileno()
+
+    def readinto(self, room):
+        try:
+            return self.socket.recv_into(room)
+        except BlockingIOError:
+            return None
 
 
 class Shut(socket.socket):
