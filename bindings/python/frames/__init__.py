@@ -319,16 +319,19 @@ class Sender(_Single):
         with self._turn.lock:
             out = memoryview(self.send(message))
             try:
-                self._turn.is_inside = True
-                while out:
-                    count = line.write(out)
-                    if count is True or (count and count > len(out)):  # else bytes would go out twice, or be missing
-                        raise TypeError(f"a write of the line returns how many bytes it took, not {count!r}")
-                    if not count or count < 0:  # as a write of C says that it failed
-                        raise OSError("the line takes nothing")
-                    out = out[count:]
-                line.flush()
-            finally:
+                try:
+                    self._turn.is_inside = True
+                    while out:
+                        count = line.write(out)
+                        if count is True or (count and count > len(out)):  # else bytes would go out twice, or be missing
+                            raise TypeError(f"a write of the line returns how many bytes it took, not {count!r}")
+                        if not count or count < 0:  # as a write of C says that it failed
+                            raise OSError("the line takes nothing")
+                        out = out[count:]
+                    line.flush()
+                finally:
+                    self._turn.is_inside = False
+            finally:  # again: before Python 3.10 a signal handler may raise just before that
                 self._turn.is_inside = False
             self.sent()
 
@@ -359,12 +362,15 @@ class Receiver(_Single):
                 self._refuse_inside()
                 is_begun = True
                 try:
-                    self._turn.is_inside = True
-                    return self._pushed(bytes(view))  # which may find no memory for a copy
-                except BaseException:
-                    self._skip()
-                    raise
-                finally:
+                    try:
+                        self._turn.is_inside = True
+                        return self._pushed(bytes(view))  # which may find no memory for a copy
+                    except BaseException:
+                        self._skip()
+                        raise
+                    finally:
+                        self._turn.is_inside = False
+                finally:  # again: before Python 3.10 a signal handler may raise just before that
                     self._turn.is_inside = False
         except BaseException as error:
             if not is_begun and not isinstance(error, (BufferError, RuntimeError, TypeError, ValueError)):  # these: misuse, which changes nothing

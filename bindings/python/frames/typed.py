@@ -149,12 +149,17 @@ class _Stream(_Single):
             if self._turn.is_inside:  # by a signal handler
                 raise RuntimeError("a call of a receiver inside another one")
             try:
-                self._turn.is_inside = True
-                if begins:  # what a `listen` left over is no part of this stream
-                    self._begin()
-                self._take(view)  # which is read again, if memory ends before it is answered
-                return self._answered(ends)
-            finally:
+                try:
+                    self._turn.is_inside = True
+                    if begins:  # what a `listen` left over is no part of this stream
+                        self._begin()
+                    self._take(view)  # which is read again, if memory ends before it is answered
+                    return self._answered(ends)
+                finally:
+                    self._turn.is_inside = False
+                    if ends:
+                        self._begin()
+            finally:  # again: before Python 3.10 a signal handler may raise just before that
                 self._turn.is_inside = False
                 if ends:
                     self._begin()

@@ -338,6 +338,49 @@ def test_raised(folder):
         assert receiver.answers(b"\7\0") == [{"damaged": {"from": 0, "to": 1}}]
 
 
+def stopped(call, line):
+    """Whether a call was stopped by an exception in its so many-th line, as a signal handler may raise it."""
+    package, left = os.path.dirname(frames.__file__), [line]
+
+    def traced(frame, event, _):
+        if os.path.dirname(frame.f_code.co_filename) != package:
+            return None
+        left[0] -= event == "line"
+        if left[0] < 0:
+            raise KeyboardInterrupt
+        return traced
+
+    sys.settrace(traced)
+    try:
+        call()
+    except KeyboardInterrupt:
+        return True
+    finally:
+        sys.settrace(None)
+    return False
+
+
+def test_stopped(folder):
+    """What is stopped at any of its lines isn't inside of a call for ever."""
+    path = os.path.join(folder, "stopped.rs") if folder else None
+    if folder:
+        pathlib.Path(path).touch()
+    for line in range(1000):
+        receiver, sender, out = frames.Receiver(64), frames.Sender(), io.BytesIO()
+        calls = [lambda: receiver.push(b"\0\4\2hi\0\5a\0"), lambda: sender.write(out, b"one")]
+        if folder:
+            of_type = typed.TypedReceiver(path, "[u8; 1]")
+            calls.append(lambda: of_type.answers(b"\0\2\7\0\2"))
+        if not any([stopped(call, line) for call in calls]):
+            break
+        assert receiver.push(b"\0\4\2hi\0")[-1] == b"hi", line
+        sender.write(out, b"two")
+        assert list(frames.listen(io.BytesIO(out.getvalue()), 64))[-1] == b"two", line
+        if folder:
+            assert of_type.answers(b"\0\2\7\0") == [{"value": [7]}], line
+    assert 20 < line < 999, line
+
+
 def test_lengths():
     """No type is made for each length: it would cost more than the message, and stay."""
     sender, receiver = frames.Sender(), frames.Receiver(1 << 12)
@@ -1099,6 +1142,7 @@ def main():
     test_aio()
     test_inside(None)
     test_raised(None)
+    test_stopped(None)
     test_fork(None)
     if len(sys.argv) > 1:
         by_library = typed.library()
@@ -1110,6 +1154,7 @@ def main():
             test_typed(sys.argv[1], None)
             test_inside(sys.argv[1])
             test_raised(sys.argv[1])
+            test_stopped(sys.argv[1])
             test_fork(sys.argv[1])
             test_closed_meanwhile(sys.argv[1], None)
             test_value_field(sys.argv[1], None)
