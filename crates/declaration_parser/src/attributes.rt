@@ -96,9 +96,7 @@ impl Tokens {
 
     /// The content of the marks after the first word. Between which they are is one to serde.
     pub fn held(&self, words: Words) -> Words {
-        match self.group(words.behind_first()) {
-            Some((inside, _)) => inside,
-            None => Words::default(),
-        }
+        let none = (Words::default(), words);
+        self.group(words.behind_first()).unwrap_or(none).0
     }
 }

@@ -114,9 +114,6 @@ impl Marking {
 
     /// Whether all derives that mark have this condition, so that what is under it holds where they do.
     pub fn is_under(&self, tokens: &Tokens, condition: Words) -> bool {
-        match self.condition {
-            Some(own) => !self.has_others && tokens.are_same(own, condition),
-            None => false,
-        }
+        matches!(self.condition, Some(own) if !self.has_others && tokens.are_same(own, condition))
     }
 }

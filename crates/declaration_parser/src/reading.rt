@@ -111,12 +111,9 @@ fn refuse_nothing(tokens: &Tokens, finds_none: bool, faults: &mut Faults)
     if !finds_none || !faults.is_empty() {
         return;
     }
-    let file = if tokens.files.len() == 1 {
-        tokens.name_of_file(0)
-    } else {
-        ""
-    };
-    faults.put_line(file, 1);
+    let count = tokens.files.len();
+    let file = if count == 1 { 0 } else { count };
+    faults.put_line(tokens.name_of_file(file), 1);
     faults.put("nothing is marked: write `// message` in a line of its own before a declaration\n");
 }
 

@@ -132,11 +132,8 @@ impl Parser<'_, '_> {
         let first = tokens.first(words);
         let name = tokens.text(first.name);
         let has_value = words.len() == 3 && matches!(tokens.nth(words, 1).word, Word::Equals);
-        let value = tokens.text(if has_value {
-            tokens.nth(words, 2).name
-        } else {
-            NO_NAME
-        });
+        let value = has_value.then_some(tokens.last(words)).unwrap_or_default();
+        let value = tokens.text(value.name);
         let is_field = self.at.field.is_some();
         let not_written = is_listed(name, "skip skip_serializing");
         let not_read = is_listed(name, "skip skip_deserializing");
