@@ -53,7 +53,7 @@ pub fn renamed_derive(tokens: &Tokens, words: Words) -> Option<usize> {
     let mut is_other = false;
     for place in words.from.saturating_add(2)..words.to {
         let (own, by, name) = (tokens.at(place - 2), tokens.at(place - 1), tokens.at(place));
-        let is_own = matches!(own.word, Word::OfSerde) && !is_other;
+        let is_own = own.word == if is_other { Word::Own } else { Word::OfSerde };
         if matches!(own.word, Word::Import) {
             is_other = has_own(tokens.text(by.name));
         } else if matches!(by.word, Word::As)

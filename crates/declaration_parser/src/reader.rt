@@ -8,6 +8,7 @@ use crate::texts::{first_letter, is_listed, is_of_word};
 use crate::tokens::{File, Name, Token, Tokens, Word, Words, word_of};
 use crate::words::{ALMOST, ALMOST_WAY};
 use std::alloc::{AllocError, Global};
+use unicode_ident::is_xid_start;
 use unicode_normalization::to_nfc;
 
 /// What is said of a mark in what is skipped.
@@ -331,7 +332,7 @@ impl<'a> Reader<'a> {
         self.push(Token {
             name,
             word,
-            is_name: first.is_alphabetic() || first == '_',
+            is_name: is_xid_start(first) || first == '_',
             line,
             span: 0,
         });
