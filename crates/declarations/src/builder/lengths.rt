@@ -194,6 +194,8 @@ impl Builder<'_> {
         if let Some((inside, rest)) = self.tokens.group(words)
             && self.tokens.front(words) != Word::Bracket
         {
+            // nothing may say their type there, so that they are of `i32`
+            let most = most.min(0x7FFF_FFFF);
             return Some((self.value(inside, at, most, depth)?, rest));
         }
         if let Some(number) = literal(self.tokens.first_text(words), most) {
