@@ -110,8 +110,8 @@ impl<'a> Scopes<'a> {
         }
     }
 
-    /// What the name of a crate means: the only library whose folder has it, a known one, or what `extern crate` says.
-    pub(super) fn crate_of(&self, name: Name) -> Meaning {
+    /// What the name of a crate means to a scope: the only library whose folder has it, a known one, or what `extern crate` says.
+    pub(super) fn crate_of(&self, scope: usize, name: Name) -> Meaning {
         let mut found = Meaning::Nothing;
         // a folder may be called so, but not the crate in it
         let is_of_language = is_listed(self.tokens.text(name), "alloc core std");
@@ -126,6 +126,11 @@ impl<'a> Scopes<'a> {
         }
         for it in &self.imports {
             if it.is_crate && it.name == name {
+                let is_ours = self.root_of(scope) == Meaning::Module(it.scope);
+                // elsewhere it may be another crate
+                if found.is_nothing() && it.lead.before.is_one() && !is_ours {
+                    found = Meaning::Outside;
+                }
                 found = found.both(it.lead.before);
             }
         }

@@ -61,7 +61,7 @@ impl Meaning {
     }
 
     /// Whether it is one thing that is known.
-    fn is_one(self) -> bool {
+    pub(super) fn is_one(self) -> bool {
         matches!(
             self,
             Meaning::Module(_) | Meaning::Item(_) | Meaning::Known(_)
@@ -330,7 +330,7 @@ impl<'a> Scopes<'a> {
         if space != Space::Roots {
             return self.by_stars(module, name, space);
         }
-        match (self.crate_of(name), self.way_by_stars(module, name, space)) {
+        match (self.crate_of(module, name), self.way_by_stars(module, name, space)) {
             (Meaning::Nothing, Meaning::Open | Meaning::Doubtful | Meaning::Nothing) =>
                 Meaning::Outside,
             (it, Meaning::Open) if !self.has_namesake(name, false) => it,
@@ -342,7 +342,7 @@ impl<'a> Scopes<'a> {
     fn root(&self, scope: usize, name: Name, is_absolute: bool) -> Meaning {
         let module = self.module_of(scope);
         match word_of(name) {
-            _ if is_absolute => match self.crate_of(name) {
+            _ if is_absolute => match self.crate_of(module, name) {
                 Meaning::Nothing => Meaning::Outside,
                 found => found,
             },
