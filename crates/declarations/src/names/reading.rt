@@ -91,6 +91,7 @@ impl<'a> Scopes<'a> {
                 return self.read_use(import, item.words);
             }
             ItemKind::Rules if !is_in_impl => {
+                self.read_include(item);
                 return self.read_made(scope, is_conditional, item.inside, false);
             }
             ItemKind::Call if !is_in_impl => return self.read_call(item),
@@ -118,9 +119,10 @@ impl<'a> Scopes<'a> {
 
     /// Reads what the call of a macro may bring in or declare.
     fn read_call(&mut self, item: &items::Item) {
+        self.read_include(item);
         let has_rules = self.has_rules(self.tokens.first(item.words).name);
         match self.tokens.first_text(item.words) {
-            "include" => self.read_include(item),
+            "include" => self.add_include(item.scope),
             _ if self.is_inner(item.scope) => self.read_call_of(item),
             "endpoints" | "topics" if !has_rules => {
                 self.failed = self.endpoints.push(item.inside).is_err() || self.failed;
@@ -130,11 +132,11 @@ impl<'a> Scopes<'a> {
         }
     }
 
-    /// Reads the call of `include!`: its scope may have any name, and the file that it names has any of those round the call.
+    /// Reads which files `include!` may bring in, also by another macro: such a file has any of the names round the call.
     fn read_include(&mut self, item: &items::Item) {
-        self.add_include(item.scope);
+        let is_sure = self.tokens.first_text(item.words) == "include";
         for file in 0..self.tokens.files.len() {
-            if self.has_file_name(item.inside, file) {
+            if (is_sure || !self.is_inner(item.scope)) && self.has_file_name(item.inside, file) {
                 self.add_include(file);
             }
         }
