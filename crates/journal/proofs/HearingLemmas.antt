@@ -1,16 +1,18 @@
 -- How answers are handed on, push by push, and what is read of a store so far.
-use Rattle.std.proofs.Common.{◌≡◌, ℕ, ◌+◌, ◌-◌, ◌<◌, ◌≤◌, ◌/◌, ◌^◌, min, nat_lt, Bool, true, false, get_or, List, [], ◌∷◌, ◌++◌, length, take, drop, Option, Some, None, Result, Ok, Err, refl, sym, ap, ◌∙◌, subst, inl, inr, append_assoc, arith, rules}
+use Rattle.std.proofs.Common.{◌≡◌, ℕ, ◌+◌, ◌-◌, ◌*◌, ◌<◌, ◌≤◌, ◌/◌, ◌^◌, min, nat_lt, Bool, true, false, get_or, List, [], ◌∷◌, ◌++◌, length, take, drop, Option, Some, None, Result, Ok, Err, refl, sym, ap, ◌∙◌, subst, inl, inr, append_assoc, arith, rules}
 use Rattle.std.specs.Prelude.{IfSome, IfErr, IsErrAnd, if◌then◌else◌}
 use Rattle.std.proofs.lemmas.Result.{err_from_is_err_and}
 use Rattle.std.proofs.lemmas.Bool.{lt-ltb, le-ltb, cases_lt}
-use Rattle.std.proofs.lemmas.List.{append-nil, take-append-le, take_all, take_more, length-take, length-append}
+use Rattle.std.proofs.lemmas.List.{append-nil, take-append-le, take_all, take_more, length-take, length-append, take-append-drop}
 use Rattle.std.proofs.Math.Seq.{take-add}
+use Rattle.line_io.specs.Device.{LineState}
 use Rattle.postcard_tree.specs.Tree.{Tree}
 use Rattle.link.specs.declared.decoding.ArrayBuffer.{ArrayBuffer}
 use Rattle.link.specs.Decoding.{in_array}
 use Rattle.link.specs.Lemmas.Givens.{kept_given}
+use Rattle.link.specs.Lemmas.Lengths.{parts_on}
 use Rattle.link.specs.Receivers.{IsBehind}
-use Rattle.link.specs.Pushes.{Answered, IsStretchOf}
+use Rattle.link.specs.Pushes.{Answered, IsLeast, IsStretchOf}
 use Rattle.link.specs.Listening.{HasGiven}
 use Rattle.link.specs.Judged.{Judging}
 use Rattle.link.specs.declared.receiver.Answer.{Answer}
@@ -22,7 +24,7 @@ use Rattle.journal.specs.Records.{past, past_all}
 use Rattle.journal.specs.Places.{Located, answers_in, IsLocatedIn, AreLocatedIn, Numbering, numbered_from, furthest, believed, numbered_behind, all_believed, numbered_after}
 use Rattle.journal.specs.declared.numbers.Count.{Count}
 use Rattle.journal.specs.Visits.{VisitorLaws}
-use Rattle.journal.specs.Reading.{IsRead, IsReadTo, HearsLog, HearsMore, HandsOnBelieved, HearsPart, IsHandedTo, ReadCause, HandedUntil, numbering_of}
+use Rattle.journal.specs.Reading.{IsRead, IsReadTo, HearsLog, HearsMore, HandsOnBelieved, HearsPart, IsHandedTo, ReadByCalls, StopsBefore, StoppedAt, ReadCause, HandedUntil, numbering_of}
 use Rattle.journal.specs.declared.reading.ReadError.{ReadError}
 use Rattle.journal.specs.declared.reading.ReadError.TheVariants.{Fault, NoMemory as NoMemoryFound, Halted}
 
@@ -125,6 +127,18 @@ module _ {V : Type 0} (holds : List ℕ → Tree → Type 0) (reads : Tree → �
     within = omega (arith, h.within, h.so_far);
   }
 
+  -- what is said of some bytes is said of equal ones
+  pub read_as : (first : ℕ) (answers : List (Answer (ℕ × V))) (c : Numbering) (x y : List ℕ) → x ≡ y → IsReadTo holds reads limit first answers c x → IsReadTo holds reads limit first answers c y
+  read_as first answers c x y e g = record {
+    located = g.located;
+    given = subst (λ z. HasGiven holds reads limit 0 (answers_in g.located) z) e g.given;
+    places = subst (λ z. AreLocatedIn holds reads limit z [] g.located) e g.places;
+    handed_on = g.handed_on;
+    numbers = g.numbers;
+    within = g.within;
+    so_far = subst (λ z. c.through ≤ length z) e g.so_far;
+  }
+
 module _ {V : Type 0} (holds : List ℕ → Tree → Type 0) (reads : Tree → ℕ × V → Type 0) (limit first : ℕ) (front rest : List ℕ) (used : ℕ) where
   -- a push that answered nothing
   pub read_quiet : (answers : List (Answer (ℕ × V))) (c : Numbering) → IsReadTo holds reads limit first answers c front
@@ -138,6 +152,24 @@ module _ {V : Type 0} (holds : List ℕ → Tree → Type 0) (reads : Tree → �
     within = g.within;
     so_far = omega (arith, g.so_far, length-append front (take used rest));
   }
+
+  -- fewer bytes than a push takes bring about nothing
+  pub read_before : (answers : List (Answer (ℕ × V))) (c : Numbering) (u : ℕ) → IsReadTo holds reads limit first answers c front
+      → IsLeast holds limit 0 front rest used → u < used → IsReadTo holds reads limit first answers c (front ++ take u rest)
+  read_before answers c u g h l = record {
+    located = g.located;
+    given = record { verdicts = g.given.verdicts; given = h.same g.given.verdicts g.given.given u l; matching = g.given.matching };
+    places = located_longer holds reads limit front (take u rest) [] g.located g.places;
+    handed_on = g.handed_on;
+    numbers = g.numbers;
+    within = g.within;
+    so_far = omega (arith, g.so_far, length-append front (take u rest));
+  }
+
+  -- so it is said of a push, whatever it answered
+  pub least_of : (r : Result (Option (Answer (ℕ × V))) NoMemory) → Answered holds reads limit 0 front rest used r → IsLeast holds limit 0 front rest used
+  least_of (Ok o) (a, says, push) = push.least
+  least_of (Err x) l = l.least
 
   -- where one that answered stands
   located_at : (answers : List (Answer (ℕ × V))) (x : Answer (ℕ × V)) (stretch heard : ℕ) → HasGiven holds reads limit 0 answers front
@@ -255,17 +287,29 @@ pub reads_none : (held : Option (List ℕ)) (P : List ℕ → Type 0) → P [] �
 reads_none None P h = tt
 reads_none (Some bytes) P h = h
 
+-- the calls that gave these bytes, and one that failed
+pub calls_failed : (old mid new : LineState) (at : ℕ) → old.calls_left ≤ mid.calls_left + at → mid.calls_left ≤ old.calls_left → at ≤ 1024 * (old.calls_left - mid.calls_left)
+    → new.calls_left ≡ mid.calls_left - 1 → ReadByCalls old new 1 at
+calls_failed old mid new at few down most one = record { fewest = omega (arith, few, one); most = omega (arith, most, down, one) }
+
+-- the same, and one that gave some bytes more, of which not all were read on
+pub calls_partly : (old mid new : LineState) (at n : ℕ) → old.calls_left ≤ mid.calls_left + at → mid.calls_left ≤ old.calls_left → at ≤ 1024 * (old.calls_left - mid.calls_left)
+    → new.calls_left ≡ mid.calls_left - 1 → new.calls_left < mid.calls_left → n ≤ 1024 → (count : ℕ) → at ≤ count → count < at + n → ReadByCalls old new 1 count
+calls_partly old mid new at n few down most one some fits count from to = record { fewest = omega (arith, few, one, from); most = omega (arith, most, down, one, some, fits, to) }
+
 -- what is said at a fault, of the bytes so far
-pub handed_to : {S V : Type 0} {N : ℕ} (took : S → List (Answer (ℕ × V)) → S → Type 0) (judging : Judging (ℕ × V)) (first : ℕ) (old new : S) (receiver : Reception (ArrayBuffer N)) (count : Count) (held : Option (List ℕ))
-    → IfSome held (λ bytes. HearsMore took judging.holds judging.reads first old new receiver [] count (take count.heard bytes)) → IfSome held (λ bytes. IsHandedTo took judging N first old new bytes)
-handed_to took judging first old new receiver count None h = tt
-handed_to took judging first old new receiver count (Some bytes) h = record {
+pub handed_to : {S V : Type 0} {N : ℕ} (took : S → List (Answer (ℕ × V)) → S → Type 0) (halts : S → Type 0) (judging : Judging (ℕ × V)) (first : ℕ) (old new : S) (receiver : Reception (ArrayBuffer N)) (count : Count) (calls : ℕ → Type 0) (held : Option (List ℕ))
+    → calls count.heard → IfSome held (λ bytes. HearsMore took judging.holds judging.reads first old new receiver [] count (take count.heard bytes)) → IfSome held (λ bytes. IsHandedTo took halts judging N first old new Fault calls bytes)
+handed_to took halts judging first old new receiver count calls None by h = tt
+handed_to took halts judging first old new receiver count calls (Some bytes) by h = record {
   count = count.heard;
   within = (let long = h.hears.heard in let part = length-take count.heard bytes in omega (arith, long, part));
+  by = by;
   answers = h.more;
   handed = h.handed;
   numbers = numbering_of count;
   read = h.hears.read;
+  stops = tt;
 }
 
 -- how many calls were used, by the bytes that were heard
@@ -304,31 +348,94 @@ module _ {S : Type 0} (P Q halts : S → Type 0) where
   so_far_map new NoMemoryFound f h = f new h
   so_far_map new Halted f (v, h, stops) = (v, f v h, stops)
 
-module _ {S V : Type 0} {N : ℕ} {took : S → List (Answer (ℕ × V)) → S → Type 0} (laws : VisitorLaws took) (judging : Judging (ℕ × V)) (first : ℕ) (old mid new : S) where
+-- a log by what was read before, a part of a chunk, and the rest
+parts_of : (bytes before after piece done rest more : List ℕ) (used : ℕ) → before ++ after ≡ bytes → after ≡ piece ++ more → piece ≡ done ++ rest
+    → bytes ≡ ((before ++ done) ++ take used rest) ++ (drop used rest ++ more)
+parts_of bytes before after piece done rest more used p q r =
+    let cut = take used rest in
+    let left = drop used rest in
+    let split : after ≡ (done ++ cut) ++ (left ++ more) = q ∙ ap (λ x. x ++ more) (parts_on piece done rest used r) ∙ append_assoc (done ++ cut) left more in
+    sym p ∙ ap (λ x. before ++ x) split ∙ sym (append_assoc before (done ++ cut) (left ++ more)) ∙ ap (λ x. x ++ (left ++ more)) (sym (append_assoc before done cut))
+
+-- the first of two parts
+first_part : (bytes front rest : List ℕ) → bytes ≡ front ++ rest → take (length front) bytes ≡ front
+first_part bytes front rest e = ap (take (length front)) e ∙ take-append-le (length front) front rest (omega arith) ∙ take_all (length front) front (omega arith)
+
+-- why no more of a log was read on than what comes before the last byte of a push
+stops_before : {V : Type 0} (judging : Judging (ℕ × V)) (limit : ℕ) (front rest : List ℕ) (used : ℕ) (answers : List (Answer (ℕ × V))) (stretch : ℕ) (r : Result (Option (Answer (ℕ × V))) NoMemory) (e : ReadError) (behind bytes : List ℕ)
+    → HasGiven judging.holds judging.reads limit 0 answers front → Answered judging.holds judging.reads limit 0 front rest used r → IsStretchOf 0 front rest used r stretch → 0 < used → used ≤ length rest
+    → StoppedAt e r → bytes ≡ (front ++ take used rest) ++ behind → StopsBefore judging limit answers (length front + (used - 1)) bytes e
+stops_before judging limit front rest used answers stretch (Err x) NoMemoryFound behind bytes g l st some fits s all =
+    let size : length l.front ≡ used - 1 = (let whole = ap length l.bytes ∙ length-append l.front (0 ∷ []) in let part = length-take used rest in omega (arith, whole, part, fits)) in
+    record {
+      front = front ++ l.front;
+      rest = behind;
+      bytes_are = all ∙ ap (λ x. (front ++ x) ++ behind) l.bytes ∙ ap (λ x. x ++ behind) (sym (append_assoc front l.front (0 ∷ []))) ∙ append_assoc (front ++ l.front) (0 ∷ []) behind;
+      count_is = sym (length-append front l.front ∙ ap (λ n. length front + n) size);
+      stretch = l.stretch;
+      message = l.message;
+      begun = l.begun;
+      frame = l.frame;
+    }
+stops_before {V} judging limit front rest used answers stretch (Ok (Some a)) Halted behind bytes g h st some fits s all =
+    let heard = length front + used in
+    let p : Located V = record { before = (heard - 1) - stretch; through = heard; answer = a } in
+    let here = located_at judging.holds judging.reads limit 0 front rest used answers a stretch heard g h st some fits refl in
+    record {
+      next = p;
+      located = subst (λ z. IsLocatedIn judging.holds judging.reads limit z answers p) (sym all) (one_longer judging.holds judging.reads limit (front ++ take used rest) behind answers p here);
+      one_more = omega (arith, some);
+    }
+stops_before judging limit front rest used answers stretch r Fault behind bytes g h st some fits s all = absurd s
+stops_before judging limit front rest used answers stretch (Ok o) NoMemoryFound behind bytes g h st some fits s all = absurd s
+stops_before judging limit front rest used answers stretch (Ok None) Halted behind bytes g h st some fits s all = absurd s
+stops_before judging limit front rest used answers stretch (Err x) Halted behind bytes g h st some fits s all = absurd s
+
+module _ {S V : Type 0} {N : ℕ} {took : S → List (Answer (ℕ × V)) → S → Type 0} (laws : VisitorLaws took) (halts : S → Type 0) (judging : Judging (ℕ × V)) (first : ℕ) (old mid new : S) (e : ReadError) (calls : ℕ → Type 0) where
   -- what was handed on of a chunk, behind what was before it
   handed_part : (bytes room : List ℕ) (at n : ℕ) (before : List (Answer (ℕ × V))) → drop at bytes ≡ take n room ++ drop (at + n) bytes → at ≡ length (take at bytes) → took old before mid
-      → HearsPart N took judging first mid new before (take at bytes) (take n room) → IsHandedTo took judging N first old new bytes
-  handed_part bytes room at n before e long b p =
-      let k = length p.done in
-      let after : drop at bytes ≡ p.done ++ (p.rest ++ drop (at + n) bytes) = e ∙ ap (λ x. x ++ drop (at + n) bytes) p.piece_is ∙ append_assoc p.done p.rest (drop (at + n) bytes) in
-      let front : take k (drop at bytes) ≡ p.done = ap (take k) after ∙ take-append-le k p.done (p.rest ++ drop (at + n) bytes) (omega arith) ∙ take_all k p.done (omega arith) in
-      let all : take (at + k) bytes ≡ take at bytes ++ p.done = take-add at k bytes ∙ ap (λ x. take at bytes ++ x) front in
+      → ((count : ℕ) → at ≤ count → count < at + n → calls count)
+      → HearsPart N took halts judging first mid new before (take at bytes) (take n room) e → IsHandedTo took halts judging N first old new e calls bytes
+  unfolding read_as read_before
+  handed_part bytes room at n before cut long b by p =
+      let front = take at bytes ++ p.done in
+      let more = drop (at + n) bytes in
+      let u = p.used - 1 in
+      let count = length front + u in
+      let parts : (used : ℕ) → bytes ≡ (front ++ take used p.rest) ++ (drop used p.rest ++ more) = λ used. parts_of bytes (take at bytes) (drop at bytes) (take n room) p.done p.rest more used (take-append-drop at bytes) cut p.piece_is in
+      let size : length (front ++ take u p.rest) ≡ count = length-append front (take u p.rest) ∙ ap (λ m. length front + m) (length-take u p.rest ∙ (let fits = p.within in omega (arith, fits))) in
+      let here : front ++ take u p.rest ≡ take count bytes = sym (ap (λ m. take m bytes) (sym size) ∙ first_part bytes (front ++ take u p.rest) (drop u p.rest ++ more) (parts u)) in
+      let least = least_of judging.holds judging.reads N first front p.rest p.used p.result p.answered in
+      let read = read_before judging.holds judging.reads N first front p.rest p.used (before ++ p.more) (numbering_of p.count) u p.hears.read least (let some = p.some in omega (arith, some)) in
+      let long_front : length front ≡ at + length p.done = length-append (take at bytes) p.done ∙ ap (λ m. m + length p.done) (sym long) in
+      let long_piece : length p.done + length p.rest ≤ n = (let both = ap length p.piece_is ∙ length-append p.done p.rest in let part = length-take n room in omega (arith, both, part)) in
       record {
-        count = at + k;
-        within = (let size = ap length all ∙ length-append (take at bytes) p.done in let part = length-take (at + k) bytes in omega (arith, size, part, long));
-        answers = before ++ p.hears.more;
-        handed = laws.more old mid new before p.hears.more b p.hears.handed;
+        count = count;
+        within = (let all = ap length (parts u) ∙ length-append (front ++ take u p.rest) (drop u p.rest ++ more) in omega (arith, all, size));
+        by = by count (omega (arith, long_front)) (let fits = p.within in let some = p.some in omega (arith, long_front, long_piece, fits, some));
+        answers = before ++ p.more;
+        handed = so_far_map (took mid p.more) (took old (before ++ p.more)) halts new e (λ v h. laws.more old mid v before p.more b h) p.handed;
         numbers = numbering_of p.count;
-        read = subst (λ x. IsReadTo judging.holds judging.reads N first (before ++ p.hears.more) (numbering_of p.count) x) (sym all) p.hears.hears.read;
+        read = read_as judging.holds judging.reads N first (before ++ p.more) (numbering_of p.count) (front ++ take u p.rest) (take count bytes) here read;
+        stops = stops_before judging N front p.rest p.used (answers_in p.hears.read.located) p.stretch p.result e (drop p.used p.rest ++ more) bytes p.hears.read.given p.answered p.stretch_is p.some p.within p.stopped (parts p.used);
       }
 
--- what was handed on when a chunk wasn't read to its end
-pub so_far_read : {S V : Type 0} {N : ℕ} {took : S → List (Answer (ℕ × V)) → S → Type 0} (halts : S → Type 0) → VisitorLaws took → (judging : Judging (ℕ × V)) (first : ℕ) (old mid new : S) (receiver : Reception (ArrayBuffer N)) (count : Count) (held : Option (List ℕ)) (room : List ℕ) (n : ℕ) (e : ReadError)
-    → GaveAt held count.heard n room → IfSome held (λ bytes. HearsMore took judging.holds judging.reads first old mid receiver [] count (take count.heard bytes))
-    → ((stream : List ℕ) (answers : List (Answer (ℕ × V))) → HearsLog judging.holds judging.reads first receiver answers count stream → HandedUntil (λ v. HearsPart N took judging first mid v answers stream (take n room)) halts new e)
-    → IfSome held (λ bytes. HandedUntil (λ v. IsHandedTo took judging N first old v bytes) halts new e)
-so_far_read halts laws judging first old mid new receiver count None room n e g h f = tt
-so_far_read {N} {took} halts laws judging first old mid new receiver count (Some bytes) room n e g h f =
-    so_far_map (λ v. HearsPart N took judging first mid v h.more (take count.heard bytes) (take n room)) (λ v. IsHandedTo took judging N first old v bytes) halts new e
-    (λ v p. handed_part laws judging first old mid v bytes room count.heard n h.more g h.hears.heard h.handed p)
-    (f (take count.heard bytes) h.more h.hears)
+  -- what was handed on when a chunk wasn't read to its end
+  pub so_far_read : (receiver : Reception (ArrayBuffer N)) (count : Count) (held : Option (List ℕ)) (room : List ℕ) (n : ℕ)
+      → GaveAt held count.heard n room → IfSome held (λ bytes. HearsMore took judging.holds judging.reads first old mid receiver [] count (take count.heard bytes))
+      → ((c : ℕ) → count.heard ≤ c → c < count.heard + n → calls c)
+      → ((stream : List ℕ) (answers : List (Answer (ℕ × V))) → HearsLog judging.holds judging.reads first receiver answers count stream → HearsPart N took halts judging first mid new answers stream (take n room) e)
+      → IfSome held (λ bytes. IsHandedTo took halts judging N first old new e calls bytes)
+  so_far_read receiver count None room n g h by f = tt
+  so_far_read receiver count (Some bytes) room n g h by f = handed_part bytes room count.heard n h.more g h.hears.heard h.handed by (f (take count.heard bytes) h.more h.hears)
+
+-- what was handed on of a store that holds the same, by calls of which more is known
+pub handed_by : {S V : Type 0} (N : ℕ) (took : S → List (Answer (ℕ × V)) → S → Type 0) (halts : S → Type 0) (judging : Judging (ℕ × V)) (first : ℕ) (old new : S) (e : ReadError) (calls more : ℕ → Type 0) (held later : Option (List ℕ))
+    → later ≡ held → ((n : ℕ) → calls n → more n) → IfSome held (λ bytes. IsHandedTo took halts judging N first old new e calls bytes) → IfSome later (λ bytes. IsHandedTo took halts judging N first old new e more bytes)
+handed_by N took halts judging first old new e calls more None later same f h = rw same tt
+handed_by N took halts judging first old new e calls more (Some bytes) later same f h =
+    rw same (record { count = h.count; within = h.within; by = f h.count h.by; answers = h.answers; handed = h.handed; numbers = h.numbers; read = h.read; stops = h.stops })
+
+-- the calls of reads, and few before them
+pub calls_before : (old mid new : LineState) (few count : ℕ) → old.calls_left ≤ mid.calls_left + few → mid.calls_left ≤ old.calls_left → ReadByCalls mid new 1 count → ReadByCalls old new (few + 1) count
+calls_before old mid new few count more down h = record { fewest = (let l = h.fewest in omega (arith, l, more)); most = (let l = h.most in omega (arith, l, down)) }

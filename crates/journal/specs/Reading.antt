@@ -1,6 +1,10 @@
 -- What is read of a log.
-use Rattle.std.specs.Prelude.{◌≡◌, ℕ, ◌+◌, ◌≤◌, Bool, true, List, [], ◌∷◌, ◌++◌, length, take, Option, Some, None, Result, Ok, Err}
+use Rattle.std.specs.Prelude.{◌≡◌, ℕ, ◌+◌, ◌-◌, ◌*◌, ◌<◌, ◌≤◌, Bool, true, List, [], ◌∷◌, ◌++◌, length, take, Option, Some, None, Result, Ok, Err}
+use Rattle.cobs.specs.Frames.{Frame}
+use Rattle.line_io.specs.Device.{LineState}
 use Rattle.postcard_tree.specs.Tree.{Tree}
+use Rattle.link.specs.Stream.{kept}
+use Rattle.link.specs.Pushes.{IsBegun, Answered, IsStretchOf}
 use Rattle.link.specs.Listening.{HasGiven}
 use Rattle.link.specs.Judged.{Judging}
 use Rattle.link.specs.declared.decoding.ArrayBuffer.{ArrayBuffer}
@@ -15,7 +19,7 @@ use Rattle.journal.specs.declared.reading.ReadError.TheVariants.{Fault, NoMemory
 use Rattle.journal.specs.declared.log.OpenError.{OpenError}
 use Rattle.journal.specs.declared.log.OpenError.TheVariants.{Line, Sync, Read}
 use Rattle.journal.specs.Records.{past_all}
-use Rattle.journal.specs.Places.{Located, answers_in, AreLocatedIn, Numbering, numbered_from, believed, numbered_behind, all_believed, numbered_after}
+use Rattle.journal.specs.Places.{Located, answers_in, IsLocatedIn, AreLocatedIn, Numbering, numbered_from, believed, numbered_behind, all_believed, numbered_after}
 
 -- These are the results of a log's bytes as they are handed on, by which trees a stretch holds: those that are given of the bytes,
 -- but for records whose numbers are further ahead than the bytes before them can account for, which are damaged. The next number is
@@ -89,21 +93,48 @@ pub record IsHanded {S V : Type 0} (took : S → List (Answer (ℕ × V)) → S 
   -- they are what is read of these bytes
   pub read : IsRead judging.holds judging.reads limit first answers next bytes
 
--- what is read of so many bytes of a log was handed on, and nothing else
-pub record IsHandedTo {S V : Type 0} (took : S → List (Answer (ℕ × V)) → S → Type 0)
-    (judging : Judging (ℕ × V)) (limit first : ℕ) (old new : S) (bytes : List ℕ) : Type 0 where
-  -- how many bytes were read
-  pub count : ℕ
-  -- they are bytes of the log
-  pub within : count ≤ length bytes
-  -- the results
-  pub answers : List (Answer (ℕ × V))
-  -- the visitor was handed them, in order
-  pub handed : took old answers new
-  -- the numbers afterwards
-  pub numbers : Numbering
-  -- they are what is read of so many bytes
-  pub read : IsReadTo judging.holds judging.reads limit first answers numbers (take count bytes)
+-- So many bytes of a log were read on between two states of its store: at least one by each call, but for so many of them, and at most
+-- 1024.
+pub record ReadByCalls (old new : LineState) (others count : ℕ) : Type 0 where
+  -- each call but those gave a byte that was read on
+  pub fewest : old.calls_left ≤ new.calls_left + (count + others)
+  -- no call gave more than 1024
+  pub most : count ≤ 1024 * (old.calls_left - new.calls_left)
+
+-- After so many bytes of a log the next one is a zero, and it ends a frame within the limit.
+pub record EndsFrame (limit count : ℕ) (bytes : List ℕ) : Type 0 where
+  -- the bytes before the zero
+  pub front : List ℕ
+  -- those after it
+  pub rest : List ℕ
+  -- the log is these, with the zero between them
+  pub bytes_are : bytes ≡ front ++ 0 ∷ rest
+  -- so many are before it
+  pub count_is : count ≡ length front
+  -- the stretch that the zero ends
+  pub stretch : List ℕ
+  -- its message
+  pub message : List ℕ
+  -- it is within the limit
+  pub begun : IsBegun limit 0 front (kept stretch)
+  -- it is a frame
+  pub frame : Frame stretch message
+
+-- After so many bytes of a log the next one brings about one more result.
+pub record BringsNext {V : Type 0} (judging : Judging (ℕ × V)) (limit : ℕ) (given : List (Answer (ℕ × V))) (count : ℕ) (bytes : List ℕ) : Type 0 where
+  -- the result with its position
+  pub next : Located V
+  -- it comes after those that are given
+  pub located : IsLocatedIn judging.holds judging.reads limit bytes given next
+  -- that byte brings it about
+  pub one_more : next.through ≡ count + 1
+
+-- What the next byte of a log is when reading stopped before it: any, if the store failed; if memory ran out, the zero of a frame, whose
+-- value could not be allocated; if the visitor halted, the one that brings about the result at which it did.
+abbrev pub StopsBefore : {V : Type 0} → Judging (ℕ × V) → ℕ → List (Answer (ℕ × V)) → ℕ → List ℕ → ReadError → Type 0
+StopsBefore judging limit given count bytes Fault = Unit {0}
+StopsBefore judging limit given count bytes NoMemory = EndsFrame limit count bytes
+StopsBefore judging limit given count bytes Halted = BringsNext judging limit given count bytes
 
 -- the visitor when reading stopped: it was handed this much; or, if it halted, so was the visitor that did
 abbrev pub HandedUntil : {S : Type 0} → (S → Type 0) → (S → Type 0) → S → ReadError → Type 0
@@ -111,14 +142,41 @@ HandedUntil {S} handed halts new Fault = handed new
 HandedUntil {S} handed halts new NoMemory = handed new
 HandedUntil {S} handed halts new Halted = (mid : S) × handed mid × halts mid
 
+-- Reading a log stopped after so many bytes, by this error: what is read of exactly these was handed on.
+pub record IsHandedTo {S V : Type 0} (took : S → List (Answer (ℕ × V)) → S → Type 0) (halts : S → Type 0)
+    (judging : Judging (ℕ × V)) (limit first : ℕ) (old new : S) (e : ReadError)
+    (calls : ℕ → Type 0) (bytes : List ℕ) : Type 0 where
+  -- how many bytes were read on
+  pub count : ℕ
+  -- they are bytes of the log
+  pub within : count ≤ length bytes
+  -- by these calls
+  pub by : calls count
+  -- the results
+  pub answers : List (Answer (ℕ × V))
+  -- the visitor, or the one that halted, was handed them in order, and no others
+  pub handed : HandedUntil (took old answers) halts new e
+  -- the numbers afterwards
+  pub numbers : Numbering
+  -- they are what is read of so many bytes
+  pub read : IsReadTo judging.holds judging.reads limit first answers numbers (take count bytes)
+  -- why no more was
+  pub stops : StopsBefore judging limit (answers_in read.located) count bytes e
+
 -- the visitor when opening failed: as it was, or as reading left it
 abbrev pub OpenedUntil : {S : Type 0} → (ReadError → Type 0) → S → S → OpenError → Type 0
 OpenedUntil {S} read old new Line = new ≡ old
 OpenedUntil {S} read old new Sync = new ≡ old
 OpenedUntil {S} read old new (Read e) = read e
 
--- results of some of a chunk's bytes were handed on, and nothing else
-pub record HearsPart {S V : Type 0} (N : ℕ) (took : S → List (Answer (ℕ × V)) → S → Type 0) (judging : Judging (ℕ × V)) (first : ℕ) (old new : S) (answers : List (Answer (ℕ × V))) (stream piece : List ℕ) : Type 0 where
+-- A push has such a result if reading stopped by it: none that was allocated, or one at which the visitor halted.
+abbrev pub StoppedAt : {A : Type 0} → ReadError → Result (Option A) OutOfMemory → Type 0
+StoppedAt NoMemory (Err x) = Unit {0}
+StoppedAt Halted (Ok (Some a)) = Unit {0}
+StoppedAt e r = ⊥
+
+-- Results of some of a chunk's bytes were handed on, and nothing else, since the next push had such a result.
+pub record HearsPart {S V : Type 0} (N : ℕ) (took : S → List (Answer (ℕ × V)) → S → Type 0) (halts : S → Type 0) (judging : Judging (ℕ × V)) (first : ℕ) (old new : S) (answers : List (Answer (ℕ × V))) (stream piece : List ℕ) (e : ReadError) : Type 0 where
   -- these bytes
   pub done : List ℕ
   -- the others
@@ -129,8 +187,28 @@ pub record HearsPart {S V : Type 0} (N : ℕ) (took : S → List (Answer (ℕ ×
   pub receiver : Reception (ArrayBuffer N)
   -- the count then
   pub count : Count
-  -- more was handed on
-  pub hears : HearsMore took judging.holds judging.reads first old new receiver answers count (stream ++ done)
+  -- the further results
+  pub more : List (Answer (ℕ × V))
+  -- they were handed on
+  pub handed : HandedUntil (took old more) halts new e
+  -- with the earlier ones they are those of all bytes so far
+  pub hears : HearsLog judging.holds judging.reads first receiver (answers ++ more) count (stream ++ done)
+  -- how many bytes the next push took
+  pub used : ℕ
+  -- at least one
+  pub some : 0 < used
+  -- they are of the others
+  pub within : used ≤ length rest
+  -- its result
+  pub result : Result (Option (Answer (ℕ × V))) OutOfMemory
+  -- it is right
+  pub answered : Answered judging.holds judging.reads N 0 (stream ++ done) rest used result
+  -- how many bytes of its stretch come before the last one that it took
+  pub stretch : ℕ
+  -- that is right
+  pub stretch_is : IsStretchOf 0 (stream ++ done) rest used result stretch
+  -- reading stopped by it
+  pub stopped : StoppedAt e result
 
 -- some results were handed on, or none
 abbrev pub HasHanded : {S A : Type 0} → (S → List A → S → Type 0) → S → S → Type 0

@@ -4,7 +4,7 @@ ghost use Rattle.line_io.specs.Device.{Wrote};
 ghost use Rattle.line_io.specs.Transfers.{Failed};
 ghost use Rattle.link.specs.Listening.{ReceiverFitsInMemory};
 ghost use Rattle.journal.specs.Store.{Settles};
-ghost use Rattle.journal.specs.Reading.{HaltsBehind, IsHandedTo, OpenCause, OpenedUntil, HandedUntil};
+ghost use Rattle.journal.specs.Reading.{HaltsBehind, IsHandedTo, OpenCause, OpenedUntil, ReadByCalls};
 ghost use Rattle.journal.specs.Appending.{Appended, next_after, spent_after, OnNumbered, OnRead, OnStore, OnTried, Unless, UnlessSpent, IsOpened, put_before};
 
 use crate::framing::frame_record;
@@ -133,8 +133,9 @@ impl<S: Store, const N: usize> Journal<S, N> {
         ensures settled { IfErr result (λ e.
             OnRead e.cause (Settles (S.line e.store).told (S.settled e.store))) }
         ensures so_far { IfErr result (λ e. OpenedUntil (λ c.
-            IfSome (S.line e.store).told (λ bytes. HandedUntil (λ v. IsHandedTo V.took
-            (M.judging messages.now) N first visitor.old v bytes) V.halts visitor.new c))
+            IfSome (S.line e.store).told (λ bytes. IsHandedTo V.took V.halts
+            (M.judging messages.now) N first visitor.old visitor.new c
+            (ReadByCalls (S.line store) (S.line e.store) 3) bytes))
             visitor.old visitor.new e.cause) }
     {
         let mut store = store;

@@ -3,7 +3,7 @@ ghost use Rattle.std.specs.Prelude.{◌≡◌, ℕ, ◌+◌, ◌-◌, ◌^◌, �
 ghost use Rattle.line_io.specs.Transfers.{Failed};
 ghost use Rattle.link.specs.Listening.{ReceiverFitsInMemory};
 ghost use Rattle.link.specs.declared.receiver.Answer.{Answer};
-ghost use Rattle.journal.specs.Reading.{HandsOnBelieved, HearsLog, HearsMore, HasHanded, HaltsBehind, ReadCause, IsHanded, IsHandedTo, HearsPart, HandedUntil, numbering_of};
+ghost use Rattle.journal.specs.Reading.{HandsOnBelieved, HearsLog, HearsMore, HasHanded, HaltsBehind, ReadCause, IsHanded, IsHandedTo, HearsPart, HandedUntil, ReadByCalls, StoppedAt, numbering_of};
 
 use crate::numbers::{Count, believe, count_on};
 use crate::stores::Store;
@@ -46,6 +46,7 @@ fn hand_on<T: Drop, V: Visitor<T>>(
     ensures memory { result ≡ Err ReadError.NoMemory → IsErr answer }
     ensures so_far { IfErr result (λ e.
         HandedUntil (λ v. v ≡ visitor.old) V.halts visitor.new e) }
+    ensures stopped { IfErr result (λ e. StoppedAt e answer) }
 {
     match answer {
         Ok(None) => Ok(count),
@@ -97,8 +98,8 @@ fn hear<T: Drop, M: MessageReader<(u64, T)>, V: Visitor<T>, const N: usize>(
         (answers : List (Answer (ℕ × T)))
         → HearsLog (M.judging messages.now).holds (M.judging messages.now).reads
         first receiver.old answers count stream
-        → HandedUntil (λ v. HearsPart N V.took (M.judging messages.now) first visitor.old v answers
-        stream piece.now) V.halts visitor.new e) }
+        → HearsPart N V.took V.halts (M.judging messages.now) first visitor.old visitor.new answers
+        stream piece.now e) }
     ensures cause { IfErr result (λ e. ReadCause ⊥ (M.judging messages.now).growing
         (HaltsBehind V.took V.halts visitor.old) e) }
 {
@@ -123,10 +124,11 @@ fn hear<T: Drop, M: MessageReader<(u64, T)>, V: Visitor<T>, const N: usize>(
 /// far ahead is `Damaged`. The store isn't changed. It makes at most one read for each byte, and one more.
 ///
 /// # Errors
-/// The visitor, or the one that halted, was handed the results of the log's first bytes, in order, and no others.
+/// The visitor, or the one that halted, was handed exactly what is read of the log's first bytes, in order. Each call of the store
+/// but one gave at least one of these bytes, and none gave more than 1024.
 /// - `Fault`: a read failed, or the store has no call left.
-/// - `NoMemory`: a value couldn't be allocated.
-/// - `Halted`: the visitor halted.
+/// - `NoMemory`: a value couldn't be allocated. The next byte is the zero that ends its frame.
+/// - `Halted`: the visitor halted. The next byte brings about the result at which it did.
 ///
 /// # Requires
 /// A receiver of N bytes fits in memory (`ReceiverFitsInMemory`); a concrete N costs nothing.
@@ -152,8 +154,8 @@ pub fn read_all<T: Drop, M: MessageReader<(u64, T)>, S: Store, V: Visitor<T>, co
     ensures read { IfOk result (λ next. IfSome (S.line store.old).told (λ bytes.
         IsHanded V.took (M.judging messages.now) N first visitor.old visitor.new next bytes)) }
     ensures so_far { IfErr result (λ e. IfSome (S.line store.old).told (λ bytes.
-        HandedUntil (λ v. IsHandedTo V.took (M.judging messages.now) N first visitor.old v bytes)
-        V.halts visitor.new e)) }
+        IsHandedTo V.took V.halts (M.judging messages.now) N first visitor.old visitor.new e
+        (ReadByCalls (S.line store.old) (S.line store.new) 1) bytes)) }
     ensures cause { IfErr result (λ e. ReadCause (Failed (S.line store.old) (S.line store.new))
         (M.judging messages.now).growing (HaltsBehind V.took V.halts visitor.old) e) }
     ensures few { IfSome (S.line store.old).told (λ bytes. (S.line store.old).calls_left

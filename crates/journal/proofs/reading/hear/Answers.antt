@@ -3,7 +3,7 @@ use Rattle.std.proofs.lemmas.List.{append-nil, nil_from_length, length-append, l
 use Rattle.link.specs.Decoding.{in_array}
 use Rattle.link.specs.Lemmas.Lengths.{parts_on}
 use Rattle.link.specs.Receivers.{IsBehind}
-use Rattle.journal.specs.Reading.{numbering_of, HearsPart, IsReadTo}
+use Rattle.journal.specs.Reading.{numbering_of, IsReadTo}
 use Rattle.journal.proofs.HearingLemmas.{read_on, heard_none, handed_more, if_passed, so_far_here}
 use Rattle.journal.proofs.reading.hear.Goals as goal
 
@@ -60,6 +60,22 @@ returns-in_err-count-clause-so_far g c =
     if_passed c.from_residual.result c.in_err-count.field-0.0 _ c.from_residual.ensures.1
     (λ first stream answers h.
     let k = c.loop-rest.invariant.heard first stream answers h in
-    let P : g.row.V.Denot → Type 0 = λ v. HearsPart g.row.N g.V.Visitor.took (g.M.MessageReader.judging c.args.messages.now) first c.args.visitor.now v answers stream c.args.piece.now in
-    so_far_here P P g.V.Visitor.halts _ _ c.in_err-count.field-0.0 c.in_err-count.ensures.so_far
-    (record { done = k.0; rest = c.loop-rest.rest.now; piece_is = k.1; receiver = c.loop-rest.receiver; count = c.loop-rest.count; hears = k.2 }))
+    let P : g.row.V.Denot → Type 0 = g.V.Visitor.took c.args.visitor.now k.2.more in
+    record {
+      done = k.0;
+      rest = c.loop-rest.rest.now;
+      piece_is = k.1;
+      receiver = c.loop-rest.receiver;
+      count = c.loop-rest.count;
+      more = k.2.more;
+      handed = so_far_here P P g.V.Visitor.halts _ _ c.in_err-count.field-0.0 c.in_err-count.ensures.so_far k.2.handed;
+      hears = k.2.hears;
+      used = c.push_with-used.result.used;
+      some = c.push_with-used.ensures.forward (search rules);
+      within = c.push_with-used.ensures.within;
+      result = c.push_with-used.result.answer;
+      answered = c.push_with-used.ensures.answers _ 0 (stream ++ k.0) k.2.hears.after;
+      stretch = c.push_with-used.result.stretch;
+      stretch_is = c.push_with-used.ensures.stretch _ 0 (stream ++ k.0) k.2.hears.after;
+      stopped = c.in_err-count.ensures.stopped;
+    })

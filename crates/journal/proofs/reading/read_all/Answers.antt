@@ -1,10 +1,19 @@
-use Rattle.std.proofs.Common.{◌≡◌, ℕ, ◌+◌, ◌-◌, ◌<◌, zero, suc, Option, None, Some, List, [], ◌++◌, length, take, refl, sym, ap, subst, ◌∙◌, arith, rules}
+use Rattle.std.proofs.Common.{◌≡◌, ℕ, ◌+◌, ◌-◌, ◌*◌, ◌<◌, ◌≤◌, zero, suc, Option, None, Some, List, [], ◌++◌, length, take, refl, sym, ap, subst, ◌∙◌, arith, rules}
 use Rattle.std.specs.Prelude.{IfSome}
 use Rattle.std.proofs.lemmas.List.{length-take}
 use Rattle.line_io.specs.Calls.{Failed-later, read_quiet, read_failed}
-use Rattle.journal.specs.Reading.{HearsMore, IsHanded, numbering_of}
-use Rattle.journal.proofs.HearingLemmas.{read_whole, reads_on, reads_all, reads_none, heard_first, then_more, handed_to, few_calls, cause_on, if_passed, so_far_read}
+use Rattle.journal.specs.Reading.{HearsMore, IsHanded, ReadByCalls, numbering_of}
+use Rattle.journal.proofs.HearingLemmas.{read_whole, reads_on, reads_all, reads_none, heard_first, then_more, handed_to, calls_failed, calls_partly, few_calls, cause_on, if_passed, so_far_read}
 use Rattle.journal.proofs.reading.read_all.Goals as goal
+
+-- a call that was answered is one fewer
+fewer : (before after n : ℕ) (answer : Option ℕ) → after ≡ before - 1 → (before ≡ 0 → answer ≡ None) → answer ≡ Some n → after < before
+fewer zero after n answer down spent some = let never = sym (spent refl) ∙ some in cc
+fewer (suc before) after n answer down spent some = omega (arith, down)
+
+-- one call more gave at most 1024 bytes more
+more_calls : (before mid after at n heard : ℕ) → mid ≤ before → at ≤ 1024 * (before - mid) → after ≡ mid - 1 → after < mid → n ≤ 1024 → heard ≡ at + n → heard ≤ 1024 * (before - after)
+more_calls before mid after at n heard down most one some fits on = omega (arith, down, most, one, some, fits, on)
 
 pub loop-n-init : goal.loop-n-init
 loop-n-init g c = record {
@@ -12,6 +21,7 @@ loop-n-init g c = record {
   settled = refl;
   calls = omega arith;
   few = omega arith;
+  most = omega arith;
   so_far = ([], g.met.V.Visitor.laws.nothing _);
   quiet = refl;
   heard = reads_none (g.S.Store.line c.args.store.now).told
@@ -25,6 +35,16 @@ loop-n-preserved g c = record {
   settled = c.read_at.ensures.settled ∙ c.loop-n.invariant.settled;
   calls = omega (arith, c.read_at.ensures.calls, c.loop-n.invariant.calls);
   few = search rules;
+  most =
+      let before = g.S.Store.line c.args.store.now in
+      let mid = g.S.Store.line c.loop-n.store in
+      let after = g.S.Store.line c.read_at.new.self in
+      let n = c.in-Some.n in
+      let room = c.read_at.new.room in
+      let size : length room ≡ 1024 = search rules in
+      let part : length (take n room) ≡ n = length-take n room ∙ omega (arith, c.in-Some.ensures.bound) in
+      more_calls before.calls_left mid.calls_left after.calls_left c.loop-n.count.heard n c.in_ok-count-in-Some.count.heard c.loop-n.invariant.calls c.loop-n.invariant.most c.read_at.ensures.calls (fewer _ _ _ _ c.read_at.ensures.calls c.read_at.ensures.spent c.in-Some.is)
+      (omega (arith, size, c.in-Some.ensures.bound)) (c.in_ok-count-in-Some.ensures.on ∙ ap (λ x. c.loop-n.count.heard + x) part);
   so_far =
       let before = c.loop-n.invariant.so_far in
       let more = c.in_ok-count-in-Some.ensures.handed in
@@ -57,16 +77,16 @@ returns-in-Some-eq0-clause-read g c =
     reads_all (g.S.Store.line c.args.store.now).told c.loop-n.count.heard P Q (rw c.loop-n.invariant.held at (c.in-Some-eq0.ensures.end nothing room)) c.loop-n.invariant.heard
     (λ stream h. record { answers = h.more; handed = h.handed; read = read_whole (g.M.MessageReader.judging c.args.messages.now).holds (g.M.MessageReader.judging c.args.messages.now).reads g.row.N c.args.first h.more (numbering_of c.loop-n.count) stream h.hears.read })
 
--- a call that was answered is one fewer
-fewer : (before after n : ℕ) (answer : Option ℕ) → after ≡ before - 1 → (before ≡ 0 → answer ≡ None) → answer ≡ Some n → after < before
-fewer zero after n answer down spent some = let never = sym (spent refl) ∙ some in cc
-fewer (suc before) after n answer down spent some = omega (arith, down)
-
 pub loop-n-smaller : goal.loop-n-smaller
 loop-n-smaller g c = fewer _ _ _ _ c.read_at.ensures.calls c.read_at.ensures.spent c.in-Some.is
 
 pub returns-in-None-clause-so_far : goal.returns-in-None-clause-so_far
-returns-in-None-clause-so_far g c = handed_to g.V.Visitor.took (g.M.MessageReader.judging c.args.messages.now) c.args.first c.args.visitor.now c.loop-n.visitor c.loop-n.receiver c.loop-n.count _ c.loop-n.invariant.heard
+returns-in-None-clause-so_far g c =
+    let before = g.S.Store.line c.args.store.now in
+    let mid = g.S.Store.line c.loop-n.store in
+    let after = g.S.Store.line c.read_at.new.self in
+    handed_to g.V.Visitor.took g.V.Visitor.halts (g.M.MessageReader.judging c.args.messages.now) c.args.first c.args.visitor.now c.loop-n.visitor c.loop-n.receiver c.loop-n.count (ReadByCalls before after 1) _
+    (calls_failed before mid after c.loop-n.count.heard c.loop-n.invariant.few c.loop-n.invariant.calls c.loop-n.invariant.most c.in-None.ensures.calls) c.loop-n.invariant.heard
 
 pub returns-in-None-clause-few : goal.returns-in-None-clause-few
 returns-in-None-clause-few g c =
@@ -86,6 +106,12 @@ returns-in_err-count-in-Some-clause-cause g c =
 
 pub returns-in_err-count-in-Some-clause-so_far : goal.returns-in_err-count-in-Some-clause-so_far
 returns-in_err-count-in-Some-clause-so_far g c =
+    let before = g.S.Store.line c.args.store.now in
+    let mid = g.S.Store.line c.loop-n.store in
+    let after = g.S.Store.line c.read_at.new.self in
+    let size : length c.read_at.new.room ≡ 1024 = search rules in
     if_passed c.from_residual.result c.in_err-count-in-Some.field-0.0 _ c.from_residual.ensures.1
-    (so_far_read g.V.Visitor.halts g.met.V.Visitor.laws (g.M.MessageReader.judging c.args.messages.now) c.args.first c.args.visitor.now c.loop-n.visitor _ c.loop-n.receiver c.loop-n.count _ c.read_at.new.room c.in-Some.n c.in_err-count-in-Some.field-0.0
-    (rw c.loop-n.invariant.held at c.in-Some.ensures.bytes) c.loop-n.invariant.heard (c.in_err-count-in-Some.ensures.so_far c.args.first))
+    (so_far_read g.met.V.Visitor.laws g.V.Visitor.halts (g.M.MessageReader.judging c.args.messages.now) c.args.first c.args.visitor.now c.loop-n.visitor _ c.in_err-count-in-Some.field-0.0 (ReadByCalls before after 1) c.loop-n.receiver c.loop-n.count _ c.read_at.new.room c.in-Some.n
+    (rw c.loop-n.invariant.held at c.in-Some.ensures.bytes) c.loop-n.invariant.heard
+    (calls_partly before mid after c.loop-n.count.heard c.in-Some.n c.loop-n.invariant.few c.loop-n.invariant.calls c.loop-n.invariant.most c.read_at.ensures.calls (fewer _ _ _ _ c.read_at.ensures.calls c.read_at.ensures.spent c.in-Some.is) (omega (arith, size, c.in-Some.ensures.bound)))
+    (c.in_err-count-in-Some.ensures.so_far c.args.first))

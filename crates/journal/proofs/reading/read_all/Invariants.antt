@@ -1,4 +1,4 @@
-use Rattle.std.proofs.Common.{◌≡◌, ◌+◌, ◌≤◌, [], take}
+use Rattle.std.proofs.Common.{◌≡◌, ◌+◌, ◌-◌, ◌*◌, ◌≤◌, [], take}
 use Rattle.std.specs.Prelude.{IfSome}
 use Rattle.journal.specs.Reading.{HearsMore, HasHanded}
 use Rattle.journal.proofs.reading.read_all.Given as goal
@@ -10,6 +10,7 @@ invariant-loop-n g l = record {
   settled : g.S.Store.settled l.store ≡ g.S.Store.settled l.fn.store;
   calls : (g.S.Store.line l.store).calls_left ≤ (g.S.Store.line l.fn.store).calls_left;
   few : (g.S.Store.line l.fn.store).calls_left ≤ (g.S.Store.line l.store).calls_left + l.count.heard;
+  most : l.count.heard ≤ 1024 * ((g.S.Store.line l.fn.store).calls_left - (g.S.Store.line l.store).calls_left);
   so_far : HasHanded g.V.Visitor.took l.fn.visitor l.visitor;
   quiet : (g.S.Store.line l.store).faults ≡ (g.S.Store.line l.fn.store).faults;
   heard : IfSome (g.S.Store.line l.fn.store).told (λ bytes. HearsMore g.V.Visitor.took (g.M.MessageReader.judging l.fn.messages).holds (g.M.MessageReader.judging l.fn.messages).reads l.fn.first l.fn.visitor l.visitor l.receiver [] l.count (take l.count.heard bytes));
