@@ -22,4 +22,6 @@ mod repairs;
 #[cfg(test)]
 mod seals;
 #[cfg(test)]
+mod stopping;
+#[cfg(test)]
 mod tallies;
