@@ -1,10 +1,11 @@
 -- What bounds the sizes of trees.
 use Rattle.std.proofs.Common.{◌≡◌, ◌∙◌, ℕ, zero, suc, ◌+◌, ◌*◌, ◌/◌, ◌<◌, ◌≤◌, ◌⊎◌, inl, inr, List, [], ◌∷◌, ◌++◌, length, get_or, take, drop, map, max, Option, Some, None, refl, sym, ap, subst, arith, ⊎_elim, length-append}
-use Rattle.std.specs.Prelude.{IfSome, MatchOption, slice_set}
+use Rattle.std.specs.Prelude.{◌^◌, IfSome, MatchOption, SomeIff, slice_set}
 use Rattle.std.specs.List.{slice_get}
 use Rattle.std.proofs.Math.Nat.{mul-le-mul_left}
 use Rattle.std.proofs.lemmas.List.{append-nil, drop_all, length-take-le, take_all, take_more}
 use Rattle.std.proofs.lemmas.Bool.{cases_lt}
+use Rattle.std.proofs.lemmas.Option.{slice_get_within}
 use Rattle.postcard_tree.specs.Tree.{Tree, Trees, byte, number, character, sequence, group, end, part, count_of}
 use Rattle.postcard_tree.specs.Spelling.{groups_of, varint, single, short, short_all}
 use Rattle.postcard_tree.specs.Reading.{TakesBool, TakesByte, TakesOctet, TakesNumber, TakesCharacter, TakesTextUpTo, ReadsByte, ReadsAll, TakesAll, TakesUpTo, TakesOption, TakesArray, GroupOf, TakesVariant}
@@ -14,7 +15,7 @@ use Rattle.schema_table.specs.declared.node.Node.{Node}
 use Rattle.schema_table.specs.declared.node.Node.TheVariants as node
 use Rattle.schema_table.specs.Integers.{width_of}
 use Rattle.schema_table.specs.Schemas.{TakesFields, TakesPayload, TakesNode, TakesPlace, SchemaTakes}
-use Rattle.wire_lib.specs.Sizes.{IsAtMost, known_size, KnowsSizes, AreSizesOf, both, so_many, sum_size, variant_size, counted_size, node_size, node_bounded}
+use Rattle.wire_lib.specs.Sizes.{IsAtMost, known_size, KnowsSizes, AreSizesOf, both, so_many, sum_size, variant_size, counted_size, node_size, node_bounded, IsPast64, AreByParts, HasSizeAt, HaveSizes, unknown_among}
 
 -- Sizes
 
@@ -87,6 +88,81 @@ variant_on sizes payloads i most a m h e g s =
     let v = varint_at (0 + length (take i payloads)) i (omega (arith, length-take-le i payloads (omega arith))) in
     subst (λ xs. variant_size sizes 0 xs ≡ Some m) (sym (take_more payloads i 0 h))
     (variant_then sizes (take i payloads) 0 (get_or payloads i 0) most a m e g (omega (arith, s, v)))
+
+-- all of the places
+
+pub some_same : (a b : ℕ) (o : Option ℕ) → o ≡ Some a → o ≡ Some b → a ≡ b
+some_same a b o e f = let g : Some a ≡ Some b = sym e ∙ f in cc g
+
+pub sum_within : (sizes : List (Option ℕ)) (is : List ℕ) (i total m : ℕ) → sum_size sizes is ≡ Some m → i < length is
+    → sum_size sizes (take i is) ≡ Some total → (x : ℕ) × (known_size sizes (get_or is i 0) ≡ Some x) × (total + x ≤ m)
+sum_within sizes [] i total m e l t = absurd (omega (arith, l))
+sum_within sizes (j ∷ is) zero total m e l t =
+    let b = both_some (known_size sizes j) (sum_size sizes is) m e in
+    let z : 0 ≡ total = cc t in
+    (b.0, b.2, omega (arith, b.4, z))
+sum_within sizes (j ∷ is) (suc i) total m e l t =
+    let b = both_some (known_size sizes j) (sum_size sizes is) m e in
+    let c = both_some (known_size sizes j) (sum_size sizes (take i is)) total t in
+    let r = sum_within sizes is i c.1 b.1 b.3 (omega (arith, l)) c.3 in
+    (r.0, r.1, omega (arith, r.2, b.4, c.4, some_same b.0 c.0 (known_size sizes j) b.2 c.2))
+
+variant_from : (sizes : List (Option ℕ)) (is : List ℕ) (from i m : ℕ) → variant_size sizes from is ≡ Some m → i < length is
+    → (x : ℕ) × (known_size sizes (get_or is i 0) ≡ Some x) × (length (varint (from + i)) + x ≤ m)
+variant_from sizes [] from i m e l = absurd (omega (arith, l))
+variant_from sizes (j ∷ is) from zero m e l =
+    let s = greatest_some (both (Some (length (varint from))) (known_size sizes j)) (variant_size sizes (from + 1) is) m e in
+    let b = both_some (Some (length (varint from))) (known_size sizes j) s.0 s.2 in
+    let y : length (varint from) ≡ b.0 = cc (b.2) in
+    (b.1, b.3, omega (arith, b.4, s.4, y, varint_at (from + 0) from (omega arith)))
+variant_from sizes (j ∷ is) from (suc i) m e l =
+    let s = greatest_some (both (Some (length (varint from))) (known_size sizes j)) (variant_size sizes (from + 1) is) m e in
+    let r = variant_from sizes is (from + 1) i s.1 s.3 (omega (arith, l)) in
+    (r.0, r.1, omega (arith, r.2, s.4, varint_at (from + suc i) ((from + 1) + i) (omega arith)))
+
+pub variant_within : (sizes : List (Option ℕ)) (is : List ℕ) (i m : ℕ) → variant_size sizes 0 is ≡ Some m → i < length is
+    → (x : ℕ) × (known_size sizes (get_or is i 0) ≡ Some x) × (length (varint i) + x ≤ m)
+variant_within sizes is i m e l =
+    let r = variant_from sizes is 0 i m e l in (r.0, r.1, omega (arith, r.2, varint_at (0 + i) i (omega arith)))
+
+pub counted_within : (most : ℕ) (element : Option ℕ) (m : ℕ) → 0 < most → counted_size most element ≡ Some m
+    → (x : ℕ) × (element ≡ Some x) × (x * most + length (varint most) ≡ m)
+counted_within zero element m l e = absurd (omega (arith, l))
+counted_within (suc n) None m l e = cc
+counted_within (suc n) (Some x) m l e = (x, refl, cc)
+
+pub many_within : (count : ℕ) (inner : Option ℕ) (m : ℕ) → 0 < count → so_many count inner ≡ Some m
+    → (x : ℕ) × (inner ≡ Some x) × (x * count ≡ m)
+many_within zero inner m l e = absurd (omega (arith, l))
+many_within (suc n) None m l e = cc
+many_within (suc n) (Some x) m l e = (x, refl, cc)
+
+pub optional_within : (inner : Option ℕ) (m : ℕ) → both inner (Some 1) ≡ Some m → (x : ℕ) × (inner ≡ Some x) × (x + 1 ≡ m)
+optional_within None m e = cc
+optional_within (Some x) m e = (x, refl, cc)
+
+-- what a sum or a product is that 64 bits don't hold
+pub past_is : (a : ℕ) → (a < 2 ^ 64 → ⊥) → 2 ^ 64 ≤ a
+past_is a h = ⊎_elim (λ l. absurd (h l)) (λ m. m) (cases_lt a (2 ^ 64))
+
+pub past_64 : (r : Option ℕ) (a : ℕ) → SomeIff r (a < 2 ^ 64) a → r ≡ None → 2 ^ 64 ≤ a
+past_64 None a h e = past_is a h
+past_64 (Some x) a h e = cc
+
+pub many_is : (count a : ℕ) (inner r : Option ℕ) → 0 < count → inner ≡ Some a → SomeIff r (a * count < 2 ^ 64) (a * count)
+    → IfSome r (λ n. so_many count inner ≡ Some n)
+many_is zero a inner r l e h = absurd (omega (arith, l))
+many_is (suc n) a None r l e h = cc
+many_is (suc n) a (Some x) None l e h = tt
+many_is (suc n) a (Some x) (Some y) l e h = let q : x ≡ a = cc e in ap Some (ap (λ z. z * suc n) q ∙ sym h.1)
+
+pub optional_is : (a : ℕ) (inner r : Option ℕ) → inner ≡ Some a → SomeIff r (a + 1 < 2 ^ 64) (a + 1) → IfSome r (λ n. both inner (Some 1) ≡ Some n)
+optional_is a inner None e h = tt
+optional_is a inner (Some y) e h = both_is inner (Some 1) a 1 y e refl (sym h.1)
+
+-- no size at this place
+pub none_within : {P : Type 0} (o : Option ℕ) → o ≡ None → (x : ℕ) → o ≡ Some x → P
+none_within o e x f = let g : ◌≡◌ {A = Option ℕ} None (Some x) = sym e ∙ f in cc g
 
 -- Counts
 
@@ -298,26 +374,119 @@ set_known (x ∷ xs) (suc place) size zero m e = inr e
 set_known (x ∷ xs) (suc place) size (suc p) m e =
     ⊎_elim (λ s. inl (ap suc s.0, s.1)) (λ r. inr r) (set_known xs place size p m e)
 
-some_holds : (size : Option ℕ) (P : ℕ → Type 0) (m : ℕ) → IfSome size P → size ≡ Some m → P m
-some_holds size P m h e = subst (λ s. IfSome s P) e h
+-- sizes that are known in one table are so in another
+abbrev Extends : List (Option ℕ) → List (Option ℕ) → Type 0
+Extends old new = (p m : ℕ) → known_size old p ≡ Some m → known_size new p ≡ Some m
 
-known_here : (nodes : List Node) (depth place : ℕ) (n : Node) (m : ℕ) → slice_get nodes place ≡ Some n
-    → IsAtMost (TakesNode (SchemaTakes depth nodes) n) m → IsAtMost (SchemaTakes (suc depth) nodes place) m
-unfolding SchemaTakes
-known_here nodes depth place n m q r = subst (λ o. IsAtMost (TakesPlace (SchemaTakes depth nodes) o) m) (sym q) r
+many_on : (count m : ℕ) (old new : Option ℕ) → ((x : ℕ) → old ≡ Some x → new ≡ Some x) → so_many count old ≡ Some m → so_many count new ≡ Some m
+many_on zero m old new h e = e
+many_on (suc n) m None new h e = cc
+many_on (suc n) m (Some x) new h e = subst (λ o. so_many (suc n) o ≡ Some m) (sym (h x refl)) e
 
-pub sizes_then : (nodes : List Node) (sizes : List (Option ℕ)) (place : ℕ) (n : Node) (size : Option ℕ) → AreSizesOf nodes sizes
-    → slice_get nodes place ≡ Some n → IfSome size (λ m. node_size sizes n ≡ Some m) → AreSizesOf nodes (slice_set sizes place size)
+counted_on : (count m : ℕ) (old new : Option ℕ) → ((x : ℕ) → old ≡ Some x → new ≡ Some x) → counted_size count old ≡ Some m → counted_size count new ≡ Some m
+counted_on count m old new h e =
+    let b = both_some (so_many count old) (Some (length (varint count))) m e in
+    both_is (so_many count new) (Some (length (varint count))) b.0 b.1 m (many_on count b.0 old new h b.2) b.3 b.4
+
+optional_on : (m : ℕ) (old new : Option ℕ) → ((x : ℕ) → old ≡ Some x → new ≡ Some x) → both old (Some 1) ≡ Some m → both new (Some 1) ≡ Some m
+optional_on m old new h e = let b = both_some old (Some 1) m e in both_is new (Some 1) b.0 b.1 m (h b.0 b.2) b.3 b.4
+
+sum_kept : (old new : List (Option ℕ)) → Extends old new → (is : List ℕ) (m : ℕ) → sum_size old is ≡ Some m → sum_size new is ≡ Some m
+sum_kept old new h [] m e = e
+sum_kept old new h (i ∷ is) m e =
+    let b = both_some (known_size old i) (sum_size old is) m e in
+    both_is (known_size new i) (sum_size new is) b.0 b.1 m (h i b.0 b.2) (sum_kept old new h is b.1 b.3) b.4
+
+variant_kept : (old new : List (Option ℕ)) → Extends old new → (is : List ℕ) (from m : ℕ) → variant_size old from is ≡ Some m → variant_size new from is ≡ Some m
+variant_kept old new h [] from m e = e
+variant_kept old new h (i ∷ is) from m e =
+    let s = greatest_some (both (Some (length (varint from))) (known_size old i)) (variant_size old (from + 1) is) m e in
+    let b = both_some (Some (length (varint from))) (known_size old i) s.0 s.2 in
+    greatest_is (both (Some (length (varint from))) (known_size new i)) (variant_size new (from + 1) is) s.0 s.1 m
+    (both_is (Some (length (varint from))) (known_size new i) b.0 b.1 s.0 b.2 (h i b.1 b.3) b.4)
+    (variant_kept old new h is (from + 1) s.1 s.3) s.4
+
+node_kept : (old new : List (Option ℕ)) → Extends old new → (n : Node) (m : ℕ) → node_size old n ≡ Some m → node_size new n ≡ Some m
+node_kept old new h node.Bool m e = e
+node_kept old new h node.U8 m e = e
+node_kept old new h node.I8 m e = e
+node_kept old new h node.U16 m e = e
+node_kept old new h node.U32 m e = e
+node_kept old new h node.U64 m e = e
+node_kept old new h node.U128 m e = e
+node_kept old new h node.I16 m e = e
+node_kept old new h node.I32 m e = e
+node_kept old new h node.I64 m e = e
+node_kept old new h node.I128 m e = e
+node_kept old new h (node.LE k) m e = e
+node_kept old new h (node.BE k) m e = e
+node_kept old new h node.Char m e = e
+node_kept old new h node.Text m e = e
+node_kept old new h (node.TextUpTo n) m e = e
+node_kept old new h node.Bytes m e = e
+node_kept old new h (node.Option i) m e = optional_on m (known_size old i) (known_size new i) (h i) e
+node_kept old new h (node.List i) m e = e
+node_kept old new h (node.ListUpTo n i) m e = counted_on n m (known_size old i) (known_size new i) (h i) e
+node_kept old new h (node.Array n i) m e = many_on n m (known_size old i) (known_size new i) (h i) e
+node_kept old new h (node.Struct is) m e = sum_kept old new h is.items m e
+node_kept old new h (node.Enum is) m e = variant_kept old new h is.items 0 m e
+
+-- one that wasn't known was set
+set_extends : (sizes : List (Option ℕ)) (place : ℕ) (size : Option ℕ) → known_size sizes place ≡ None → Extends sizes (slice_set sizes place size)
+set_extends [] place size e p m f = f
+set_extends (x ∷ xs) zero size e zero m f = none_within x e m f
+set_extends (x ∷ xs) zero size e (suc p) m f = f
+set_extends (x ∷ xs) (suc place) size e zero m f = f
+set_extends (x ∷ xs) (suc place) size e (suc p) m f = set_extends xs place size e p m f
+
+pub set_fewer : (sizes : List (Option ℕ)) (place n : ℕ) → place < length sizes → known_size sizes place ≡ None
+    → unknown_among (slice_set sizes place (Some n)) < unknown_among sizes
+set_fewer [] place n l e = absurd (omega (arith, l))
+set_fewer (None ∷ xs) zero n l e = omega arith
+set_fewer (Some x ∷ xs) zero n l e = cc
+set_fewer (None ∷ xs) (suc place) n l e = omega (arith, set_fewer xs place n (omega (arith, l)) e)
+set_fewer (Some x ∷ xs) (suc place) n l e = set_fewer xs place n (omega (arith, l)) e
+
+same_node : (a b : Node) (o : Option Node) → o ≡ Some a → o ≡ Some b → a ≡ b
+same_node a b o e f = let g : Some a ≡ Some b = sym e ∙ f in cc g
+
+-- a size was found by those of the types inside
+pub parts_then : (nodes : List Node) (sizes : List (Option ℕ)) (place : ℕ) (n : Node) (m : ℕ) → AreByParts nodes sizes
+    → slice_get nodes place ≡ Some n → known_size sizes place ≡ None → node_size sizes n ≡ Some m
+    → AreByParts nodes (slice_set sizes place (Some m))
+parts_then nodes sizes place n m h g none is = record {
+  each = λ p q k at e.
+      let new = slice_set sizes place (Some m) in
+      let on = set_extends sizes place (Some m) none in
+      ⊎_elim
+      (λ here.
+      let same : n ≡ k = same_node n k (slice_get nodes p) (subst (λ z. slice_get nodes z ≡ Some n) here.0 g) at in
+      let size : node_size sizes k ≡ Some q = subst (λ z. node_size sizes z ≡ Some q) same (is ∙ here.1) in
+      node_kept sizes new on k q size)
+      (λ there. node_kept sizes new on k q (h.each p q k at there))
+      (set_known sizes place (Some m) p q e);
+}
+
+-- sizes by those of the types inside are bounds
+right_here : (nodes : List Node) (sizes : List (Option ℕ)) (depth p m : ℕ) (o : Option Node) → slice_get nodes p ≡ o → AreByParts nodes sizes
+    → KnowsSizes (SchemaTakes depth nodes) sizes → known_size sizes p ≡ Some m → IsAtMost (TakesPlace (SchemaTakes depth nodes) o) m
+right_here nodes sizes depth p m None g h k e t x = absurd x
+right_here nodes sizes depth p m (Some n) g h k e t x = node_at_most (SchemaTakes depth nodes) sizes k n m (h.each p m n g e) t x
+
+pub parts_right : (nodes : List Node) (sizes : List (Option ℕ)) → AreByParts nodes sizes → AreSizesOf nodes sizes
 unfolding SchemaTakes
-sizes_then nodes sizes place n size h g f zero p m e = λ t k. absurd k
-sizes_then nodes sizes place n size h g f (suc depth) p m e =
-    ⊎_elim
-    (λ here.
-    let q : slice_get nodes p ≡ Some n = subst (λ z. slice_get nodes z ≡ Some n) here.0 g in
-    let r = node_at_most (SchemaTakes depth nodes) sizes (h depth) n m (some_holds size (λ z. node_size sizes n ≡ Some z) m f here.1) in
-    known_here nodes depth p n m q r)
-    (λ there. h (suc depth) p m there)
-    (set_known sizes place size p m e)
+parts_right nodes sizes h zero p m e = λ t k. absurd k
+parts_right nodes sizes h (suc depth) p m e = right_here nodes sizes depth p m (slice_get nodes p) refl h (parts_right nodes sizes h depth) e
+
+-- the nodes so far, and one more
+pub one_more_has : (nodes : List Node) (sizes : List (Option ℕ)) (place : ℕ) → ((p : ℕ) → p < place → HasSizeAt nodes sizes p) → HasSizeAt nodes sizes place
+    → (p : ℕ) → p < place + 1 → HasSizeAt nodes sizes p
+one_more_has nodes sizes place h k p l =
+    ⊎_elim (λ b. h p b) (λ b. let e : place ≡ p = omega (arith, b, l) in subst (λ q. HasSizeAt nodes sizes q) e k) (cases_lt p place)
+
+-- all nodes
+pub all_have : (nodes : List Node) (sizes : List (Option ℕ)) (n : ℕ) → length nodes ≤ n → ((p : ℕ) → p < n → HasSizeAt nodes sizes p) → HaveSizes nodes sizes
+all_have nodes sizes n l h p k g none = h p (omega (arith, l, slice_get_within nodes p k g)) k g none
 
 -- Lists that are bounded
 

@@ -1,5 +1,5 @@
 -- The maximum sizes of types, in bytes.
-use Rattle.std.specs.Prelude.{◌≡◌, ℕ, zero, suc, ◌+◌, ◌*◌, ◌≤◌, List, [], ◌∷◌, length, map, Option, Some, None}
+use Rattle.std.specs.Prelude.{◌≡◌, ℕ, zero, suc, ◌+◌, ◌*◌, ◌^◌, ◌≤◌, List, [], ◌∷◌, length, map, Option, Some, None}
 use Rattle.std.specs.List.{slice_get}
 use Rattle.postcard_tree.specs.Tree.{Tree}
 use Rattle.postcard_tree.specs.Spelling.{varint, short}
@@ -83,6 +83,31 @@ node_size sizes (node.Array n i) = so_many n (known_size sizes i)
 node_size sizes (node.Struct is) = sum_size sizes is.items
 node_size sizes (node.Enum is) = variant_size sizes 0 is.items
 
+-- a size is unknown, or it is 2^64 or more
+abbrev pub IsPast64 : Option ℕ → Type 0
+IsPast64 size = (n : ℕ) → size ≡ Some n → 2 ^ 64 ≤ n
+
+-- Each size that is known is that of the node by the sizes of the types inside.
+pub record AreByParts (nodes : List Node) (sizes : List (Option ℕ)) : Type 0 where
+  -- of the node at each index
+  pub each : (place m : ℕ) (n : Node) → slice_get nodes place ≡ Some n
+      → known_size sizes place ≡ Some m → node_size sizes n ≡ Some m
+
+-- the node at this index has a size, or by the sizes of the types inside it has none, or one of 2^64 or more
+abbrev pub HasSizeAt : List Node → List (Option ℕ) → ℕ → Type 0
+HasSizeAt nodes sizes place = (n : Node) → slice_get nodes place ≡ Some n → known_size sizes place ≡ None
+    → IsPast64 (node_size sizes n)
+
+-- This holds of each node: so no size is left out that the sizes of the types inside give.
+abbrev pub HaveSizes : List Node → List (Option ℕ) → Type 0
+HaveSizes nodes sizes = (place : ℕ) → HasSizeAt nodes sizes place
+
+-- how many sizes aren't known
+abbrev pub unknown_among : List (Option ℕ) → ℕ
+unknown_among [] = 0
+unknown_among (None ∷ sizes) = unknown_among sizes + 1
+unknown_among (Some n ∷ sizes) = unknown_among sizes
+
 -- a list whose elements are known to have no bytes gets this maximum length; any other is unchanged
 abbrev pub list_bounded : Option ℕ → ℕ → ℕ → Node
 list_bounded None most i = node.List i
@@ -100,5 +125,7 @@ pub record AreListsBounded (most : ℕ) (nodes nodes' : List Node) : Type 0 wher
   pub sizes : List (Option ℕ)
   -- they are upper bounds
   pub right : AreSizesOf nodes sizes
+  -- none is left out that the types inside give
+  pub found : HaveSizes nodes sizes
   -- the lists that they bound by 0 are changed
   pub changed : nodes' ≡ map (node_bounded sizes most) nodes

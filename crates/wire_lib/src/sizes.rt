@@ -1,8 +1,8 @@
 //! The maximum sizes of types, in bytes.
-ghost use Rattle.std.specs.Prelude.{◌≡◌, ℕ, length, None, Some, IfSome, IfOk, IsErr, IsTrue, ◌↔◌, MatchOption};
+ghost use Rattle.std.specs.Prelude.{◌≡◌, ℕ, ◌<◌, length, None, Some, true, false, IfSome, IfOk, IsErr, IsTrue, ◌↔◌, MatchOption};
 ghost use Rattle.postcard_tree.specs.Spelling.{varint};
 ghost use Rattle.schema_table.specs.Integers.{width_of as width_in_tree};
-ghost use Rattle.wire_lib.specs.Sizes.{known_size, sum_size, variant_size, counted_size, node_size, node_bounded, AreSizesOf, AreListsBounded};
+ghost use Rattle.wire_lib.specs.Sizes.{known_size, both, so_many, sum_size, variant_size, counted_size, node_size, node_bounded, AreSizesOf, AreListsBounded, IsPast64, AreByParts, HasSizeAt, HaveSizes, unknown_among};
 
 use postcard_tree::varint::varint_u64;
 use schemas::{IntegerType, Node};
@@ -28,7 +28,8 @@ fn size_at(sizes: &[Option<u64>], place: usize) -> Option<u64>
 
 /// The sum of the maximum sizes of fields.
 fn sum(sizes: &[Option<u64>], fields: &[usize]) -> Option<u64>
-    ensures { IfSome result (λ n. sum_size sizes.now fields.now ≡ Some n) }
+    ensures some { IfSome result (λ n. sum_size sizes.now fields.now ≡ Some n) }
+    ensures none { result ≡ None → IsPast64 (sum_size sizes.now fields.now) }
 {
     let mut total: u64 = 0;
     for field in fields {
@@ -39,7 +40,8 @@ fn sum(sizes: &[Option<u64>], fields: &[usize]) -> Option<u64>
 
 /// The maximum size of the variants, each with its index.
 fn greatest(sizes: &[Option<u64>], payloads: &[usize]) -> Option<u64>
-    ensures { IfSome result (λ n. variant_size sizes.now 0 payloads.now ≡ Some n) }
+    ensures some { IfSome result (λ n. variant_size sizes.now 0 payloads.now ≡ Some n) }
+    ensures none { result ≡ None → IsPast64 (variant_size sizes.now 0 payloads.now) }
 {
     let mut most: u64 = 0;
     for (index, payload) in payloads.iter().enumerate() {
@@ -63,17 +65,42 @@ fn width_of(of: IntegerType) -> u64
 
 /// The maximum size of a list of at most `most` elements: its count and its elements.
 fn counted(most: u64, element: Option<u64>) -> Option<u64>
-    ensures { IfSome result (λ n. counted_size most element ≡ Some n) }
+    ensures some { IfSome result (λ n. counted_size most element ≡ Some n) }
+    ensures none { result ≡ None → IsPast64 (counted_size most element) }
 {
     if most == 0 {
         return Some(1);
     }
-    element?.checked_mul(most)?.checked_add(varint_size(most))
+    let size = element?;
+    let all = size.checked_mul(most)?;
+    all.checked_add(varint_size(most))
+}
+
+/// The maximum size of an option, by that of its value.
+fn optional(inner: Option<u64>) -> Option<u64>
+    ensures some { IfSome result (λ n. both inner (Some 1) ≡ Some n) }
+    ensures none { result ≡ None → IsPast64 (both inner (Some 1)) }
+{
+    let size = inner?;
+    size.checked_add(1)
+}
+
+/// The maximum size of so many values.
+fn many(count: u64, inner: Option<u64>) -> Option<u64>
+    ensures some { IfSome result (λ n. so_many count inner ≡ Some n) }
+    ensures none { result ≡ None → IsPast64 (so_many count inner) }
+{
+    if count == 0 {
+        return Some(0);
+    }
+    let size = inner?;
+    size.checked_mul(count)
 }
 
 /// The maximum size of a node's values, by those of the types inside.
 fn size_of_node(sizes: &[Option<u64>], node: &Node) -> Option<u64>
-    ensures { IfSome result (λ n. node_size sizes.now node.now ≡ Some n) }
+    ensures some { IfSome result (λ n. node_size sizes.now node.now ≡ Some n) }
+    ensures none { result ≡ None → IsPast64 (node_size sizes.now node.now) }
 {
     match node {
         Node::Bool | Node::U8 | Node::I8 => Some(1),
@@ -85,9 +112,8 @@ fn size_of_node(sizes: &[Option<u64>], node: &Node) -> Option<u64>
         Node::TextUpTo(most) => counted(*most, Some(1)),
         Node::ListUpTo(most, inner) => counted(*most, size_at(sizes, *inner)),
         Node::Text | Node::Bytes | Node::List(_) => None,
-        Node::Option(inner) => size_at(sizes, *inner)?.checked_add(1),
-        Node::Array(0, _) => Some(0),
-        Node::Array(count, inner) => size_at(sizes, *inner)?.checked_mul(*count),
+        Node::Option(inner) => optional(size_at(sizes, *inner)),
+        Node::Array(count, inner) => many(*count, size_at(sizes, *inner)),
         Node::Struct(fields) => sum(sizes, fields),
         Node::Enum(payloads) => greatest(sizes, payloads),
     }
@@ -151,11 +177,56 @@ impl Sizes {
         Ok(())
     }
 
+    /// Finds the size of a node by those of the types inside, if it isn't known, and returns whether it was found.
+    fn find(&mut self, nodes: &[Node], place: usize) -> bool
+        ensures many { length self.new.known.items ≡ length self.old.known.items }
+        ensures right { AreByParts nodes.now self.old.known.items
+            → AreByParts nodes.now self.new.known.items }
+        ensures found { result ≡ true
+            → unknown_among self.new.known.items < unknown_among self.old.known.items }
+        ensures same { result ≡ false → self.new ≡ self.old }
+        ensures none { result ≡ false → length self.old.known.items ≡ length nodes.now
+            → HasSizeAt nodes.now self.old.known.items place }
+    {
+        let Some(node) = nodes.get(place) else {
+            return false;
+        };
+        if size_at(&self.known, place).is_some() {
+            return false;
+        }
+        let Some(size) = size_of_node(&self.known, node) else {
+            return false;
+        };
+        let Some(known) = self.known.get_mut(place) else {
+            return false;
+        };
+        *known = Some(size);
+        true
+    }
+
+    /// Finds one more size, if those of the types inside give one, and returns whether it did.
+    fn find_one(&mut self, nodes: &[Node]) -> bool
+        ensures many { length self.new.known.items ≡ length self.old.known.items }
+        ensures right { AreByParts nodes.now self.old.known.items
+            → AreByParts nodes.now self.new.known.items }
+        ensures found { result ≡ true
+            → unknown_among self.new.known.items < unknown_among self.old.known.items }
+        ensures none { result ≡ false → length self.old.known.items ≡ length nodes.now
+            → HaveSizes nodes.now self.new.known.items }
+    {
+        for place in 0..nodes.len() {
+            if self.find(nodes, place) {
+                return true;
+            }
+        }
+        false
+    }
+
     /// Visits the next part of the node that was begun last; after all of them its size is known.
     fn step(&mut self, nodes: &[Node], begun: &mut Vec<Begun>) -> Result<bool, AllocError>
         ensures many { length self.new.known.items ≡ length self.old.known.items }
-        ensures right { AreSizesOf nodes.now self.old.known.items
-            → AreSizesOf nodes.now self.new.known.items }
+        ensures right { AreByParts nodes.now self.old.known.items
+            → AreByParts nodes.now self.new.known.items }
     {
         let Some(Begun { place, parts }) = begun.pop() else {
             return Ok(false);
@@ -170,10 +241,7 @@ impl Sizes {
             })?;
             self.begin(begun, part)?;
         } else {
-            let size = size_of_node(&self.known, node);
-            if let Some(known) = self.known.get_mut(place) {
-                *known = size;
-            }
+            let _ = self.find(nodes, place);
         }
         Ok(true)
     }
@@ -182,7 +250,7 @@ impl Sizes {
 /// Returns for each type of a table how many bytes a value has at most, unframed.
 ///
 /// `None`: there is no such number, as for texts, bytes and lists without a maximum length and for recursive types, or it is 2^64 or
-/// more. Each node is visited once, after the types inside.
+/// more. Each node is visited once, after the types inside; then each is looked at once more.
 ///
 /// # Errors
 /// Out of memory.
@@ -192,6 +260,8 @@ impl Sizes {
 pub fn greatest_sizes(alloc: Global, nodes: &[Node]) -> Result<Vec<Option<u64>>, AllocError>
     ensures each { IfOk result (λ sizes. length sizes.items ≡ length nodes.now) }
     ensures bounds { IfOk result (λ sizes. AreSizesOf nodes.now sizes.items) }
+    ensures parts { IfOk result (λ sizes. AreByParts nodes.now sizes.items) }
+    ensures found { IfOk result (λ sizes. HaveSizes nodes.now sizes.items) }
 {
     let mut sizes = Sizes::new(alloc, nodes.len())?;
     let mut begun = Vec::new(alloc);
@@ -203,6 +273,8 @@ pub fn greatest_sizes(alloc: Global, nodes: &[Node]) -> Result<Vec<Option<u64>>,
             }
         }
     }
+    // it finds none, since each node came after the types inside; but this shows it
+    while sizes.find_one(nodes) {}
     Ok(sizes.known)
 }
 

@@ -2,7 +2,7 @@ use Rattle.std.proofs.Common.{◌≡◌, ◌∙◌, ℕ, ◌<◌, length, get_or
 use Rattle.std.specs.Prelude.{slice_set}
 use Rattle.std.proofs.lemmas.List.Edits.{map_over_more}
 use Rattle.schema_table.specs.declared.node.Node.TheVariants as node
-use Rattle.wire_lib.specs.Sizes.{node_bounded, AreSizesOf}
+use Rattle.wire_lib.specs.Sizes.{node_bounded, AreSizesOf, HaveSizes}
 use Rattle.wire_lib.proofs.SizesLemmas.{bounded_is, at_this, at_none, all_mapped}
 use Rattle.wire_lib.proofs.sizes.bound_lists.Goals.{in-Some+in-Struct-1, in-Some+in-Enum-1, in-Some+in-Bool-1, in_default}
 use Rattle.wire_lib.proofs.sizes.bound_lists.Goals as goal
@@ -36,6 +36,7 @@ returns-clause-bounded c =
     record {
       sizes = c.in_ok-sizes.sizes.items;
       right = subst (λ ns. AreSizesOf ns c.in_ok-sizes.sizes.items) c.deref.ensures.value c.in_ok-sizes.ensures.bounds;
+      found = subst (λ ns. HaveSizes ns c.in_ok-sizes.sizes.items) c.deref.ensures.value c.in_ok-sizes.ensures.found;
       changed = all_mapped (node_bounded c.in_ok-sizes.sizes.items c.args.most) c.args.nodes.now.len c.loop-node.node-items items c.loop-node.node-index
           (c.loop-node.auto.node-items ∙ same) (sym c.deref_mut-node-items.ensures.len ∙ same) (omega (arith, same, c.loop-node-test.false)) c.loop-node.invariant;
     }
