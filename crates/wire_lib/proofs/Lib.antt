@@ -4,6 +4,7 @@ pub mod DrawnLemmas
 pub mod FeedLemmas
 pub mod LineLemmas
 pub mod NamesLemmas
+pub mod PrintableLemmas
 pub mod RawLemmas
 pub mod ResentLemmas
 pub mod SeenLemmas

@@ -1,5 +1,5 @@
 -- How many messages came in a window of time.
-use Rattle.std.specs.Prelude.{◌≡◌, ◌==◌, ℕ, ◌+◌, ◌-◌, ◌<◌, ◌≤◌, ◌^◌, min, List, [], ◌∷◌, if◌then◌else◌}
+use Rattle.std.specs.Prelude.{◌≡◌, ◌==◌, ℕ, ◌+◌, ◌-◌, ◌<◌, ◌≤◌, ◌^◌, min, nat_le, List, [], ◌∷◌, if◌then◌else◌}
 use Rattle.wire_lib.specs.declared.watching.rate.Rate.{Rate}
 
 -- the number, or the greatest of 64 bits
@@ -32,6 +32,10 @@ pub record HasTimed (r : Rate) (times : List ℕ) : Type 0 where
   pub first : r.window ≡ 0 → r.before ≡ 0
   -- the number of the window before it
   pub before : (w : ℕ) → w + 1 ≡ r.window → r.before ≡ capped (count_at w times)
+
+-- the number that a rate has for the window before this one
+abbrev pub rate_in : Rate → ℕ → ℕ
+rate_in r window = if nat_le window r.window then r.before else (if window - 1 == r.window then r.here else 0)
 
 -- n messages came in the window before this one, which isn't earlier than the latest in which any came
 abbrev pub IsRate : List ℕ → ℕ → ℕ → Type 0

@@ -110,7 +110,7 @@ fn put_taken(
 /// buffer for the value's text, which is reused.
 ///
 /// # Errors
-/// Out of memory; a part of the line may have been appended.
+/// Out of memory; a part of the lines may have been appended.
 ///
 /// # Allocates
 /// What `text` and `lines` grow by. The value, and with `strict` its encoding, are freed.

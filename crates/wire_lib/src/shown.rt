@@ -115,7 +115,7 @@ impl Shown {
     /// Appends those of the lines that are shown. With a `time` in milliseconds each line begins with the member `"time"`, in seconds.
     ///
     /// # Errors
-    /// Out of memory; the lines before that have been appended.
+    /// Out of memory; the lines before that have been appended, and maybe a part of one more.
     ///
     /// # Allocates
     /// What `out` grows by. With a `time` a text at a time is freed.

@@ -1,6 +1,6 @@
 //! A table of messages as printable lines.
-ghost use Rattle.std.specs.Prelude.{◌≡◌, ℕ, ◌+◌, ◌<◌, ◌≤◌, List, length, IfOk, OnOk};
-ghost use Rattle.wire_lib.specs.Pictures.{FitInColumns};
+ghost use Rattle.std.specs.Prelude.{◌≡◌, ◌+◌, ◌<◌, [], ◌∷◌, length, string_bytes, map, IfOk, OnOk};
+ghost use Rattle.wire_lib.specs.Pictures.{FitInColumns, AppendsLines, line_in, line_bytes, rate_text, row_text, row_texts, head_text, damage_texts, picture_texts};
 
 use crate::watching::printable::printable;
 use crate::watching::table::{Row, Table};
@@ -25,19 +25,24 @@ fn put_line(
     text: &str,
 ) -> Result<(), AllocError>
     requires { FitInColumns columns lines.old.items }
-    ensures { OnOk result (FitInColumns columns lines.new.items) }
+    ensures fits { OnOk result (FitInColumns columns lines.new.items) }
+    ensures text { OnOk result (AppendsLines columns (text.now ∷ [])
+        lines.old.items lines.new.items) }
 {
     Ok(lines.push(printable(alloc, text.trim_end(), columns)?)?)
 }
 
 /// The rate per second with one decimal, by the number in a window of two seconds.
-fn per_second(alloc: Global, came: u64) -> Result<String, AllocError> {
-    let half = if came % 2 == 0 { 0 } else { 5 };
-    format!(in alloc; "{}.{half}", came / 2)
+fn per_second(alloc: Global, came: u64) -> Result<String, AllocError>
+    ensures { IfOk result (λ text. string_bytes text ≡ rate_text came) }
+{
+    format!(in alloc; "{}.{}", came / 2, came % 2 * 5)
 }
 
 /// The text of a row: its kind, the number of messages, the rate, and the last one.
-fn said(alloc: Global, row: &Row, window: Option<u64>) -> Result<String, AllocError> {
+fn said(alloc: Global, row: &Row, window: Option<u64>) -> Result<String, AllocError>
+    ensures { IfOk result (λ text. string_bytes text ≡ row_text window row.now) }
+{
     let (name, last) = (row.name.as_str(), row.last.as_str());
     let count = row.count;
     match window {
@@ -50,7 +55,9 @@ fn said(alloc: Global, row: &Row, window: Option<u64>) -> Result<String, AllocEr
 }
 
 /// The line above the rows.
-fn head(view: View) -> &'static str {
+fn head(view: View) -> &'static str
+    ensures { result.now ≡ head_text view.window }
+{
     match view.window {
         Some(_) => "message              count     per s  last",
         None => "message              count  last",
@@ -65,7 +72,9 @@ fn put_rows(
     view: View,
 ) -> Result<(), AllocError>
     requires { FitInColumns view.columns lines.old.items }
-    ensures { OnOk result (FitInColumns view.columns lines.new.items) }
+    ensures fits { OnOk result (FitInColumns view.columns lines.new.items) }
+    ensures texts { OnOk result (AppendsLines view.columns
+        (row_texts view.window rows.now view.kinds) lines.old.items lines.new.items) }
 {
     let mut left = view.kinds;
     for row in rows {
@@ -90,7 +99,9 @@ fn put_damages(
     view: View,
 ) -> Result<(), AllocError>
     requires { FitInColumns view.columns lines.old.items }
-    ensures { OnOk result (FitInColumns view.columns lines.new.items) }
+    ensures fits { OnOk result (FitInColumns view.columns lines.new.items) }
+    ensures texts { OnOk result (AppendsLines view.columns
+        (damage_texts table.now) lines.old.items lines.new.items) }
 {
     if table.damaged == 0 {
         return Ok(());
@@ -125,7 +136,9 @@ pub fn damage_lines(table: &Table) -> usize
 /// # Allocates
 /// The lines. A text at a time is freed.
 pub fn picture(alloc: Global, table: &Table, view: View) -> Result<Vec<Vec<u8>>, AllocError>
-    ensures { IfOk result (λ lines. FitInColumns view.columns lines.items) }
+    ensures fits { IfOk result (λ lines. FitInColumns view.columns lines.items) }
+    ensures texts { IfOk result (λ lines. line_bytes lines.items
+        ≡ map (line_in view.columns) (picture_texts view table.now)) }
 {
     let mut lines = Vec::new(alloc);
     put_line(alloc, &mut lines, view.columns, head(view))?;

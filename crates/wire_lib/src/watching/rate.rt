@@ -1,6 +1,6 @@
 //! How many messages come in a window of time.
 ghost use Rattle.std.specs.Prelude.{◌≡◌, ◌<◌, ◌≤◌, ℕ, List, [], ◌∷◌, max};
-ghost use Rattle.wire_lib.specs.Rates.{HasTimed, IsRate, newest};
+ghost use Rattle.wire_lib.specs.Rates.{HasTimed, IsRate, newest, rate_in};
 
 /// The length of a window, in milliseconds.
 pub const WINDOW: u64 = 2000;
@@ -59,8 +59,9 @@ impl Rate {
     }
 
     /// Returns how many messages came in the window before this one; window 0 has none before it. If this one is earlier than the last
-    /// in which any came, the result isn't specified.
+    /// in which any came, the result is that of the last.
     pub fn in_the_last(&self, window: u64) -> u64
+        ensures is { result ≡ rate_in self.now window }
         ensures rate { (times : List ℕ) → HasTimed self.now times → IsRate times window result }
         ensures first { (times : List ℕ) → HasTimed self.now times → newest times ≤ window
             → window ≡ 0 → result ≡ 0 }
