@@ -25,21 +25,7 @@ fn send<T: Serialize>(value: &T, line: &mut [u8; 80], sentinel: u8) -> Option<us
     }
 }
 
-/// Whether a value of these bytes is received alone on a line, read seven bytes at a time.
-fn hears<T: Serialize + DeserializeOwned>(
-    alloc: Global,
-    line: &[u8],
-    sentinel: u8,
-    bytes: &[u8],
-) -> bool {
-    let received = receive_with_sentinel::<T, _, 64>(alloc, In::new(line, 7, None), sentinel);
-    match received.answers.as_slice() {
-        [Answer::Value(value)] => writes(value, bytes),
-        _ => false,
-    }
-}
-
-/// Whether a value is received as these bytes where it was sent at a sentinel.
+/// Whether a value is received alone on a line, read seven bytes at a time, as these bytes where it was sent at a sentinel.
 fn crosses_at<T: Serialize + DeserializeOwned>(
     alloc: Global,
     value: &T,
@@ -50,28 +36,26 @@ fn crosses_at<T: Serialize + DeserializeOwned>(
     let Some(count) = send(value, &mut line, sentinel) else {
         return false;
     };
-    match line.get(..count) {
-        Some(frame) => hears::<T>(alloc, frame, sentinel, bytes),
-        None => false,
+    let Some(frame) = line.get(..count) else {
+        return false;
+    };
+    let received = receive_with_sentinel::<T, _, 64>(alloc, In::new(frame, 7, None), sentinel);
+    match received.answers.as_slice() {
+        [Answer::Value(value)] => writes(value, bytes),
+        _ => false,
     }
-}
-
-/// Whether a value is written as these bytes, and crosses a line at each sentinel.
-fn crosses_as<T: Serialize + DeserializeOwned>(alloc: Global, value: &T, bytes: &[u8]) -> bool {
-    for sentinel in SENTINELS {
-        if !crosses_at(alloc, value, bytes, sentinel) {
-            return false;
-        }
-    }
-    writes(value, bytes)
 }
 
 /// The value of these bytes, if it is written as they are, and crosses a line at each sentinel.
 fn crossed<T: Serialize + DeserializeOwned>(alloc: Global, bytes: &[u8]) -> Option<T> {
-    match from_bytes_owned::<T>(alloc, bytes) {
-        Ok(value) if crosses_as(alloc, &value, bytes) => Some(value),
-        _ => None,
+    let Ok(value) = from_bytes_owned::<T>(alloc, bytes) else {
+        return None;
+    };
+    let mut is_crossing = writes(&value, bytes);
+    for sentinel in SENTINELS {
+        is_crossing = is_crossing && crosses_at(alloc, &value, bytes, sentinel);
     }
+    if is_crossing { Some(value) } else { None }
 }
 
 /// The same of a message type, by its shape: a caller carries what the shape is read by, once.
@@ -143,9 +127,14 @@ const THE_DRAWING: Drawing = Drawing {
     long: LE(1),
 };
 
+/// Whether it is what its bytes say.
+fn is_the_drawing(drawing: &Drawing) -> bool {
+    *drawing == THE_DRAWING
+}
+
 fn drawing_crosses(alloc: Global) -> bool {
     match crossed_by_shape::<ShapeOf<Drawing>, Drawing>(alloc, DRAWING) {
-        Some(drawing) => drawing == THE_DRAWING,
+        Some(drawing) => is_the_drawing(&drawing),
         None => false,
     }
 }
@@ -153,32 +142,16 @@ fn drawing_crosses(alloc: Global) -> bool {
 /// 300 and -2 as their bytes, and three of its own.
 const SAMPLE: &[u8] = &[44, 1, 0, 0, 255, 254, 1, 2, 3];
 
-/// Whether a sample is what its bytes say.
-fn is_the_sample(sample: &Sample<u8, 3>) -> bool {
-    sample.at == 300 && sample.offset == -2 && sample.levels == [1, 2, 3]
-}
-
 fn sample_crosses(alloc: Global) -> bool {
     match crossed_by_shape::<ShapeOf<Sample<u8, 3>>, Sample<u8, 3>>(alloc, SAMPLE) {
-        Some(sample) => is_the_sample(&sample),
+        Some(sample) => {
+            sample.at == 300 && sample.offset == -2 && sample.levels == [1, 2, 3]
+        }
         None => false,
     }
 }
 
 const DEEP: &[u8] = &[2, 72, 105, 7, 1, 2, 3, 4, 5, 6, 7, 8, 9, 10, 11, 12];
-
-#[test]
-fn structs(rt: HostRuntime) {
-    let alloc = rt.alloc();
-    let are_crossing = [
-        text_crosses(alloc),
-        drawing_crosses(alloc),
-        sample_crosses(alloc),
-        crossed_by_six::<Six, Deep>(alloc, DEEP).is_some(),
-    ];
-    let size = greatest::<ShapeOf<Drawing>, Drawing>();
-    check(&rt, all_true(are_crossing) && size == Some(12 + 5 + 41));
-}
 
 /// A message of each variant.
 const MESSAGES: [&[u8]; 7] = [
@@ -221,7 +194,7 @@ fn are_the_holders(it: &Holders) -> bool {
 fn is_the_message(message: &Message, variant: usize) -> bool {
     match message {
         Message::Text(text) => variant == 0 && is_the_text(text),
-        Message::Drawing(drawing) => variant == 1 && *drawing == THE_DRAWING,
+        Message::Drawing(drawing) => variant == 1 && is_the_drawing(drawing),
         Message::Holders(holders) => variant == 2 && are_the_holders(holders),
         Message::Seen { by, at } => { variant == 3 && is_text(by.as_ref(), "x", 1) && *at == RIGHT }
         Message::Lost(number) => variant == 4 && *number == 300,
@@ -244,8 +217,17 @@ fn are_crossing(alloc: Global) -> bool {
 }
 
 #[test]
-fn variants(rt: HostRuntime) {
-    check(&rt, are_crossing(rt.alloc()));
+fn structs_and_variants(rt: HostRuntime) {
+    let alloc = rt.alloc();
+    let are_right = [
+        text_crosses(alloc),
+        drawing_crosses(alloc),
+        greatest::<ShapeOf<Drawing>, Drawing>() == Some(12 + 5 + 41),
+        sample_crosses(alloc),
+        crossed_by_six::<Six, Deep>(alloc, DEEP).is_some(),
+        are_crossing(alloc),
+    ];
+    check(&rt, all_true(are_right));
 }
 
 /// Whether what lies in a frame is lent as these bytes.
@@ -288,25 +270,17 @@ const BORROWER: &[u8] = &[2, 72, 105, 7, 2, 0, 0, 1, 121, 9, 1, 1, 120, 1];
 
 const LENT_PAIR: &[u8] = &[2, 72, 105, 2, 0, 10];
 
-/// Whether what holds texts that are lent crosses at a sentinel.
-fn borrower_crosses(alloc: Global, sentinel: u8) -> bool {
+/// Whether what holds texts that are lent crosses at a sentinel, and a text with bytes.
+fn lent_ones_cross(alloc: Global, sentinel: u8) -> bool {
     let mut line = [0u8; 80];
+    let mut other = [0u8; 80];
     crosses_over::<Borrower<'_, '_, Text>>(alloc, BORROWER, &mut line, sentinel)
-}
-
-/// Whether a text and bytes do.
-fn pair_crosses(alloc: Global, sentinel: u8) -> bool {
-    let mut line = [0u8; 80];
-    crosses_over::<(&str, &[u8])>(alloc, LENT_PAIR, &mut line, sentinel)
+        && crosses_over::<(&str, &[u8])>(alloc, LENT_PAIR, &mut other, sentinel)
 }
 
 #[test]
 fn lent(rt: HostRuntime) {
-    let alloc = rt.alloc();
     for sentinel in SENTINELS {
-        check(
-            &rt,
-            borrower_crosses(alloc, sentinel) && pair_crosses(alloc, sentinel),
-        );
+        check(&rt, lent_ones_cross(rt.alloc(), sentinel));
     }
 }

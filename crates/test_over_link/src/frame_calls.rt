@@ -1,6 +1,6 @@
 //! What is sent, and what is received of a damaged line, by `frames` and `frames_small`: bytes by hand, from the rules.
 
-use crate::checks::{all_true, check};
+use crate::checks::check;
 use frames::{
     FrameEvent, FramePush, FrameReceiver, FrameSender, WrongBuffer, encode, encode_with_sentinel,
     seal, unseal,
@@ -16,27 +16,18 @@ const LINE: [u8; 30] = [
     b'o', 0,
 ];
 
+const MESSAGE: FrameEvent = FrameEvent::Message {
+    start: 1,
+    length: 2,
+};
+
 // At which byte each event comes, of how long a stretch, and which it is.
 const HEARD: [(usize, usize, FrameEvent); 5] = [
-    (
-        5,
-        4,
-        FrameEvent::Message {
-            start: 1,
-            length: 2,
-        },
-    ),
+    (5, 4, MESSAGE),
     (8, 2, FrameEvent::Damaged),
     (14, 5, FrameEvent::Damaged),
     (23, 8, FrameEvent::TooLong),
-    (
-        29,
-        4,
-        FrameEvent::Message {
-            start: 1,
-            length: 2,
-        },
-    ),
+    (29, 4, MESSAGE),
 ];
 
 // Whether these events are received of the line, byte by byte.
@@ -44,31 +35,22 @@ fn is_heard(alloc: Global) -> bool {
     let mut receiver = FrameReceiver::new(0);
     let mut buffer = [0u8; 8];
     let mut count: usize = 0;
-    let mut is_right = true;
     for (at, byte) in LINE.iter().enumerate() {
-        match receiver.push_byte(alloc, &mut buffer, *byte) {
-            Ok(push) => match push.event {
-                Some(event) => {
-                    is_right = is_right
-                        && count < 5
-                        && HEARD[count % 5] == (at, push.stretch, event);
-                    count = count.saturating_add(1);
-                }
-                None => {}
-            },
-            Err(_) => is_right = false,
+        let Ok(push) = receiver.push_byte(alloc, &mut buffer, *byte) else {
+            return false;
+        };
+        if let Some(event) = push.event {
+            if count >= 5 || HEARD[count] != (at, push.stretch, event) {
+                return false;
+            }
+            count += 1;
         }
     }
-    is_right && count == 5 && receiver.begun_bytes() == 0 && !receiver.finish()
+    count == 5 && receiver.begun_bytes() == 0 && !receiver.finish()
 }
 
-#[test]
-fn damaged_line(rt: HostRuntime) {
-    check(&rt, is_heard(rt.alloc()));
-}
-
-// Whether a chunk results in this first event, at the end of so many bytes.
-fn brings(alloc: Global, piece: &[u8], used: usize, wanted: FrameEvent, plain: bool) -> bool {
+// Whether a chunk results in this first event, at the end of six bytes.
+fn brings(alloc: Global, piece: &[u8], wanted: FrameEvent, plain: bool) -> bool {
     let mut receiver = FrameReceiver::new(0);
     let mut buffer = [0u8; 8];
     let pushed = if plain {
@@ -77,28 +59,23 @@ fn brings(alloc: Global, piece: &[u8], used: usize, wanted: FrameEvent, plain: b
         receiver.push(alloc, &mut buffer, piece)
     };
     match pushed {
-        Ok(push) => push.used == used && push.event == Some(wanted),
+        Ok(push) => push.used == 6 && push.event == Some(wanted),
         Err(_) => false,
     }
 }
 
 #[test]
-fn pieces(rt: HostRuntime) {
+fn damaged_line_and_pieces(rt: HostRuntime) {
     let alloc = rt.alloc();
-    let message = FrameEvent::Message {
-        start: 1,
-        length: 2,
-    };
     // a plain send of `pay`, zero, `me` that was interrupted after five bytes, and the next one's zero
     let pay = FrameEvent::Message {
         start: 0,
         length: 3,
     };
-    let are_brought = [
-        brings(alloc, &LINE, 6, message, false),
-        brings(alloc, &[0, 4, b'p', b'a', b'y', 0], 6, pay, true),
-    ];
-    check(&rt, all_true(are_brought));
+    let are_right = is_heard(alloc)
+        && brings(alloc, &LINE, MESSAGE, false)
+        && brings(alloc, &[0, 4, b'p', b'a', b'y', 0], pay, true);
+    check(&rt, are_right);
 }
 
 #[test]
@@ -142,11 +119,7 @@ fn small(rt: HostRuntime) {
             Err(_) => check(&rt, false),
         }
     }
-    let message = FrameEvent::Message {
-        start: 1,
-        length: 2,
-    };
-    check(&rt, event == Some(message) && buffer[1..3] == [b'h', b'i']);
+    check(&rt, event == Some(MESSAGE) && buffer[1..3] == [b'h', b'i']);
 }
 
 #[test]
@@ -165,23 +138,16 @@ fn sends(rt: HostRuntime) {
     );
 }
 
-// Whether four bytes are encoded so, by zero and by 0A.
-fn are_encoded() -> bool {
+#[test]
+fn frames_and_sums(rt: HostRuntime) {
+    // four bytes are encoded by zero and by 0A
     let mut room = [0u8; 6];
     let is_plain = encode(&[10, 11, 0, 12], &mut room) == Ok(5) && room == [3, 10, 11, 2, 12, 0];
     let masked = encode_with_sentinel(&[10, 11, 0, 12], &mut room, 10);
-    is_plain && masked == Ok(5) && room == [9, 0, 1, 8, 6, 0]
-}
-
-// Whether a message is sealed and unsealed, one that was changed isn't, and one that has no room isn't sealed.
-fn are_sealed() -> bool {
+    check(&rt, is_plain && masked == Ok(5) && room == [9, 0, 1, 8, 6, 0]);
+    // a message is sealed and unsealed, one that was changed isn't, and one that has no room isn't sealed
     let mut message = [b'h', b'i', 0, 0, 0, 0];
     let is_sealed = seal(&mut message, 2) == Ok(6) && unseal(&message) == Some(2);
     message[0] = b'H';
-    is_sealed && unseal(&message).is_none() && seal(&mut message, 3).is_err()
-}
-
-#[test]
-fn frames_and_sums(rt: HostRuntime) {
-    check(&rt, are_encoded() && are_sealed());
+    check(&rt, is_sealed && unseal(&message).is_none() && seal(&mut message, 3).is_err());
 }

@@ -3,7 +3,6 @@
 mod checks;
 mod exchanges;
 mod noise;
-mod notices;
 mod seals;
 mod served;
 mod waiting;

@@ -3,6 +3,7 @@ use crate::checks::{all_true, check, greatest, writes};
 use example_station::messages::{
     Address, Command, Config, Event, Level, LogRecord, Packet, Ping, Report, SensorReading,
 };
+use postcard::experimental::max_size::MaxSize;
 use postcard::{
     AsShape, Deserialize, MatchesShape, Readable, Serialize, ShapeOf, Shaped, from_bytes,
     from_bytes_owned,
@@ -33,10 +34,11 @@ fn reread_by_shape<
     reread::<M>(alloc, bytes)
 }
 
-// Whether each row's bytes are read as its value, which is written as they are.
+// Whether each row's bytes are read as its value, which is written as they are; and whether these bytes are refused, if there are some.
 fn are_reread<'a, T: Serialize + Deserialize<&'a [u8]> + PartialEq + Drop>(
     alloc: Global,
     rows: &[(&'a [u8], T)],
+    refused: Option<&'a [u8]>,
 ) -> bool {
     for (bytes, value) in rows {
         match from_bytes::<T>(alloc, bytes) {
@@ -44,80 +46,29 @@ fn are_reread<'a, T: Serialize + Deserialize<&'a [u8]> + PartialEq + Drop>(
             _ => return false,
         }
     }
-    true
+    match refused {
+        Some(bytes) => from_bytes::<T>(alloc, bytes).is_err(),
+        None => true,
+    }
 }
 
-// Whether the rows are reread so, and these bytes are refused.
-fn are_all<'a, T: Serialize + Deserialize<&'a [u8]> + PartialEq + Drop>(
-    alloc: Global,
-    rows: &[(&'a [u8], T)],
-    refused: &'a [u8],
-) -> bool {
-    are_reread(alloc, rows) && from_bytes::<T>(alloc, refused).is_err()
-}
-
-// The same of a message type, by its shape.
-fn are_all_by_shape<
+// The same of a message type, by its shape; and whether this is its greatest size.
+fn are_all<
     'a,
-    S: Deserialize<&'a [u8]>,
+    S: Deserialize<&'a [u8]> + MaxSize,
     M: Shaped<Shape = S> + MatchesShape + Readable<Form = AsShape> + Serialize + PartialEq + Drop,
->(alloc: Global, rows: &[(&'a [u8], M)], refused: &'a [u8]) -> bool {
-    are_all::<M>(alloc, rows, refused)
+>(
+    alloc: Global,
+    rows: &[(&'a [u8], M)],
+    refused: Option<&'a [u8]>,
+    size: usize,
+) -> bool {
+    are_reread::<M>(alloc, rows, refused) && greatest::<S, M>() == Some(size)
 }
 
 const READINGS: [(&[u8], SensorReading); 1] = [(&[0xAC, 2, 1, 1, 1], READING)];
 
-fn is_the_record(record: &LogRecord) -> bool {
-    matches!(record.level, Level::Warning)
-        && record.at == 5
-        && record.text.as_str() == "A"
-        && matches!(record.source, Some(7))
-}
-
-fn record_is_reread(alloc: Global) -> bool {
-    match reread_by_shape::<ShapeOf<LogRecord>, LogRecord>(alloc, &[1, 5, 1, 65, 1, 7]) {
-        Some(record) => is_the_record(&record),
-        None => false,
-    }
-}
-
 const PINGS: [(&[u8], Ping); 1] = [(&[], Ping)];
-
-fn address_is_reread(alloc: Global) -> bool {
-    let read = from_bytes_owned::<Address>(alloc, &[0xAC, 2]);
-    writes(&Address(300), &[0xAC, 2]) && matches!(&read, Ok(Address(300)))
-}
-
-fn is_the_packet(packet: &Packet<'_>) -> bool {
-    packet.to == Address(7) && packet.text == "Hi" && matches!(packet.body, [9])
-}
-
-fn packet_is_reread(alloc: Global) -> bool {
-    match reread_by_shape::<ShapeOf<Packet<'_>>, Packet<'_>>(alloc, &[7, 2, 72, 105, 1, 9]) {
-        Some(packet) => is_the_packet(&packet),
-        None => false,
-    }
-}
-
-const REPORT: [u8; 15] = [1, 2, 3, 4, 5, 6, 7, 8, 1, 1, 122, 1, 9, 10, 11];
-
-fn is_the_report(it: &Report) -> bool {
-    let (first, second) = it.l;
-    it.e == 5
-        && it.f == 3
-        && it.h == 4
-        && it.j == 'z'
-        && matches!(it.k, Some(9))
-        && first == 10
-        && second == 11
-}
-
-fn report_is_reread(alloc: Global) -> bool {
-    match reread_by_shape::<ShapeOf<Report>, Report>(alloc, &REPORT) {
-        Some(report) => is_the_report(&report),
-        None => false,
-    }
-}
 
 const LEVELS: [(&[u8], Level); 1] = [(&[2], Level::Info)];
 
@@ -128,45 +79,72 @@ const EVENTS: [(&[u8], Event); 4] = [
     (&[11, 1], Event::Reset(true)),
 ];
 
+const REPORTS: [(&[u8], Report); 1] = [(
+    &[1, 2, 3, 4, 5, 6, 7, 8, 1, 1, 122, 1, 9, 10, 11],
+    Report {
+        a: 1,
+        b: 2,
+        c: 3,
+        d: 4,
+        e: 5,
+        f: 3,
+        g: -4,
+        h: 4,
+        i: true,
+        j: 'z',
+        k: Some(9),
+        l: (10, 11),
+    },
+)];
+
 #[test]
 fn rows(rt: HostRuntime) {
     let alloc = rt.alloc();
     let are_right = [
-        are_all_by_shape::<ShapeOf<SensorReading>, SensorReading>(
-            alloc,
-            &READINGS,
-            &[0xAC, 2, 1, 1, 2],
-        ),
-        are_reread(alloc, &PINGS),
-        are_all_by_shape::<ShapeOf<Level>, Level>(alloc, &LEVELS, &[3]),
-        are_all_by_shape::<ShapeOf<Event>, Event>(alloc, &EVENTS, &[12]),
+        are_all::<ShapeOf<SensorReading>, _>(alloc, &READINGS, Some(&[0xAC, 2, 1, 1, 2]), 17),
+        are_all::<ShapeOf<Ping>, _>(alloc, &PINGS, None, 0),
+        are_all::<ShapeOf<Level>, _>(alloc, &LEVELS, Some(&[3]), 1),
+        are_all::<ShapeOf<Event>, _>(alloc, &EVENTS, Some(&[12]), 18),
+        are_all::<ShapeOf<Report>, _>(alloc, &REPORTS, None, 50),
     ];
     check(&rt, all_true(are_right));
 }
 
-// Whether a command is this text.
-fn is_said(command: &Command, wanted: &str) -> bool {
-    match command {
-        Command::Say(text) => text.as_str() == wanted,
-        _ => false,
-    }
-}
-
-// The command of these bytes, if it is written as they are.
-fn command_of(alloc: Global, bytes: &[u8]) -> Option<Command> {
-    reread_by_shape::<ShapeOf<Command>, Command>(alloc, bytes)
-}
-
-fn saying_is_reread(alloc: Global) -> bool {
-    match command_of(alloc, &[4, 2, 72, 105]) {
-        Some(said) => is_said(&said, "Hi"),
+fn record_is_reread(alloc: Global) -> bool {
+    match reread_by_shape::<ShapeOf<LogRecord>, LogRecord>(alloc, &[1, 5, 1, 65, 1, 7]) {
+        Some(record) => {
+            matches!(record.level, Level::Warning)
+                && record.at == 5
+                && record.text.as_str() == "A"
+                && matches!(record.source, Some(7))
+        }
         None => false,
     }
 }
 
-fn moving_is_reread(alloc: Global) -> bool {
-    let moved = command_of(alloc, &[2, 1, 2]);
-    matches!(&moved, Some(Command::Move { x: -1, y: 1 }))
+fn address_is_reread(alloc: Global) -> bool {
+    let read = from_bytes_owned::<Address>(alloc, &[0xAC, 2]);
+    writes(&Address(300), &[0xAC, 2])
+        && matches!(&read, Ok(Address(300)))
+        && greatest::<ShapeOf<Address>, Address>() == Some(5)
+}
+
+fn packet_is_reread(alloc: Global) -> bool {
+    match reread_by_shape::<ShapeOf<Packet<'_>>, Packet<'_>>(alloc, &[7, 2, 72, 105, 1, 9]) {
+        Some(packet) => {
+            packet.to == Address(7) && packet.text == "Hi" && matches!(packet.body, [9])
+        }
+        None => false,
+    }
+}
+
+// Whether these bytes are those of a command that says Hi, or that moves.
+fn command_is_reread(alloc: Global, bytes: &[u8], says: bool) -> bool {
+    match &reread_by_shape::<ShapeOf<Command>, Command>(alloc, bytes) {
+        Some(Command::Say(text)) => says && text.as_str() == "Hi",
+        Some(Command::Move { x: -1, y: 1 }) => !says,
+        _ => false,
+    }
 }
 
 fn is_the_config(it: &Config) -> bool {
@@ -202,26 +180,9 @@ fn values(rt: HostRuntime) {
         record_is_reread(alloc),
         address_is_reread(alloc),
         packet_is_reread(alloc),
-        report_is_reread(alloc),
-        saying_is_reread(alloc),
-        moving_is_reread(alloc),
+        command_is_reread(alloc, &[4, 2, 72, 105], true),
+        command_is_reread(alloc, &[2, 1, 2], false),
         config_is_reread(alloc),
     ];
     check(&rt, all_true(are_reread));
-}
-
-#[test]
-fn greatest_sizes(rt: HostRuntime) {
-    let sizes = [
-        greatest::<ShapeOf<SensorReading>, SensorReading>(),
-        greatest::<ShapeOf<Level>, Level>(),
-        greatest::<ShapeOf<Address>, Address>(),
-        greatest::<ShapeOf<Ping>, Ping>(),
-        greatest::<ShapeOf<Event>, Event>(),
-        greatest::<ShapeOf<Report>, Report>(),
-    ];
-    check(
-        &rt,
-        sizes == [Some(17), Some(1), Some(5), Some(0), Some(18), Some(50)],
-    );
 }

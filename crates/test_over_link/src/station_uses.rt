@@ -13,20 +13,6 @@ use std::alloc::Global;
 // The shape of an enum of two variants: nothing, and a number.
 type Shape = Variant<(), Last<u16>>;
 
-#[test]
-fn a_flavor_and_buffers(rt: HostRuntime) {
-    let mut accumulator: CobsAccumulator<8> = CobsAccumulator::new();
-    check(
-        &rt,
-        all_true([
-            xor_sum(&300u16) == Ok(0xAE),
-            fits_into(&300u16, &mut [0; 2]),
-            !fits_into(&300u16, &mut [0; 1]),
-            last_byte(&mut accumulator, &[3, 1, 8, 0]) == Some(8),
-        ]),
-    );
-}
-
 // Whether a reading is read from the first frame, and a byte is left.
 fn reads_first(alloc: Global) -> bool {
     let mut frames = [4, 1, 2, 3, 2, 1, 0, 9];
@@ -71,8 +57,17 @@ fn is_doubled(alloc: Global) -> bool {
     }
 }
 
+// Whether a flavor sums, a value fits into two bytes and not into one, and an accumulator gives a message's last byte.
+fn are_used() -> bool {
+    let mut accumulator: CobsAccumulator<8> = CobsAccumulator::new();
+    xor_sum(&300u16) == Ok(0xAE)
+        && fits_into(&300u16, &mut [0; 2])
+        && !fits_into(&300u16, &mut [0; 1])
+        && last_byte(&mut accumulator, &[3, 1, 8, 0]) == Some(8)
+}
+
 #[test]
-fn generic_code(rt: HostRuntime) {
+fn a_flavor_buffers_and_generic_code(rt: HostRuntime) {
     let alloc = rt.alloc();
     let number: Shape = Variant::Other(Last::Last(5));
     are_bounded_and_exact::<Shape>();
@@ -82,6 +77,7 @@ fn generic_code(rt: HostRuntime) {
         all_true([
             seen_of(&number) == (Some(1), Some(4), false),
             size_by_form::<(u8, u16)>() == Some(4),
+            are_used(),
             reads_first(alloc),
             reads_payloads(alloc),
             has_two_keys(alloc),

@@ -20,24 +20,13 @@ fn end(alloc: Global, stream: DuplexStream) -> Option<End> {
     Framed::new(alloc, stream, codec).ok()
 }
 
-// Two ends of a pipe.
-fn ends(alloc: Global) -> Option<(End, End)> {
-    let (near, far) = duplex(alloc, 3).ok()?;
-    Some((end(alloc, near)?, end(alloc, far)?))
-}
-
-// Whether all that one end was given to send has gone out.
-fn is_flushed(task: &MockTask, end: &mut End) -> bool {
-    let flushed = task.enter(|cx| Sink::<&str>::poll_flush(end, cx));
-    matches!(flushed, Poll::Ready(Ok(())))
-}
-
 // Flushes one end and polls the other in turn, until so many letters are received.
 fn carry(task: &MockTask, from: &mut End, to: &mut End, heard: &mut Heard, count: usize) -> bool {
     for _ in 0..16 {
-        let is_done = is_flushed(task, from);
+        let flushed = task.enter(|cx| Sink::<&str>::poll_flush(from, cx));
         heard.push(letter(next(task, to)));
-        if is_done && heard.count() == count {
+        // all that it was given to send has gone out
+        if matches!(flushed, Poll::Ready(Ok(()))) && heard.letters.count == count {
             return true;
         }
     }
@@ -48,7 +37,7 @@ fn sends(end: &mut End, text: &'static str) -> bool {
     end.start_send(text).is_ok()
 }
 
-// Whether a goes over and b, then c the other way and d, and then one end closes.
+// Whether a goes over and b, then c the other way and d, and then one end closes, and the other is told.
 fn talk(task: &MockTask, near: &mut End, far: &mut End) -> bool {
     let mut heard = Heard::new();
     let is_carried = sends(near, "a")
@@ -57,20 +46,27 @@ fn talk(task: &MockTask, near: &mut End, far: &mut End) -> bool {
         && sends(far, "c")
         && sends(near, "d")
         && carry(task, far, near, &mut heard, 3)
-        && carry(task, near, far, &mut heard, 4);
-    is_carried && heard.is(b"abcd") && closes(task, near, far)
+        && carry(task, near, far, &mut heard, 4)
+        && heard.letters.is(b"abcd");
+    let closed = task.enter(|cx| Sink::<&str>::poll_close(near, cx));
+    is_carried && matches!(closed, Poll::Ready(Ok(()))) && letter(next(task, far)) == b'.'
 }
 
-// Whether one end closes, and the other is told.
-fn closes(task: &MockTask, from: &mut End, to: &mut End) -> bool {
-    let closed = task.enter(|cx| Sink::<&str>::poll_close(from, cx));
-    matches!(closed, Poll::Ready(Ok(()))) && letter(next(task, to)) == b'.'
+// Whether two ends of a pipe talk so.
+fn ends_talk(alloc: Global, task: &MockTask) -> bool {
+    let Ok((near, far)) = duplex(alloc, 3) else {
+        return false;
+    };
+    match (end(alloc, near), end(alloc, far)) {
+        (Some(mut near), Some(mut far)) => talk(task, &mut near, &mut far),
+        _ => false,
+    }
 }
 
 #[test]
 fn in_turn(rt: HostRuntime) {
-    match (MockTask::new(&rt), ends(rt.alloc())) {
-        (Ok(task), Some((mut near, mut far))) => check(&rt, talk(&task, &mut near, &mut far)),
-        _ => check(&rt, false),
+    match MockTask::new(&rt) {
+        Ok(task) => check(&rt, ends_talk(rt.alloc(), &task)),
+        Err(_) => check(&rt, false),
     }
 }

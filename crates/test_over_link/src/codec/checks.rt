@@ -9,14 +9,6 @@ use link_codec::DecodeError;
 /// What a poll of a framed reader answers.
 pub(crate) type Polled = Poll<Option<Result<Answer<String>, DecodeError>>>;
 
-/// Whether the first bytes, so many, are these.
-pub(crate) fn is_front(bytes: &[u8], count: usize, wanted: &[u8]) -> bool {
-    match bytes.get(..count) {
-        Some(front) => are_equal(front, wanted),
-        None => false,
-    }
-}
-
 /// One poll.
 pub(crate) fn next<S: Stream>(task: &MockTask, items: &mut S) -> Poll<Option<S::Item>>
     requires { S.can_poll items.old }
@@ -37,25 +29,56 @@ pub(crate) fn letter(polled: Polled) -> u8 {
 
 fn of_answer(answer: Answer<String>) -> u8 {
     match answer {
-        Answer::Value(text) => first(text.as_bytes()),
+        Answer::Value(text) => match text.as_bytes() {
+            [letter, ..] => *letter,
+            [] => b' ',
+        },
         Answer::Damaged => b'?',
         Answer::TooLong => b'>',
         Answer::Cut => b'-',
     }
 }
 
-fn first(letters: &[u8]) -> u8 {
-    match letters {
-        [letter, ..] => *letter,
-        [] => b' ',
+/// The first sixteen bytes of those that were given to it.
+#[derive(Drop)]
+pub(crate) struct Front {
+    bytes: [u8; 16],
+    /// How many they are.
+    pub count: usize,
+}
+
+impl Front {
+    /// None yet.
+    pub fn new() -> Front {
+        Front {
+            bytes: [0; 16],
+            count: 0,
+        }
+    }
+
+    /// One more; past sixteen they are dropped.
+    pub fn put(&mut self, byte: u8) {
+        let at = self.count;
+        if let Some(place) = self.bytes.get_mut(at) {
+            *place = byte;
+            self.count = at.saturating_add(1);
+        }
+    }
+
+    /// Whether they are these.
+    pub fn is(&self, wanted: &[u8]) -> bool {
+        match self.bytes.get(..self.count) {
+            Some(front) => are_equal(front, wanted),
+            None => false,
+        }
     }
 }
 
-/// The letters of some polls, but for those that waited.
-#[derive(Clone, Copy)]
+/// What some polls answered.
+#[derive(Drop)]
 pub(crate) struct Heard {
-    letters: [u8; 16],
-    count: usize,
+    /// Their letters, but for those that waited.
+    pub letters: Front,
     /// How many polls waited.
     pub waits: usize,
     /// How many ends were received.
@@ -66,40 +89,22 @@ impl Heard {
     /// None yet.
     pub fn new() -> Heard {
         Heard {
-            letters: [b' '; 16],
-            count: 0,
+            letters: Front::new(),
             waits: 0,
             ends: 0,
         }
     }
 
-    /// One more; past sixteen they are dropped.
+    /// One more.
     pub fn push(&mut self, letter: u8) {
         match letter {
-            b'_' => self.waits = self.waits.saturating_add(1),
+            b'_' => {
+                self.waits = self.waits.saturating_add(1);
+                return;
+            }
             b'.' => self.ends = self.ends.saturating_add(1),
             _ => {}
         }
-        if letter != b'_' {
-            self.put(letter);
-        }
-    }
-
-    fn put(&mut self, letter: u8) {
-        let at = self.count;
-        if let Some(place) = self.letters.get_mut(at) {
-            *place = letter;
-            self.count = at.saturating_add(1);
-        }
-    }
-
-    /// How many letters they are.
-    pub fn count(&self) -> usize {
-        self.count
-    }
-
-    /// Whether these are the letters.
-    pub fn is(&self, wanted: &[u8]) -> bool {
-        is_front(&self.letters, self.count, wanted)
+        self.letters.put(letter);
     }
 }

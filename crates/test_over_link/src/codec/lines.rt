@@ -1,16 +1,16 @@
 //! A reader and a writer over memory.
 ghost use Rattle.std.specs.Prelude.{⊤};
 
-use crate::codec::checks::is_front;
+use crate::codec::checks::Front;
 use futures::task::{Context, Poll};
 use std::io;
 use tokio::io::{AsyncRead, AsyncWrite};
 
 /// How many bytes the next chunk has, from 1 to the greatest that is asked for; and whether a poll waits before it.
-#[derive(Clone, Copy)]
+#[derive(Drop)]
 pub struct Pieces {
-    state: u8,
     most: u8,
+    state: u8,
     waits: bool,
     is_ready: bool,
     // so many calls go well before one fails
@@ -25,35 +25,15 @@ pub enum Step {
 }
 
 impl Pieces {
-    /// Chunks of one byte.
-    pub fn of_one() -> Pieces {
-        Pieces::up_to(1, 0)
-    }
-
-    /// Chunks of at most so many bytes, whose lengths this number begins.
-    pub fn up_to(most: u8, seed: u8) -> Pieces {
+    /// Chunks of at most so many bytes, whose lengths this number begins; whether a poll waits before each; and a fault after so many calls
+    /// that went well.
+    pub fn new(most: u8, seed: u8, waits: bool, before_fault: Option<usize>) -> Pieces {
         Pieces {
-            state: seed,
             most,
-            waits: false,
+            state: seed,
+            waits,
             is_ready: false,
-            before_fault: None,
-        }
-    }
-
-    /// As these, with a poll that waits before each chunk.
-    pub fn waiting(self) -> Pieces {
-        Pieces {
-            waits: true,
-            ..self
-        }
-    }
-
-    /// As these, with a fault after so many calls that went well.
-    pub fn failing_behind(self, calls: usize) -> Pieces {
-        Pieces {
-            before_fault: Some(calls),
-            ..self
+            before_fault,
         }
     }
 
@@ -71,28 +51,17 @@ impl Pieces {
             Some(calls) => self.before_fault = Some(calls.saturating_sub(1)),
             None => {}
         }
-        Step::Move(self.next_length())
-    }
-
-    // The greater half of a linear congruential number, as a share of the greatest length.
-    fn next_length(&mut self) -> usize {
+        // the greater half of a linear congruential number, as a share of the greatest length
         self.state = self.state.wrapping_mul(77).wrapping_add(101);
-        1 + usize::from(self.state) * usize::from(self.most) / 256
+        Step::Move(1 + usize::from(self.state) * usize::from(self.most) / 256)
     }
 }
 
 /// Gives these bytes in chunks.
 #[derive(Drop)]
 pub struct Line {
-    bytes: &'static [u8],
-    pieces: Pieces,
-}
-
-impl Line {
-    /// A line of these bytes.
-    pub fn new(bytes: &'static [u8], pieces: Pieces) -> Line {
-        Line { bytes, pieces }
-    }
+    pub bytes: &'static [u8],
+    pub pieces: Pieces,
 }
 
 impl AsyncRead for Line {
@@ -122,8 +91,7 @@ impl AsyncRead for Line {
 /// Takes bytes in chunks, and keeps the first sixteen.
 #[derive(Drop)]
 pub struct Paper {
-    bytes: [u8; 16],
-    count: usize,
+    pub(crate) front: Front,
     pieces: Pieces,
 }
 
@@ -131,22 +99,8 @@ impl Paper {
     /// With nothing on it.
     pub fn new(pieces: Pieces) -> Paper {
         Paper {
-            bytes: [0; 16],
-            count: 0,
+            front: Front::new(),
             pieces,
-        }
-    }
-
-    /// Whether it was given these bytes.
-    pub fn shows(&self, wanted: &[u8]) -> bool {
-        is_front(&self.bytes, self.count, wanted)
-    }
-
-    fn put(&mut self, byte: u8) {
-        let at = self.count;
-        if let Some(place) = self.bytes.get_mut(at) {
-            *place = byte;
-            self.count = at.saturating_add(1);
         }
     }
 }
@@ -165,7 +119,7 @@ impl AsyncWrite for Paper {
             Step::Move(most) => {
                 let count = most.min(buf.len());
                 for byte in &buf[..count] {
-                    self.put(*byte);
+                    self.front.put(*byte);
                 }
                 Poll::Ready(Ok(count))
             }

@@ -69,14 +69,6 @@ pub fn hear_strictly<R: RandomSource + AllocGlobal>(
     }
 }
 
-#[test]
-fn in_pieces(rt: HostRuntime) {
-    for seed in 0..24u8 {
-        let heard = hear_short(&rt, Line::new(&LINE, Pieces::up_to(seed, seed)));
-        check(&rt, heard.is(b"ac?>b-..") && heard.waits == 0);
-    }
-}
-
 // What is received where so many reads of one byte go well before one fails: the answers so far, the fault, an end, and the rest. After
 // the last byte the next read ends the line, and the one after it ends it again.
 fn behind(calls: usize) -> &'static [u8] {
@@ -92,36 +84,45 @@ fn behind(calls: usize) -> &'static [u8] {
     }
 }
 
-#[test]
-fn byte_by_byte_and_on_behind_a_fault(rt: HostRuntime) {
-    for calls in 0..28 {
-        let pieces = Pieces::of_one().waiting().failing_behind(calls);
-        let heard = hear_short(&rt, Line::new(&LINE, pieces));
-        // one before each byte, one before the end, and one before the fault or the second end
-        check(&rt, heard.is(behind(calls)) && heard.waits == 27);
-    }
-}
-
-// Whether the marked line is answered so, strictly, under a limit that is set at run time.
-fn is_strictly<R: RandomSource + AllocGlobal>(
-    rt: &R,
-    limit: usize,
-    seed: u8,
-    wanted: &[u8],
-) -> bool {
-    let line = Line::new(&MARKED, Pieces::up_to(seed, seed));
-    match hear_strictly(rt, line, limit, 0x0A) {
-        Some(heard) => heard.is(wanted),
-        None => false,
-    }
-}
-
-#[test]
-fn strictly_by_another_sentinel(rt: HostRuntime) {
+// Whether all is received in chunks of any length; and byte by byte with polls that wait, on after a fault.
+fn is_heard<R: RandomSource + AllocGlobal>(rt: &R) -> bool {
     for seed in 0..24u8 {
-        check(&rt, is_strictly(&rt, 4, seed, b"a??>b-.."));
+        let pieces = Pieces::new(seed, seed, false, None);
+        let heard = hear_short(rt, Line { bytes: &LINE, pieces });
+        if !heard.letters.is(b"ac?>b-..") || heard.waits != 0 {
+            return false;
+        }
     }
-    check(&rt, is_strictly(&rt, 5, 9, b"a???b-.."));
+    for calls in 0..28 {
+        let pieces = Pieces::new(1, 0, true, Some(calls));
+        let heard = hear_short(rt, Line { bytes: &LINE, pieces });
+        // one before each byte, one before the end, and one before the fault or the second end
+        if !heard.letters.is(behind(calls)) || heard.waits != 27 {
+            return false;
+        }
+    }
+    true
+}
+
+// Whether the marked line is received strictly, in chunks of any length; under a limit of five bytes in the last ones.
+fn is_heard_strictly<R: RandomSource + AllocGlobal>(rt: &R) -> bool {
+    for seed in 0..25u8 {
+        let (limit, seed, wanted) = match seed {
+            24 => (5, 9, b"a???b-.."),
+            _ => (4, seed, b"a??>b-.."),
+        };
+        let pieces = Pieces::new(seed, seed, false, None);
+        match hear_strictly(rt, Line { bytes: &MARKED, pieces }, limit, 0x0A) {
+            Some(heard) if heard.letters.is(wanted) => {}
+            _ => return false,
+        }
+    }
+    true
+}
+
+#[test]
+fn in_pieces_and_on_behind_a_fault(rt: HostRuntime) {
+    check(&rt, is_heard(&rt) && is_heard_strictly(&rt));
 }
 
 // What is received of the line by one poll, under a limit that is set at run time.
@@ -143,7 +144,7 @@ const COLLECTED: [&[u8]; 6] = [
 #[test]
 fn by_a_limit_that_is_a_value(rt: HostRuntime) {
     for limit in 0..6usize {
-        check(&rt, collect(&rt, limit).is(COLLECTED[limit]));
+        check(&rt, collect(&rt, limit).letters.is(COLLECTED[limit]));
     }
 }
 
@@ -160,19 +161,16 @@ fn ends(decoder: &mut Short, line: &mut BytesMut, wanted: u8) -> bool {
     letter(Poll::Ready(decoder.decode_eof(line).transpose())) == wanted && line.is_empty()
 }
 
-// Whether bytes of a stretch that has too many are taken and not kept, four times; and nothing is cut off by the end.
-fn skips(decoder: &mut Short, line: &mut BytesMut) -> bool {
+// Whether bytes of a stretch that has too many are taken and not kept, four times; nothing is cut off by the end; and what comes after an
+// end is answered as by a decoder that was given nothing.
+fn skips_and_begins_anew(decoder: &mut Short, line: &mut BytesMut) -> bool {
     for _ in 0..4 {
         if !decodes(decoder, line, b'.', 0) || line.extend_from_slice(&[7u8; 4096]).is_err() {
             return false;
         }
     }
     ends(decoder, line, b'.')
-}
-
-// Whether what comes after an end is answered as by a decoder that was given nothing.
-fn begins_anew(decoder: &mut Short, line: &mut BytesMut) -> bool {
-    line.extend_from_slice(&[9, 1]).is_ok()
+        && line.extend_from_slice(&[9, 1]).is_ok()
         && ends(decoder, line, b'-')
         && ends(decoder, line, b'.')
         && line.extend_from_slice(&[3, 1, 0x61, 0]).is_ok()
@@ -183,8 +181,8 @@ fn begins_anew(decoder: &mut Short, line: &mut BytesMut) -> bool {
 fn skips_what_is_too_long_and_begins_anew_behind_the_end(rt: HostRuntime) {
     let mut decoder = Short::new();
     let mut line = BytesMut::new(rt.alloc());
-    check(&rt, line.extend_from_slice(&[7u8; 4096]).is_ok());
-    check(&rt, decodes(&mut decoder, &mut line, b'>', 4091));
-    check(&rt, skips(&mut decoder, &mut line));
-    check(&rt, begins_anew(&mut decoder, &mut line));
+    let is_right = line.extend_from_slice(&[7u8; 4096]).is_ok()
+        && decodes(&mut decoder, &mut line, b'>', 4091)
+        && skips_and_begins_anew(&mut decoder, &mut line);
+    check(&rt, is_right);
 }

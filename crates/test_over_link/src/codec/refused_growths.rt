@@ -1,7 +1,7 @@
 //! Out of memory: in a run in which an allocation is refused, each call says so or gives its whole answer, and what comes after it
 //! stands.
 //!
-//! Each of these tests also passes where the first growth is refused, or the second, and so on. In the gate none is refused.
+//! The test also passes where the first growth is refused, or the second, and so on. In the gate none is refused.
 use crate::checks::check;
 use crate::codec::checks::Heard;
 use crate::codec::lines::{Line, Pieces};
@@ -9,7 +9,8 @@ use crate::codec::reading::{hear_short, hear_strictly};
 use crate::codec::writing::Letters;
 use bytes::BytesMut;
 use link_codec::EncodeError;
-use std::alloc::Global;
+use std::alloc::{AllocGlobal, Global};
+use std::random::RandomSource;
 use tokio_util::codec::Encoder;
 
 // a, b, and a prefix of c.
@@ -23,25 +24,25 @@ const WHOLE: [&[u8]; 8] = [
 // Whether the line is answered so.
 fn is_one(heard: &Heard) -> bool {
     for wanted in WHOLE {
-        if heard.is(wanted) {
+        if heard.letters.is(wanted) {
             return true;
         }
     }
     false
 }
 
-fn pieces(most: u8) -> Pieces {
-    Pieces::up_to(most, 5).waiting()
-}
-
-#[test]
-fn said_by_readers(rt: HostRuntime) {
+// Whether it is, in chunks of one, four and eleven bytes; and strictly, if there was memory for the decoder.
+fn is_said<R: RandomSource + AllocGlobal>(rt: &R) -> bool {
     for most in [1, 4, 11] {
-        let line = Line::new(&LINE, pieces(most));
-        check(&rt, is_one(&hear_short(&rt, line)));
+        let pieces = Pieces::new(most, 5, true, None);
+        if !is_one(&hear_short(rt, Line { bytes: &LINE, pieces })) {
+            return false;
+        }
     }
-    if let Some(heard) = hear_strictly(&rt, Line::new(&LINE, pieces(4)), 4, 0) {
-        check(&rt, is_one(&heard));
+    let pieces = Pieces::new(4, 5, true, None);
+    match hear_strictly(rt, Line { bytes: &LINE, pieces }, 4, 0) {
+        Some(heard) => is_one(&heard),
+        None => true,
     }
 }
 
@@ -61,7 +62,8 @@ fn writes(alloc: Global, encoder: &mut Letters) -> bool {
 }
 
 #[test]
-fn said_by_encoders(rt: HostRuntime) {
+fn said_by_readers_and_encoders(rt: HostRuntime) {
+    check(&rt, is_said(&rt));
     let mut encoder = Letters::new();
     check(&rt, writes(rt.alloc(), &mut encoder) && encoder.is_clean());
     check(&rt, writes(rt.alloc(), &mut encoder) && encoder.is_clean());

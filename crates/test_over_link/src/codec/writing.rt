@@ -20,40 +20,10 @@ const MARKED: [u8; 9] = [0x0A, 0x09, 0x0B, 0x6B, 0x0A, 0x09, 0x0B, 0x68, 0x0A];
 /// The frame of a letter is as long as it may be.
 pub type Letters = LinkEncoder<3>;
 
-type Writer = FramedWrite<Paper, Letters>;
-
-// How two texts went out: how many polls waited, how many found a fault, and whether the line is there then.
-#[derive(Clone, Copy)]
-struct Sent {
-    waits: usize,
-    faults: usize,
-    is_whole: bool,
-}
-
-impl Sent {
-    // Whether all went out, where so many polls wait and so many fail.
-    fn is(&self, waits: usize, faults: usize) -> bool {
-        self.is_whole && self.waits == waits && self.faults == faults
-    }
-}
-
-// One poll of a flush; whether all was written.
-fn flush(task: &MockTask, writer: &mut Writer, sent: &mut Sent) -> bool {
-    match task.enter(|cx| Sink::<&str>::poll_flush(writer, cx)) {
-        Poll::Ready(Ok(())) => return true,
-        Poll::Ready(Err(_)) => sent.faults = sent.faults.saturating_add(1),
-        Poll::Pending => sent.waits = sent.waits.saturating_add(1),
-    }
-    false
-}
-
-// Sends both, and flushes until no poll waits or fails.
-fn send<R: RandomSource + AllocGlobal>(rt: &R, pieces: Pieces) -> Sent {
-    let mut sent = Sent {
-        waits: 0,
-        faults: 0,
-        is_whole: false,
-    };
+// Sends two texts, and flushes until no poll waits or fails: how many polls waited, how many found a fault, and whether the line is there
+// then.
+fn send<R: RandomSource + AllocGlobal>(rt: &R, pieces: Pieces) -> (usize, usize, bool) {
+    let mut sent = (0usize, 0usize, false);
     let Ok(task) = MockTask::new(rt) else {
         return sent;
     };
@@ -64,29 +34,35 @@ fn send<R: RandomSource + AllocGlobal>(rt: &R, pieces: Pieces) -> Sent {
         return sent;
     }
     for _ in 0..32 {
-        if flush(&task, &mut writer, &mut sent) {
-            break;
+        match task.enter(|cx| Sink::<&str>::poll_flush(&mut writer, cx)) {
+            Poll::Ready(Ok(())) => break,
+            Poll::Ready(Err(_)) => sent.1 = sent.1.saturating_add(1),
+            Poll::Pending => sent.0 = sent.0.saturating_add(1),
         }
     }
-    sent.is_whole = writer.get_ref().shows(&LINE);
+    sent.2 = writer.get_ref().front.is(&LINE);
     sent
 }
 
-#[test]
-fn in_pieces(rt: HostRuntime) {
+// Whether all goes out in chunks of any length; and byte by byte with polls that wait, on after a fault, and without one.
+fn is_sent<R: RandomSource + AllocGlobal>(rt: &R) -> bool {
     for seed in 0..9u8 {
-        check(&rt, send(&rt, Pieces::up_to(seed, seed)).is(0, 0));
+        if !matches!(send(rt, Pieces::new(seed, seed, false, None)), (0, 0, true)) {
+            return false;
+        }
     }
+    for calls in 0..9usize {
+        // one poll waits before each byte, and one before the fault
+        if !matches!(send(rt, Pieces::new(1, 0, true, Some(calls))), (10, 1, true)) {
+            return false;
+        }
+    }
+    matches!(send(rt, Pieces::new(1, 0, true, None)), (9, 0, true))
 }
 
 #[test]
-fn byte_by_byte_and_on_behind_a_fault(rt: HostRuntime) {
-    for calls in 0..9usize {
-        let pieces = Pieces::of_one().waiting().failing_behind(calls);
-        // one before each byte, and one before the fault
-        check(&rt, send(&rt, pieces).is(10, 1));
-    }
-    check(&rt, send(&rt, Pieces::of_one().waiting()).is(9, 0));
+fn in_pieces_and_on_behind_a_fault(rt: HostRuntime) {
+    check(&rt, is_sent(&rt));
 }
 
 // Whether a text is refused because its frame is too long, by an encoder that is clean or not, and stays so.
@@ -110,8 +86,8 @@ fn leaves_nothing(encoder: &mut Letters, line: &mut BytesMut, wanted: &[u8]) -> 
 #[test]
 fn a_refused_text_leaves_nothing(rt: HostRuntime) {
     let mut line = BytesMut::new(rt.alloc());
-    check(&rt, leaves_nothing(&mut Letters::new(), &mut line, &LINE));
+    let is_left_out = leaves_nothing(&mut Letters::new(), &mut line, &LINE);
     line.clear();
     let mut marking = Letters::new_with_sentinel(0x0A);
-    check(&rt, leaves_nothing(&mut marking, &mut line, &MARKED));
+    check(&rt, is_left_out && leaves_nothing(&mut marking, &mut line, &MARKED));
 }

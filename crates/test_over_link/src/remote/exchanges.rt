@@ -1,13 +1,15 @@
 //! Calls and replies, each by itself.
 ghost use Rattle.std.specs.Prelude.{◌<◌};
 
-use crate::checks::{all_true, are_equal, check};
+use crate::checks::{are_equal, check};
 use crate::remote::checks::{is_number, is_read, is_reply, letter};
 use crate::remote::served::{Adder, Echo, Line, line, sender, service};
-use calls::{CallError, Client, LastCall, Server, Service, Waiting, serve_with, wait_with};
+use calls::{
+    CallError, Client, LastCall, Noticing, Server, Service, Waiting, serve_with, wait_with,
+};
 use line_io::memory::{Fault, In, Out};
 use link::{
-    Answer, Decoding, End, MessageReader, OfType, Ordinary, OwnedReceiver, Receiver, Reception,
+    Answer, Decoding, End, Hearer, MessageReader, OfType, Ordinary, OwnedReceiver, Receiver, Reception,
     SendError, Sender, Strict,
 };
 use std::alloc::Global;
@@ -50,22 +52,16 @@ const CALLS_A5: [u8; 9] = [0xA5, 0xA6, 0xA0, 0xA4, 0xA5, 0xA6, 0xA3, 0xA7, 0xA5]
 const REPLIES_A5: [u8; 9] = [0xA5, 0xA6, 0xA0, 0xA4, 0xA5, 0xA6, 0xA3, 0xA6, 0xA5];
 
 #[test]
-fn calls_are_written(rt: HostRuntime) {
+fn calls_are_written_and_sent_again(rt: HostRuntime) {
     let alloc = rt.alloc();
-    let are_written = [
-        asks(alloc, 0, &[7], &CALL),
-        asks(alloc, 0, &[1, 2], &CALLS),
-        asks(alloc, 0xA5, &[1, 2], &CALLS_A5),
-    ];
-    check(&rt, all_true(are_written));
-}
-
-// The ways of serving: by a receiver that holds its buffer, or whose buffer is on the heap.
-#[derive(Clone, Copy)]
-enum Way {
-    Plain,
-    Held { is_strict: bool, sentinel: u8 },
-    Owned { is_strict: bool, sentinel: u8 },
+    let are_written = asks(alloc, 0, &[7], &CALL)
+        && asks(alloc, 0, &[1, 2], &CALLS)
+        && asks(alloc, 0xA5, &[1, 2], &CALLS_A5);
+    check(&rt, are_written);
+    let mut client = client(alloc, 0);
+    check(&rt, client.call(7).is_ok());
+    check(&rt, client.again().is_ok());
+    check(&rt, are_equal(&client.into_inner().into_inner(), &TWICE));
 }
 
 type Adding = Service<Adder, Line, u32, u32, 16>;
@@ -84,83 +80,72 @@ fn serve_in<D: Decoding>(
     Some(serve_with(alloc, receiver, &Ordinary(OfType), reader, service))
 }
 
-// Serves all that the reader gives, by a receiver of 8 bytes; how the reading ended.
-fn serve_by(alloc: Global, way: Way, reader: &mut In<'_>, service: &mut Adding) -> Option<End> {
-    match way {
-        Way::Plain => {
+// The receivers of 8 bytes that serve: one that holds its buffer, one by a sentinel, and one whose buffer is on the heap.
+enum By {
+    Plain,
+    Held(u8),
+    Owned(u8),
+}
+
+// Serves all that the reader gives, strictly or not; how the reading ended, if there was memory for the receiver.
+fn serve_by(
+    alloc: Global,
+    by: &By,
+    is_strict: bool,
+    reader: &mut In<'_>,
+    service: &mut Adding,
+) -> Option<End> {
+    match by {
+        By::Plain => {
             let mut receiver = Receiver::<8>::new();
             Some(serve_with(alloc, &mut receiver, &Ordinary(OfType), reader, service))
         }
-        Way::Held {
-            is_strict,
-            sentinel,
-        } => {
-            let mut receiver = Receiver::<8>::new_with_sentinel(sentinel);
+        By::Held(sentinel) => {
+            let mut receiver = Receiver::<8>::new_with_sentinel(*sentinel);
             serve_in(alloc, &mut receiver, is_strict, reader, service)
         }
-        Way::Owned {
-            is_strict,
-            sentinel,
-        } => match OwnedReceiver::new(alloc, 8, sentinel) {
+        By::Owned(sentinel) => match OwnedReceiver::new(alloc, 8, *sentinel) {
             Ok(mut receiver) => serve_in(alloc, &mut receiver, is_strict, reader, service),
             Err(_) => None,
         },
     }
 }
 
-// Whether these requests, read so many bytes at a time, are read to their end; so many are executed, to this sum; and this is replied.
-fn serves(
-    alloc: Global,
-    way: Way,
-    requests: &[u8],
-    each: usize,
-    executed: u32,
-    sum: u32,
-    replies: &[u8],
-) -> bool
-    requires { 0 < each }
-{
-    let sentinel = match way {
-        Way::Plain => 0,
-        Way::Held { sentinel, .. } | Way::Owned { sentinel, .. } => sentinel,
-    };
-    let mut service = service(alloc, sentinel);
-    let end = serve_by(alloc, way, &mut In::new(requests, each, None), &mut service);
-    is_read(end)
-        && service.application.executed == executed
-        && service.application.sum == sum
-        && are_equal(&service.server.into_inner().into_inner(), replies)
+// What serves requests, and whether strictly; the requests, and how many bytes are read at a time; how many are executed, to which sum;
+// and what is replied. A call is executed, one that is sent again once, and noise is passed over.
+const SERVED: [(By, bool, &[u8], usize, u32, u32, &[u8]); 6] = [
+    (By::Plain, false, &CALL, 1, 1, 7, &CALL),
+    (By::Plain, false, &NOISY, 5, 2, 8, &NOISY_REPLIES),
+    (By::Held(0), true, &TWICE, 100, 1, 7, &TWICE),
+    (By::Held(0xA5), false, &CALLS_A5, 3, 2, 3, &REPLIES_A5),
+    (By::Owned(0), false, &CALLS, 3, 2, 3, &REPLIES),
+    (By::Owned(0xA5), true, &CALLS_A5, 3, 2, 3, &REPLIES_A5),
+];
+
+// Whether each row's requests are served so, and read to their end.
+fn are_served(alloc: Global) -> bool {
+    for (by, is_strict, requests, each, executed, sum, replies) in &SERVED {
+        let sentinel = match by {
+            By::Plain => 0,
+            By::Held(sentinel) | By::Owned(sentinel) => *sentinel,
+        };
+        let mut service = service(alloc, sentinel);
+        let mut reader = In::new(requests, (*each).max(1), None);
+        let end = serve_by(alloc, by, *is_strict, &mut reader, &mut service);
+        let is_right = is_read(end)
+            && service.application.executed == *executed
+            && service.application.sum == *sum
+            && are_equal(&service.server.into_inner().into_inner(), replies);
+        if !is_right {
+            return false;
+        }
+    }
+    true
 }
 
-// A call is executed, one that is sent again once, and noise is passed over; in each way, with a sentinel other than zero too.
 #[test]
 fn every_way_of_serving(rt: HostRuntime) {
-    let alloc = rt.alloc();
-    let strict = Way::Held {
-        is_strict: true,
-        sentinel: 0,
-    };
-    let marked = Way::Held {
-        is_strict: false,
-        sentinel: 0xA5,
-    };
-    let owned = Way::Owned {
-        is_strict: false,
-        sentinel: 0,
-    };
-    let owned_strict = Way::Owned {
-        is_strict: true,
-        sentinel: 0xA5,
-    };
-    let are_serving = [
-        serves(alloc, Way::Plain, &CALL, 1, 1, 7, &CALL),
-        serves(alloc, Way::Plain, &NOISY, 5, 2, 8, &NOISY_REPLIES),
-        serves(alloc, strict, &TWICE, 100, 1, 7, &TWICE),
-        serves(alloc, marked, &CALLS_A5, 3, 2, 3, &REPLIES_A5),
-        serves(alloc, owned, &CALLS, 3, 2, 3, &REPLIES),
-        serves(alloc, owned_strict, &CALLS_A5, 3, 2, 3, &REPLIES_A5),
-    ];
-    check(&rt, all_true(are_serving));
+    check(&rt, are_served(rt.alloc()));
 }
 
 type Asking = Waiting<Line, u32, u32, 16>;
@@ -193,15 +178,8 @@ fn wait_ordinarily<D: Decoding>(
     wait_by(alloc, receiver, &Ordinary(OfType), reader, waiting)
 }
 
-// Whether 7 was received, and no call is pending.
-fn has_heard(waiting: &mut Asking) -> bool {
-    is_reply(waiting.said, 7)
-        && waiting.client.pending().is_none()
-        && matches!(waiting.client.again(), Err(CallError::Idle))
-}
-
-// Whether a call is replied; and the reply, which comes so many bytes at a time, isn't found after the next call, whose reply doesn't
-// come.
+// Whether a call is replied, and none is pending then; and the reply, which comes so many bytes at a time, isn't found after the next
+// call, whose reply doesn't come.
 fn is_taken_and_let_go(alloc: Global, each: usize) -> bool
     requires { 0 < each }
 {
@@ -209,48 +187,47 @@ fn is_taken_and_let_go(alloc: Global, each: usize) -> bool
     let mut receiver = Receiver::<8>::new();
     let mut reader = In::new(&CALL, each, None);
     let end = wait_ordinarily(alloc, &mut receiver, &mut reader, &mut waiting);
-    let is_replied = end.is_none() && has_heard(&mut waiting);
+    let is_replied = end.is_none()
+        && is_reply(waiting.said, 7)
+        && waiting.client.pending().is_none()
+        && matches!(waiting.client.again(), Err(CallError::Idle));
     let is_called_again = waiting.client.call(8).is_ok();
     let end = wait_ordinarily(alloc, &mut receiver, &mut reader, &mut waiting);
     is_called && is_replied && is_called_again && end.is_some() && waiting.said.is_none()
 }
 
-#[test]
-fn a_call_is_replied_and_an_old_reply_is_let_go(rt: HostRuntime) {
-    let alloc = rt.alloc();
-    let are_right = [
-        is_taken_and_let_go(alloc, 1),
-        is_taken_and_let_go(alloc, 100),
-    ];
-    check(&rt, all_true(are_right));
-}
-
 // A reply with a byte after it.
 const LONGER: [u8; 6] = [0, 4, 5, 7, 9, 0];
 
-// It is taken ordinarily, and not strictly; how the reading ended is said, and the call is pending then.
-fn takes_ordinarily(alloc: Global, receiver: &mut OwnedReceiver) -> bool {
+// Whether it is taken ordinarily, and not strictly; how the reading ended is said, and the call is pending then. Nothing is shown where
+// there was no memory for the receiver.
+fn takes_ordinarily(alloc: Global) -> bool {
+    let Ok(mut receiver) = OwnedReceiver::new(alloc, 8, 0) else {
+        return true;
+    };
     let (is_called, mut waiting) = calling(alloc);
     let mut reader = In::new(&LONGER, 2, None);
-    let ended = wait_by(alloc, receiver, &Strict(OfType), &mut reader, &mut waiting);
+    let ended = wait_by(alloc, &mut receiver, &Strict(OfType), &mut reader, &mut waiting);
     let is_pending = is_read(ended) && is_number(waiting.client.pending(), 5);
     let mut reader = In::new(&LONGER, 2, None);
-    let end = wait_ordinarily(alloc, receiver, &mut reader, &mut waiting);
+    let end = wait_ordinarily(alloc, &mut receiver, &mut reader, &mut waiting);
     is_called && is_pending && end.is_none() && is_reply(waiting.said, 7)
 }
 
 #[test]
-fn a_longer_reply(rt: HostRuntime) {
-    if let Ok(mut receiver) = OwnedReceiver::new(rt.alloc(), 8, 0) {
-        check(&rt, takes_ordinarily(rt.alloc(), &mut receiver));
-    }
+fn an_old_reply_is_let_go_and_a_longer_one_taken_ordinarily(rt: HostRuntime) {
+    let alloc = rt.alloc();
+    let are_right = is_taken_and_let_go(alloc, 1)
+        && is_taken_and_let_go(alloc, 100)
+        && takes_ordinarily(alloc);
+    check(&rt, are_right);
 }
 
 // Two replies through a room of one byte, which both calls share.
 #[test]
 fn waiting_in_a_room(rt: HostRuntime) {
     let replies = [0u8, 3, 5, 7, 0, 3, 6, 9, 0];
-    let mut waiting: Waiting<Line, u32, u32, 16> = Waiting {
+    let mut waiting: Asking = Waiting {
         client: client(rt.alloc(), 0),
         said: None,
     };
@@ -272,17 +249,14 @@ fn waiting_in_a_room(rt: HostRuntime) {
     }
 }
 
-#[test]
-fn what_is_sent_again(rt: HostRuntime) {
-    let mut client = client(rt.alloc(), 0);
-    check(&rt, client.call(7).is_ok());
-    check(&rt, client.again().is_ok());
-    check(&rt, are_equal(&client.into_inner().into_inner(), &TWICE));
+// Whether no number was left for a call.
+fn is_full(sent: Result<(), CallError>) -> bool {
+    matches!(sent, Err(CallError::Full))
 }
 
-// A call that has no room takes no number, and isn't pending.
 #[test]
-fn a_refused_call_is_none(rt: HostRuntime) {
+fn a_refused_call_is_none_and_the_last_number_is_not_given(rt: HostRuntime) {
+    // a call that has no room takes no number, and isn't pending
     let mut client = Client::<Line, u32, 4>::new(sender(rt.alloc(), 0), 5);
     let sent = client.call(u32::MAX);
     check(
@@ -292,24 +266,13 @@ fn a_refused_call_is_none(rt: HostRuntime) {
     check(&rt, client.pending().is_none());
     check(&rt, client.call(7).is_ok());
     check(&rt, are_equal(&client.into_inner().into_inner(), &CALL));
-}
-
-// Whether no number was left for a call.
-fn is_full(sent: Result<(), CallError>) -> bool {
-    matches!(sent, Err(CallError::Full))
-}
-
-#[test]
-fn the_last_number_is_not_given(rt: HostRuntime) {
     let mut client = Client::<Line, u32, 16>::new(sender(rt.alloc(), 0), u64::MAX - 1);
     check(&rt, client.call(1).is_ok());
     check(&rt, is_full(client.call(2)));
     // the earlier call is pending still
     check(&rt, is_number(client.pending(), u64::MAX - 1));
-    check(
-        &rt,
-        is_reply(client.hear(Answer::Value((u64::MAX - 1, 3u32))), 3),
-    );
+    let said = client.hear(Answer::Value((u64::MAX - 1, 3u32)));
+    check(&rt, is_reply(said, 3));
 }
 
 // Whether of what is received only the reply by the number 5 is taken, and once.
@@ -322,16 +285,25 @@ fn takes_the_reply(client: &mut Client<Line, u32, 16>) -> bool {
 }
 
 #[test]
-fn only_the_reply_is_taken(rt: HostRuntime) {
+fn only_the_reply_and_a_notice_are_taken(rt: HostRuntime) {
     let mut client = client(rt.alloc(), 0);
-    check(&rt, client.call(1).is_ok() && takes_the_reply(&mut client));
-    check(&rt, client.call(1).is_ok());
+    let is_taken = client.call(1).is_ok() && takes_the_reply(&mut client);
+    let is_called = client.call(1).is_ok();
     client.give_up();
-    check(&rt, client.hear(Answer::Value((6, 3u32))).is_none());
+    check(&rt, is_taken && is_called && client.hear(Answer::Value((6, 3u32))).is_none());
+    // the notice for a call that was passed over: the server says that its last call was 9
+    let client = Client::<Line, u64, 16>::new(sender(rt.alloc(), 0), 5);
+    let mut asking = Noticing {
+        hearer: Waiting { client, said: None },
+        notice: None,
+    };
+    asking.hear(Answer::Value((u64::MAX, 9u64)));
+    check(&rt, asking.has_enough());
+    check(&rt, is_number(asking.notice.take(), 9));
 }
 
 // Whether requests are answered so, and two of them executed: another request by the last number is neither executed nor replied to
-// by the reply to the first, which is, again.
+// by the reply to the first, which is, again; and an old number is passed over.
 fn are_told_apart(server: &mut Server<Line, u32, u32, 16>) -> bool {
     let mut adder = Adder::new();
     letter(server.answer(&mut adder, 9, 4u32)) == 'E'
@@ -342,35 +314,26 @@ fn are_told_apart(server: &mut Server<Line, u32, u32, 16>) -> bool {
         && adder.executed == 2
 }
 
-#[test]
-fn an_old_number_is_passed_over(rt: HostRuntime) {
-    let mut server = Server::<Line, u32, u32, 16>::new(sender(rt.alloc(), 0));
-    let are_told_apart = are_told_apart(&mut server);
-    let replies = server.into_inner().into_inner();
-    let wanted = [0, 3, 9, 4, 0, 3, 9, 4, 0, 3, 10, 5, 0];
-    check(&rt, are_told_apart && are_equal(&replies, &wanted));
-}
+// What is replied to these.
+const TOLD_APART: [u8; 13] = [0, 3, 9, 4, 0, 3, 9, 4, 0, 3, 10, 5, 0];
 
-// Whether a server answers each of these requests, by its number, so.
-fn answers(server: &mut Server<Line, u64, u64, 16>, requests: &[(u64, u64, char)]) -> bool {
+// Whether a server answers each of these requests, by its number, so, and replies this.
+fn answers(
+    alloc: Global,
+    server: &mut Server<Line, u64, u64, 16>,
+    requests: &[(u64, u64, char)],
+    replies: &[u8],
+) -> bool {
     for (number, request, wanted) in requests {
         if letter(server.answer(&mut Echo, *number, *request)) != *wanted {
             return false;
         }
     }
-    true
+    are_equal(&server.replace_inner(line(alloc)).into_inner(), replies)
 }
 
 // By the greatest number nothing is executed and nothing said, and a call is executed then.
 const GREATEST: [(u64, u64, char); 3] = [(u64::MAX, 4, 'N'), (1, 4, 'E'), (u64::MAX, 5, 'N')];
-
-#[test]
-fn the_greatest_number_is_no_call(rt: HostRuntime) {
-    let mut server = Server::<Line, u64, u64, 16>::new(sender(rt.alloc(), 0));
-    let are_answered = answers(&mut server, &GREATEST);
-    let replies = server.into_inner().into_inner();
-    check(&rt, are_answered && are_equal(&replies, &[0, 3, 1, 4, 0]));
-}
 
 // A zero; twice the number of the last call, 9, by the greatest number, which is ten bytes of a u64; and the reply.
 const PASSED: [u8; 31] = [
@@ -381,35 +344,32 @@ const PASSED: [u8; 31] = [
 // A server that goes on after call 9 knows it, and says of what it passes over which call was the last.
 const BEHIND: [(u64, u64, char); 3] = [(8, 4, 'p'), (9, 5, 'o'), (9, 4, 'A')];
 
+// The first reply finds a line that fails after two bytes; it is kept, and sent again to the same number.
+fn is_kept() -> bool {
+    let mut room = [0u8; 32];
+    let mut adder = Adder::new();
+    let failing = Out::new(&mut room, 1, Some((2, Fault::Fail)));
+    let mut server = Server::<Out<'_>, u32, u32, 16>::new(Sender::new(failing));
+    let is_sent_again = letter(server.answer(&mut adder, 1, 4u32)) == 'e'
+        && letter(server.answer(&mut adder, 1, 4u32)) == 'A'
+        && adder.executed == 1
+        && server.into_inner().moved() == 7;
+    is_sent_again && are_equal(&room[..7], &[0, 3, 0, 3, 1, 4, 0])
+}
+
 #[test]
-fn a_server_goes_on_behind_a_call(rt: HostRuntime) {
+fn servers_answer_by_the_number(rt: HostRuntime) {
+    let alloc = rt.alloc();
+    let mut server = Server::<Line, u32, u32, 16>::new(sender(alloc, 0));
+    let are_told_apart = are_told_apart(&mut server);
+    let replies = server.into_inner().into_inner();
+    check(&rt, are_told_apart && are_equal(&replies, &TOLD_APART) && is_kept());
+    let mut server = Server::<Line, u64, u64, 16>::new(sender(alloc, 0));
+    let is_no_call = answers(alloc, &mut server, &GREATEST, &[0, 3, 1, 4, 0]);
     let last = LastCall {
         request: 4u64,
         reply: (9, 4u64),
     };
     let mut server = Server::<Line, u64, u64, 16>::resume(sender(rt.alloc(), 0), Some(last));
-    let are_answered = answers(&mut server, &BEHIND);
-    let replies = server.into_inner().into_inner();
-    check(&rt, are_answered && are_equal(&replies, &PASSED));
-}
-
-// The first reply finds a line that fails after two bytes; it is kept, and sent again to the same number.
-fn is_kept(room: &mut [u8; 32]) -> bool {
-    let mut adder = Adder::new();
-    let failing = Out::new(room, 1, Some((2, Fault::Fail)));
-    let mut server = Server::<Out<'_>, u32, u32, 16>::new(Sender::new(failing));
-    letter(server.answer(&mut adder, 1, 4u32)) == 'e'
-        && letter(server.answer(&mut adder, 1, 4u32)) == 'A'
-        && adder.executed == 1
-        && server.into_inner().moved() == 7
-}
-
-#[test]
-fn a_lost_reply_is_kept(rt: HostRuntime) {
-    let mut room = [0u8; 32];
-    let is_kept = is_kept(&mut room);
-    check(
-        &rt,
-        is_kept && are_equal(&room[..7], &[0, 3, 0, 3, 1, 4, 0]),
-    );
+    check(&rt, is_no_call && answers(alloc, &mut server, &BEHIND, &PASSED));
 }

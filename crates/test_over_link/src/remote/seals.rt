@@ -1,7 +1,7 @@
 //! Calls whose messages are sealed with their numbers, as bytes.
 ghost use Rattle.std.specs.Prelude.{◌<◌};
 
-use crate::checks::{all_true, are_equal, check};
+use crate::checks::{are_equal, check};
 use crate::remote::checks::{is_number, is_read};
 use crate::remote::served::{Adder, KEY, Line, line, sender};
 use calls::{Checked, Client, Numbered, Numbering, Replies, Server, Service, Waiting};
@@ -86,10 +86,7 @@ fn a_device_executes_what_is_sealed_for_it(rt: HostRuntime) {
     for (bytes, calls, wanted) in GIVEN {
         check(&rt, replies(rt.alloc(), bytes, calls, wanted));
     }
-}
-
-#[test]
-fn a_changed_call_is_not_executed(rt: HostRuntime) {
+    // a call in which one bit was changed isn't executed
     for place in 1..9usize {
         for bit in 0..8u32 {
             let mut changed = CALL;
@@ -101,20 +98,16 @@ fn a_changed_call_is_not_executed(rt: HostRuntime) {
 
 type Console = Replies<Waiting<Line, Numbered<u32, KEY>, Numbered<u32, KEY>, 16>>;
 
-// A client that has called 7 by this number; whether that was sent, and what was.
-fn calling(alloc: Global, number: u64) -> (Console, bool, Vec<u8>) {
+// Whether a client that calls 7 by this number takes of these bytes, so many at a time, the reply to it, which is 7; or none. The call by
+// the number 5 is sent as its bytes.
+fn takes(alloc: Global, number: u64, bytes: &[u8], each: usize, is_reply: bool) -> bool
+    requires { 0 < each }
+{
     let mut client = Client::new(sender(alloc, 0), number);
     let is_sent = client.call(Keyed((number, 7))).is_ok();
     let asked = client.replace_inner(line(alloc)).into_inner();
     let hearer = Waiting { client, said: None };
-    (Replies { hearer }, is_sent, asked)
-}
-
-// Whether a client that has called 7 by this number takes of these bytes, so many at a time, the reply to it, which is 7; or none.
-fn takes(alloc: Global, number: u64, bytes: &[u8], each: usize, is_reply: bool) -> bool
-    requires { 0 < each }
-{
-    let (mut waiting, is_sent, _) = calling(alloc, number);
+    let mut waiting: Console = Replies { hearer };
     let mut receiver = Receiver::<16>::new();
     let end = receiver.listen_until_with::<(u64, Numbered<u32, KEY>), _, _, _>(
         alloc,
@@ -128,22 +121,17 @@ fn takes(alloc: Global, number: u64, bytes: &[u8], each: usize, is_reply: bool) 
         Some(Keyed(said)) => is_reply && end.is_none() && said == (6, 7),
         None => !is_reply && is_read(end) && is_number(client.pending(), number),
     };
-    is_sent && is_right
+    is_sent && is_right && (number != 5 || are_equal(&asked, &CALL))
 }
 
 // A line that gives back what was sent over it is damage, and a reply by another number isn't taken.
 #[test]
 fn a_client_takes_its_reply_alone(rt: HostRuntime) {
     let alloc = rt.alloc();
-    let (_, is_sent, asked) = calling(alloc, 5);
-    let are_right = [
-        is_sent,
-        are_equal(&asked, &CALL),
-        takes(alloc, 5, &REPLY, 1, true),
-        takes(alloc, 5, &CALL, 1, false),
-        takes(alloc, 6, &OTHER, 16, false),
-    ];
-    check(&rt, all_true(are_right));
+    let are_right = takes(alloc, 5, &REPLY, 1, true)
+        && takes(alloc, 5, &CALL, 1, false)
+        && takes(alloc, 6, &OTHER, 16, false);
+    check(&rt, are_right);
 }
 
 // Five bytes that differ from zeros in 31 bits in a row as they are printed, the highest bit of each first, and in 39 as a serial line sends

@@ -59,7 +59,8 @@ fn is_waited_out(alloc: Global, each: usize) -> bool
 
 #[test]
 fn said_by_waiting(rt: HostRuntime) {
-    check(&rt, is_waited_out(rt.alloc(), 1));
-    check(&rt, is_waited_out(rt.alloc(), 7));
-    check(&rt, is_waited_out(rt.alloc(), 15));
+    let alloc = rt.alloc();
+    let are_waited_out =
+        is_waited_out(alloc, 1) && is_waited_out(alloc, 7) && is_waited_out(alloc, 15);
+    check(&rt, are_waited_out);
 }
