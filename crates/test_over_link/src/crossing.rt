@@ -144,9 +144,7 @@ const SAMPLE: &[u8] = &[44, 1, 0, 0, 255, 254, 1, 2, 3];
 
 fn sample_crosses(alloc: Global) -> bool {
     match crossed_by_shape::<ShapeOf<Sample<u8, 3>>, Sample<u8, 3>>(alloc, SAMPLE) {
-        Some(sample) => {
-            sample.at == 300 && sample.offset == -2 && sample.levels == [1, 2, 3]
-        }
+        Some(sample) => { sample.at == 300 && sample.offset == -2 && sample.levels == [1, 2, 3] }
         None => false,
     }
 }
@@ -230,40 +228,21 @@ fn structs_and_variants(rt: HostRuntime) {
     check(&rt, all_true(are_right));
 }
 
-/// Whether what lies in a frame is lent as these bytes.
-fn is_lent<'a, T: Serialize + Deserialize<&'a [u8]>>(
-    alloc: Global,
-    frame: &'a mut [u8],
-    sentinel: u8,
-    bytes: &[u8],
-) -> bool {
-    match read_in_place_with_sentinel::<T>(alloc, frame, sentinel) {
-        Some((Ok(Answer::Value(value)), _)) => writes(&value, bytes),
-        _ => false,
-    }
-}
-
-/// Whether the value of these bytes is sent at a sentinel.
-fn is_sent<'a, T: Serialize + Deserialize<&'a [u8]>>(
-    alloc: Global,
-    bytes: &'a [u8],
-    line: &mut [u8; 80],
-    sentinel: u8,
-) -> bool {
-    match from_bytes::<T>(alloc, bytes) {
-        Ok(value) => send(&value, line, sentinel).is_some(),
-        Err(_) => false,
-    }
-}
-
-/// Whether the value of these bytes crosses over this line, and lies there then.
+/// Whether the value of these bytes is sent over this line at a sentinel, and what lies there then is lent as these bytes.
 fn crosses_over<'a, T: Serialize + Deserialize<&'a [u8]>>(
     alloc: Global,
     bytes: &'a [u8],
     line: &'a mut [u8; 80],
     sentinel: u8,
 ) -> bool {
-    is_sent::<T>(alloc, bytes, line, sentinel) && is_lent::<T>(alloc, line, sentinel, bytes)
+    let is_sent = match from_bytes::<T>(alloc, bytes) {
+        Ok(value) => send(&value, line, sentinel).is_some(),
+        Err(_) => false,
+    };
+    match read_in_place_with_sentinel::<T>(alloc, line, sentinel) {
+        Some((Ok(Answer::Value(value)), _)) => is_sent && writes(&value, bytes),
+        _ => false,
+    }
 }
 
 const BORROWER: &[u8] = &[2, 72, 105, 7, 2, 0, 0, 1, 121, 9, 1, 1, 120, 1];

@@ -144,10 +144,16 @@ fn frames_and_sums(rt: HostRuntime) {
     let mut room = [0u8; 6];
     let is_plain = encode(&[10, 11, 0, 12], &mut room) == Ok(5) && room == [3, 10, 11, 2, 12, 0];
     let masked = encode_with_sentinel(&[10, 11, 0, 12], &mut room, 10);
-    check(&rt, is_plain && masked == Ok(5) && room == [9, 0, 1, 8, 6, 0]);
+    check(
+        &rt,
+        is_plain && masked == Ok(5) && room == [9, 0, 1, 8, 6, 0],
+    );
     // a message is sealed and unsealed, one that was changed isn't, and one that has no room isn't sealed
     let mut message = [b'h', b'i', 0, 0, 0, 0];
     let is_sealed = seal(&mut message, 2) == Ok(6) && unseal(&message) == Some(2);
     message[0] = b'H';
-    check(&rt, is_sealed && unseal(&message).is_none() && seal(&mut message, 3).is_err());
+    check(
+        &rt,
+        is_sealed && unseal(&message).is_none() && seal(&mut message, 3).is_err(),
+    );
 }

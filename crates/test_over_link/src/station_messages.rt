@@ -57,12 +57,7 @@ fn are_all<
     'a,
     S: Deserialize<&'a [u8]> + MaxSize,
     M: Shaped<Shape = S> + MatchesShape + Readable<Form = AsShape> + Serialize + PartialEq + Drop,
->(
-    alloc: Global,
-    rows: &[(&'a [u8], M)],
-    refused: Option<&'a [u8]>,
-    size: usize,
-) -> bool {
+>(alloc: Global, rows: &[(&'a [u8], M)], refused: Option<&'a [u8]>, size: usize) -> bool {
     are_reread::<M>(alloc, rows, refused) && greatest::<S, M>() == Some(size)
 }
 

@@ -20,13 +20,21 @@ fn end(alloc: Global, stream: DuplexStream) -> Option<End> {
     Framed::new(alloc, stream, codec).ok()
 }
 
+// Whether all that one end was given to send has gone out, by one poll of a flush, or of a close.
+fn is_flushed(task: &MockTask, end: &mut End, closes: bool) -> bool {
+    let flushed = task.enter(|cx| match closes {
+        true => Sink::<&str>::poll_close(end, cx),
+        false => Sink::<&str>::poll_flush(end, cx),
+    });
+    matches!(flushed, Poll::Ready(Ok(())))
+}
+
 // Flushes one end and polls the other in turn, until so many letters are received.
 fn carry(task: &MockTask, from: &mut End, to: &mut End, heard: &mut Heard, count: usize) -> bool {
     for _ in 0..16 {
-        let flushed = task.enter(|cx| Sink::<&str>::poll_flush(from, cx));
+        let is_done = is_flushed(task, from, false);
         heard.push(letter(next(task, to)));
-        // all that it was given to send has gone out
-        if matches!(flushed, Poll::Ready(Ok(()))) && heard.letters.count == count {
+        if is_done && heard.letters.count == count {
             return true;
         }
     }
@@ -48,8 +56,7 @@ fn talk(task: &MockTask, near: &mut End, far: &mut End) -> bool {
         && carry(task, far, near, &mut heard, 3)
         && carry(task, near, far, &mut heard, 4)
         && heard.letters.is(b"abcd");
-    let closed = task.enter(|cx| Sink::<&str>::poll_close(near, cx));
-    is_carried && matches!(closed, Poll::Ready(Ok(()))) && letter(next(task, far)) == b'.'
+    is_carried && is_flushed(task, near, true) && letter(next(task, far)) == b'.'
 }
 
 // Whether two ends of a pipe talk so.

@@ -88,14 +88,26 @@ fn behind(calls: usize) -> &'static [u8] {
 fn is_heard<R: RandomSource + AllocGlobal>(rt: &R) -> bool {
     for seed in 0..24u8 {
         let pieces = Pieces::new(seed, seed, false, None);
-        let heard = hear_short(rt, Line { bytes: &LINE, pieces });
+        let heard = hear_short(
+            rt,
+            Line {
+                bytes: &LINE,
+                pieces,
+            },
+        );
         if !heard.letters.is(b"ac?>b-..") || heard.waits != 0 {
             return false;
         }
     }
     for calls in 0..28 {
         let pieces = Pieces::new(1, 0, true, Some(calls));
-        let heard = hear_short(rt, Line { bytes: &LINE, pieces });
+        let heard = hear_short(
+            rt,
+            Line {
+                bytes: &LINE,
+                pieces,
+            },
+        );
         // one before each byte, one before the end, and one before the fault or the second end
         if !heard.letters.is(behind(calls)) || heard.waits != 27 {
             return false;
@@ -112,7 +124,15 @@ fn is_heard_strictly<R: RandomSource + AllocGlobal>(rt: &R) -> bool {
             _ => (4, seed, b"a??>b-.."),
         };
         let pieces = Pieces::new(seed, seed, false, None);
-        match hear_strictly(rt, Line { bytes: &MARKED, pieces }, limit, 0x0A) {
+        match hear_strictly(
+            rt,
+            Line {
+                bytes: &MARKED,
+                pieces,
+            },
+            limit,
+            0x0A,
+        ) {
             Some(heard) if heard.letters.is(wanted) => {}
             _ => return false,
         }

@@ -35,12 +35,26 @@ fn is_one(heard: &Heard) -> bool {
 fn is_said<R: RandomSource + AllocGlobal>(rt: &R) -> bool {
     for most in [1, 4, 11] {
         let pieces = Pieces::new(most, 5, true, None);
-        if !is_one(&hear_short(rt, Line { bytes: &LINE, pieces })) {
+        if !is_one(&hear_short(
+            rt,
+            Line {
+                bytes: &LINE,
+                pieces,
+            },
+        )) {
             return false;
         }
     }
     let pieces = Pieces::new(4, 5, true, None);
-    match hear_strictly(rt, Line { bytes: &LINE, pieces }, 4, 0) {
+    match hear_strictly(
+        rt,
+        Line {
+            bytes: &LINE,
+            pieces,
+        },
+        4,
+        0,
+    ) {
         Some(heard) => is_one(&heard),
         None => true,
     }

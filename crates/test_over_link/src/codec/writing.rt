@@ -53,7 +53,10 @@ fn is_sent<R: RandomSource + AllocGlobal>(rt: &R) -> bool {
     }
     for calls in 0..9usize {
         // one poll waits before each byte, and one before the fault
-        if !matches!(send(rt, Pieces::new(1, 0, true, Some(calls))), (10, 1, true)) {
+        if !matches!(
+            send(rt, Pieces::new(1, 0, true, Some(calls))),
+            (10, 1, true)
+        ) {
             return false;
         }
     }
@@ -89,5 +92,8 @@ fn a_refused_text_leaves_nothing(rt: HostRuntime) {
     let is_left_out = leaves_nothing(&mut Letters::new(), &mut line, &LINE);
     line.clear();
     let mut marking = Letters::new_with_sentinel(0x0A);
-    check(&rt, is_left_out && leaves_nothing(&mut marking, &mut line, &MARKED));
+    check(
+        &rt,
+        is_left_out && leaves_nothing(&mut marking, &mut line, &MARKED),
+    );
 }

@@ -1,4 +1,4 @@
-//! Calls and replies, each by itself.
+//! Calls and replies, each by itself, and the notice for a call that was passed over.
 ghost use Rattle.std.specs.Prelude.{◌<◌};
 
 use crate::checks::{are_equal, check};
@@ -9,8 +9,8 @@ use calls::{
 };
 use line_io::memory::{Fault, In, Out};
 use link::{
-    Answer, Decoding, End, Hearer, MessageReader, OfType, Ordinary, OwnedReceiver, Receiver, Reception,
-    SendError, Sender, Strict,
+    Answer, Decoding, End, Hearer, MessageReader, OfType, Ordinary, OwnedReceiver, Receiver,
+    Reception, SendError, Sender, Strict,
 };
 use std::alloc::Global;
 
@@ -207,7 +207,13 @@ fn takes_ordinarily(alloc: Global) -> bool {
     };
     let (is_called, mut waiting) = calling(alloc);
     let mut reader = In::new(&LONGER, 2, None);
-    let ended = wait_by(alloc, &mut receiver, &Strict(OfType), &mut reader, &mut waiting);
+    let ended = wait_by(
+        alloc,
+        &mut receiver,
+        &Strict(OfType),
+        &mut reader,
+        &mut waiting,
+    );
     let is_pending = is_read(ended) && is_number(waiting.client.pending(), 5);
     let mut reader = In::new(&LONGER, 2, None);
     let end = wait_ordinarily(alloc, &mut receiver, &mut reader, &mut waiting);
@@ -290,7 +296,10 @@ fn only_the_reply_and_a_notice_are_taken(rt: HostRuntime) {
     let is_taken = client.call(1).is_ok() && takes_the_reply(&mut client);
     let is_called = client.call(1).is_ok();
     client.give_up();
-    check(&rt, is_taken && is_called && client.hear(Answer::Value((6, 3u32))).is_none());
+    check(
+        &rt,
+        is_taken && is_called && client.hear(Answer::Value((6, 3u32))).is_none(),
+    );
     // the notice for a call that was passed over: the server says that its last call was 9
     let client = Client::<Line, u64, 16>::new(sender(rt.alloc(), 0), 5);
     let mut asking = Noticing {
@@ -363,7 +372,10 @@ fn servers_answer_by_the_number(rt: HostRuntime) {
     let mut server = Server::<Line, u32, u32, 16>::new(sender(alloc, 0));
     let are_told_apart = are_told_apart(&mut server);
     let replies = server.into_inner().into_inner();
-    check(&rt, are_told_apart && are_equal(&replies, &TOLD_APART) && is_kept());
+    check(
+        &rt,
+        are_told_apart && are_equal(&replies, &TOLD_APART) && is_kept(),
+    );
     let mut server = Server::<Line, u64, u64, 16>::new(sender(alloc, 0));
     let is_no_call = answers(alloc, &mut server, &GREATEST, &[0, 3, 1, 4, 0]);
     let last = LastCall {
@@ -371,5 +383,8 @@ fn servers_answer_by_the_number(rt: HostRuntime) {
         reply: (9, 4u64),
     };
     let mut server = Server::<Line, u64, u64, 16>::resume(sender(rt.alloc(), 0), Some(last));
-    check(&rt, is_no_call && answers(alloc, &mut server, &BEHIND, &PASSED));
+    check(
+        &rt,
+        is_no_call && answers(alloc, &mut server, &BEHIND, &PASSED),
+    );
 }

@@ -166,17 +166,22 @@ fn start(alloc: Global, seed: u64) -> Sides {
     }
 }
 
-// How often a value was executed.
-fn count_of(both: &Sides, value: u32) -> u8 {
-    match both.device.hearer.application.counts.get(value as usize) {
-        Some(count) => *count,
-        None => 2,
-    }
-}
-
 // Whether a value was executed once, and its reply says so by the number and the value that are right.
 fn is_right(both: &Sides, value: u32, number: u64, said: u32) -> bool {
-    number == u64::from(value) + 2 && said == value.wrapping_mul(3) && count_of(both, value) == 1
+    let is_once = match both.device.hearer.application.counts.get(value as usize) {
+        Some(count) => *count == 1,
+        None => false,
+    };
+    is_once && number == u64::from(value) + 2 && said == value.wrapping_mul(3)
+}
+
+// Whether there is a count for each value, some was executed, none twice, and nothing that wasn't called.
+fn is_counted(application: &Counter) -> bool {
+    let mut most = 0u8;
+    for count in &application.counts {
+        most = most.max(*count);
+    }
+    most == 1 && application.counts.len() == CALLS as usize && application.strangers == 0
 }
 
 #[test]
@@ -189,14 +194,7 @@ fn calls_over_noisy_lines(rt: HostRuntime) {
             taken = taken.saturating_add(1);
         }
     }
-    let mut most = 0u8;
-    for value in 0..CALLS {
-        most = most.max(count_of(&both, value));
-    }
-    // most are received in eight tries, and not all; none is executed twice, and nothing that wasn't called
-    let strangers = both.device.hearer.application.strangers;
-    check(
-        &rt,
-        taken > 9_000 && taken < CALLS && most == 1 && strangers == 0,
-    );
+    // most are received in eight tries, and not all
+    let is_counted = is_counted(&both.device.hearer.application);
+    check(&rt, taken > 9_000 && taken < CALLS && is_counted);
 }

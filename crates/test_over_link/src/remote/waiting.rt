@@ -60,7 +60,8 @@ fn is_waited_out(alloc: Global, each: usize) -> bool
 #[test]
 fn said_by_waiting(rt: HostRuntime) {
     let alloc = rt.alloc();
-    let are_waited_out =
-        is_waited_out(alloc, 1) && is_waited_out(alloc, 7) && is_waited_out(alloc, 15);
+    let are_waited_out = is_waited_out(alloc, 1)
+        && is_waited_out(alloc, 7)
+        && is_waited_out(alloc, 15);
     check(&rt, are_waited_out);
 }

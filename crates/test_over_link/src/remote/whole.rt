@@ -93,7 +93,11 @@ const BREAKS: [(bool, usize, bool, u32); 4] = [
 fn break_off(alloc: Global, before: usize) -> bool {
     let fault = Some((before, Fault::Fail));
     for (is_call, again, is_said, executed) in BREAKS {
-        let breaks = if is_call { [fault, None] } else { [None, fault] };
+        let breaks = if is_call {
+            [fault, None]
+        } else {
+            [None, fault]
+        };
         if !gives(alloc, breaks, [None, None], again, is_said, executed) {
             return false;
         }
@@ -104,7 +108,10 @@ fn break_off(alloc: Global, before: usize) -> bool {
 #[test]
 fn a_reading_that_stops_and_a_send_that_breaks_off(rt: HostRuntime) {
     for (stops, again, is_said, executed) in STOPS {
-        check(&rt, gives(rt.alloc(), [None, None], stops, again, is_said, executed));
+        check(
+            &rt,
+            gives(rt.alloc(), [None, None], stops, again, is_said, executed),
+        );
     }
     for before in 0..5usize {
         check(&rt, break_off(rt.alloc(), before));
@@ -137,5 +144,8 @@ fn taken<W: Kept>(writer: W) -> Vec<u8> {
 fn a_strict_call_and_a_new_writer_that_is_empty(rt: HostRuntime) {
     let alloc = rt.alloc();
     let called = called_by(alloc, &Strict(OfType));
-    check(&rt, comes_to(&called, true, 1) && taken(OwnedOut::spare(alloc)).is_empty());
+    check(
+        &rt,
+        comes_to(&called, true, 1) && taken(OwnedOut::spare(alloc)).is_empty(),
+    );
 }
