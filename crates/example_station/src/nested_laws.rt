@@ -9,8 +9,8 @@ ghost use Rattle.postcard.specs.Greatest.{SizeWithin};
 ghost use Rattle.example_station.specs.declared.nested.Drawing.{Drawing as Drawings};
 ghost use Rattle.example_station.specs.declared.nested.Text.{Text as Texts};
 
-use crate::by_shape::back_by_six;
-use crate::nested::{Borrower, Deep, Drawing, Message, Sample, Six, Text};
+use crate::by_shape::{Four, back_by_eight};
+use crate::nested::{Borrower, Deep, Drawing, Message, Sample, Text};
 use postcard::experimental::max_size::MaxSize;
 use postcard::laws::{round_trip, within_greatest};
 use postcard::{Exact, Readable, Result, from_bytes, from_bytes_owned};
@@ -53,7 +53,7 @@ pub fn borrower<'a>(
 pub fn deep<'a>(alloc: Global, v: &Deep, room: &'a mut [u8]) -> Result<(Deep, &'a [u8])>
     ensures { IfOk result (λ p. ⟦<Deep as Readable>⟧.form.alike v.now p.0) }
 {
-    back_by_six::<Six, Deep>(alloc, v, room)
+    back_by_eight::<Four<Text>, Deep>(alloc, v, room)
 }
 
 /// Whichever variant it is.
