@@ -330,7 +330,10 @@ impl<'a> Scopes<'a> {
         if space != Space::Roots {
             return self.by_stars(module, name, space);
         }
-        match (self.crate_of(module, name), self.way_by_stars(module, name, space)) {
+        match (
+            self.crate_of(module, name),
+            self.way_by_stars(module, name, space),
+        ) {
             (Meaning::Nothing, Meaning::Open | Meaning::Doubtful | Meaning::Nothing) =>
                 Meaning::Outside,
             (it, Meaning::Open) if !self.has_namesake(name, false) => it,
