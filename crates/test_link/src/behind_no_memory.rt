@@ -4,7 +4,7 @@
 //! missing, and no more. In the gate none is refused, and none is missing.
 ghost use Rattle.std.specs.Prelude.{◌<◌};
 
-use crate::checks::check;
+use crate::checks::{all_true, check};
 use crate::refused_growths::are_first;
 use crate::vectors_in_turn::Hearing;
 use line_io::memory::In;
@@ -18,7 +18,7 @@ const SENT: [&[u8]; 4] = [&[9], &[3, 1, 7], &[2], &[3, 1, 8]];
 const LINE: [u8; 20] = [3, 1, 9, 0, 5, 3, 3, 1, 7, 0, 3, 1, 2, 0, 5, 3, 3, 1, 8, 0];
 
 /// What one read of a line that idles has come to.
-#[derive(Clone, Copy, PartialEq, Eq, Drop)]
+#[derive(Clone, Copy, Drop)]
 enum Turn {
     More,
     Nothing,
@@ -75,15 +75,6 @@ fn is_heard_on(alloc: Global, each: usize) -> bool
     hearing.is_right && whole && reader.moved() == 20 && receiver.is_between()
 }
 
-#[test]
-fn said_by_listening(rt: HostRuntime) {
-    let alloc = rt.alloc();
-    check(
-        &rt,
-        is_heard_on(alloc, 1) && is_heard_on(alloc, 7) && is_heard_on(alloc, 20),
-    );
-}
-
 /// Where a reception ended at a lost value, the receiver stands after all that was read: who continues to listen receives nothing else than was
 /// sent.
 fn is_behind(alloc: Global, each: usize) -> bool
@@ -99,13 +90,19 @@ fn is_behind(alloc: Global, each: usize) -> bool
     hearing.is_right && (whole || lost) && reader.moved() == 20 && receiver.is_between()
 }
 
+/// By either call, in chunks of some sizes.
 #[test]
-fn said_by_receiving_each(rt: HostRuntime) {
+fn said_by_listening(rt: HostRuntime) {
     let alloc = rt.alloc();
-    check(
-        &rt,
-        is_behind(alloc, 1) && is_behind(alloc, 7) && is_behind(alloc, 20),
-    );
+    let found = [
+        is_heard_on(alloc, 1),
+        is_heard_on(alloc, 7),
+        is_heard_on(alloc, 20),
+        is_behind(alloc, 1),
+        is_behind(alloc, 7),
+        is_behind(alloc, 20),
+    ];
+    check(&rt, all_true(found));
 }
 
 // The frames of six vectors of one byte: more than the first growth of a list has room for.
@@ -114,6 +111,7 @@ const SIX: [u8; 24] = [
 ];
 
 /// Byte by byte, so that a reception ends at the byte at which memory was wanting: each frame before that one is answered, by its value.
+/// The accumulator's loop leaves a value without memory out, and ends where its list finds none.
 #[test]
 fn said_by_lists(rt: HostRuntime) {
     let got = receive::<Vec<u8>, _, 16>(rt.alloc(), In::new(&SIX, 1, None));
@@ -121,11 +119,6 @@ fn said_by_lists(rt: HostRuntime) {
     let answered = got.answers.len().saturating_add(missing);
     let are_all = answered == got.reader.moved() / 4 && are_first(&got.answers);
     check(&rt, are_all && (missing == 1 || answered == 6));
-}
-
-/// The same of the accumulator's loop, which leaves a value without memory out, and ends where its list finds none.
-#[test]
-fn said_by_accumulating(rt: HostRuntime) {
     let got = receive_by_accumulator::<Vec<u8>, _, 16>(rt.alloc(), In::new(&SIX, 1, None));
     let frames = got.reader.moved() / 4;
     let count = got.values.len();

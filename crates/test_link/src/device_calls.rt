@@ -25,21 +25,6 @@ fn filling_reader(left: usize) -> Reads<Giving<'static>> {
     reader_of(letters, usize::MAX, usize::MAX, ErrorKind::Other)
 }
 
-/// How many writes the bytes take.
-fn writes_of_all(bytes: &[u8]) -> usize {
-    let mut line = counting_writer();
-    let _ = write_all(&mut line, bytes);
-    line.into_inner().calls
-}
-
-/// How many writes two sends take: the first has a zero in front.
-fn writes_of_sends() -> usize {
-    let mut sender = Sender::<_, 8>::new(counting_writer());
-    let _ = sender.send(&300u32);
-    let _ = sender.send(&300u32);
-    sender.into_inner().into_inner().calls
-}
-
 /// How many writes a run of the program takes, of which each read gives so many bytes.
 fn writes_of_run(alloc: Global, mode: Mode, text: &[u8], each: usize) -> usize
     requires { 0 < each }
@@ -64,9 +49,15 @@ const TEXTS: &[u8] = b"\0\x03\x01a\0\0\x03\x01b\0\0\x03\x01c\0";
 #[test]
 fn pieces_are_offered_whole(rt: HostRuntime) {
     let alloc = rt.alloc();
+    let mut line = counting_writer();
+    let mut sender = Sender::<_, 8>::new(counting_writer());
     let found = [
-        writes_of_all(&[1; 300]) == 1,
-        writes_of_sends() == 3,
+        write_all(&mut line, &[1; 300]).is_ok(),
+        line.into_inner().calls == 1,
+        // the first of two sends has a zero in front
+        sender.send(&300u32).is_ok(),
+        sender.send(&300u32).is_ok(),
+        sender.into_inner().into_inner().calls == 3,
         // lines wait for as many as there is room for
         writes_of_run(alloc, Mode::Pack, b"a\nb\nc\n", 2) == 1,
         // but for no later read where frames are read
@@ -76,43 +67,24 @@ fn pieces_are_offered_whole(rt: HostRuntime) {
     check(&rt, all_true(found));
 }
 
-/// How many reads so many bytes take to their end.
-fn reads_to_end(alloc: Global, count: usize) -> usize {
-    let mut line = filling_reader(count);
-    let mut bytes = Vec::new(alloc);
-    let end = read_to_end(&mut line, &mut bytes);
-    if end != End::Ended || bytes.len() != count {
-        return 0;
-    }
-    line.into_inner().calls
-}
-
-/// How many reads it takes to receive so many bytes.
-fn reads_of_reception(alloc: Global, count: usize) -> usize {
-    receive::<u32, _, 8>(alloc, filling_reader(count))
-        .reader
-        .into_inner()
-        .calls
-}
-
-/// The same by the loop over an accumulator.
-fn reads_of_gathering(alloc: Global, count: usize) -> usize {
-    let got = receive_by_accumulator::<u32, _, 8>(alloc, filling_reader(count));
-    got.reader.into_inner().calls
-}
-
 #[test]
 fn rooms_are_offered_whole(rt: HostRuntime) {
     let mut room = [0u8; 8];
     let mut line = filling_reader(7);
+    let mut long = filling_reader(40000);
+    let mut bytes = Vec::new(rt.alloc());
+    let received = receive::<u32, _, 8>(rt.alloc(), filling_reader(3000));
+    let gathered = receive_by_accumulator::<u32, _, 8>(rt.alloc(), filling_reader(3000));
     let found = [
         line.read(&mut room[..4]) == Some(4),
         line.read_over(&mut room) == Some(3),
         // 16384 bytes a read, and one that tells the end
-        reads_to_end(rt.alloc(), 40000) == 4,
+        read_to_end(&mut long, &mut bytes) == End::Ended,
+        bytes.len() == 40000,
+        long.into_inner().calls == 4,
         // 1024
-        reads_of_reception(rt.alloc(), 3000) == 4,
-        reads_of_gathering(rt.alloc(), 3000) == 4,
+        received.reader.into_inner().calls == 4,
+        gathered.reader.into_inner().calls == 4,
     ];
     check(&rt, all_true(found));
 }

@@ -1,18 +1,16 @@
 //! Runs of the program `framed` over memory: what a run is given and what comes of it, as rows of tables.
 mod failing;
 mod long_runs;
-mod packing;
-mod unpacking;
+mod short_runs;
 
 ghost use Rattle.std.specs.Prelude.{◌<◌};
 
-use crate::checks::{check_at, holds};
+use crate::checks::holds;
 use framed_lib::arguments::Mode;
 use framed_lib::run::run;
 use line_io::Fault;
 use line_io::memory::{In, Out};
 use std::alloc::Global;
-use std::process::Abort;
 
 /// How many bytes each device of a run has room for where the text is short.
 const ROOM: usize = 1100;
@@ -137,13 +135,6 @@ fn is_right(alloc: Global, row: &Row<'_>) -> bool {
     left.status == row.status
         && holds(&written, left.written, row.out)
         && holds(&told, left.said, row.said)
-}
-
-/// Ends a test in which a row isn't right.
-fn expect<R: AllocGlobal + Abort>(rt: &R, rows: &[Row<'_>]) {
-    for (at, row) in rows.iter().enumerate() {
-        check_at(rt, at, is_right(rt.alloc(), row));
-    }
 }
 
 const FRAMED: &[u8] = b"\x00\x04\x02hi\x00\x01\x01\x00\x03\x01A\x00";

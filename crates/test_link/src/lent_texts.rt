@@ -15,14 +15,6 @@ struct Tally {
 }
 
 impl Tally {
-    fn new() -> Tally {
-        Tally {
-            texts: 0,
-            bytes: 0,
-            lost: 0,
-        }
-    }
-
     fn add(&mut self, text: &str) {
         self.texts = self.texts.saturating_add(1);
         self.bytes = self.bytes.saturating_add(text.len());
@@ -47,7 +39,11 @@ fn hear(alloc: Global, receiver: &mut Receiver<64>, piece: &[u8], tally: &mut Ta
 #[test]
 fn texts_where_they_lie(rt: HostRuntime) {
     let mut receiver = Receiver::<64>::new();
-    let mut tally = Tally::new();
+    let mut tally = Tally {
+        texts: 0,
+        bytes: 0,
+        lost: 0,
+    };
     hear(rt.alloc(), &mut receiver, &LINE, &mut tally);
     for byte in &LINE {
         hear(rt.alloc(), &mut receiver, &[*byte], &mut tally);

@@ -6,8 +6,6 @@
 #![tactic(auto)]
 
 #[cfg(test)]
-mod any_sentinel;
-#[cfg(test)]
 mod behind_no_memory;
 #[cfg(test)]
 mod checks;
@@ -22,15 +20,7 @@ mod framed_words;
 #[cfg(test)]
 mod lent_texts;
 #[cfg(test)]
-mod line_examples;
-#[cfg(test)]
-mod line_memory;
-#[cfg(test)]
-mod line_moves;
-#[cfg(test)]
-mod line_streams;
-#[cfg(test)]
-mod line_transfers;
+mod line_devices;
 #[cfg(test)]
 mod link_faults;
 #[cfg(test)]
@@ -47,8 +37,6 @@ mod link_texts;
 mod malicious;
 #[cfg(test)]
 mod message_readers;
-#[cfg(test)]
-mod owned_receiver;
 #[cfg(test)]
 mod refused_growths;
 #[cfg(test)]

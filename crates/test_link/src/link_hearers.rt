@@ -95,53 +95,6 @@ impl<'a, T: PartialEq + Drop> Hearer<T> for Wanted<'a, T> {
     }
 }
 
-/// A text without memory.
-type Text = ArrayString<8>;
-
-impl<'a> Hearer<Text> for Wanted<'a, &'static str> {
-    ghost hears = { HeardAnyhow };
-
-    ghost laws = { heard_anyhow };
-
-    ghost enough = { λ w. w.is_full };
-
-    ghost settled = { λ _. ⊤ };
-
-    fn hear(&mut self, answer: Answer<Text>)
-        ensures { ⊤ }
-    {
-        let is_wanted = match self.answers.get(self.heard) {
-            Some((at, wanted)) => *at == self.pauses && are_alike(wanted, &answer),
-            None => false,
-        };
-        self.note(is_wanted);
-    }
-
-    fn pause(&mut self)
-        ensures heard { ⊤ }
-        ensures settles { ⊤ }
-    {
-        self.pauses = self.pauses.saturating_add(1);
-    }
-
-    fn has_enough(&self) -> bool
-        ensures { result ≡ self.now.is_full }
-    {
-        self.is_full
-    }
-}
-
-// Whether two answers are the same.
-fn are_alike(wanted: &Answer<&str>, answer: &Answer<Text>) -> bool {
-    match (wanted, answer) {
-        (Answer::Value(one), Answer::Value(other)) => **one == *other.as_str(),
-        (Answer::Damaged, Answer::Damaged) => true,
-        (Answer::TooLong, Answer::TooLong) => true,
-        (Answer::Cut, Answer::Cut) => true,
-        _ => false,
-    }
-}
-
 // Under a limit of 4: 5; 300; a frame that lacks a byte; two zeros; five bytes and more; 300; 5 with two bytes after it; and a
 // beginning.
 const LINE: [u8; 28] = [
@@ -248,9 +201,10 @@ fn each_at_its_byte(rt: HostRuntime) {
     }
 }
 
-/// One read, which brings the whole line, by a reader of messages that is strict.
+/// Into a room of the caller's, by a reader of messages: one read, which brings the whole line, strictly; and two, of which none
+/// brings more than the room holds: what the first one has left there isn't received.
 #[test]
-fn each_by_a_reader(rt: HostRuntime) {
+fn each_read_into_a_room(rt: HostRuntime) {
     let mut wanted = Wanted::new(&HEARD_STRICTLY);
     let mut reader = In::new(&LINE, 28, None);
     let mut receiver = Receiver::<4>::new();
@@ -259,11 +213,6 @@ fn each_by_a_reader(rt: HostRuntime) {
     let end = receiver.listen_with(rt.alloc(), &strict, &mut reader, &mut wanted, &mut room);
     let passed = end.is_none() && wanted.heard == 6;
     check(&rt, passed && wanted.pauses == 1);
-}
-
-/// Into a room of the caller's: a read brings no more than it holds, and what an earlier one has left there isn't received.
-#[test]
-fn each_read_into_a_room(rt: HostRuntime) {
     let mut receiver = Receiver::<4>::new();
     let mut wanted = Wanted::new(&HEARD);
     let mut reader = In::new(&LINE, 28, None);
@@ -276,9 +225,21 @@ fn each_read_into_a_room(rt: HostRuntime) {
     check(&rt, wanted.heard == 6 && wanted.pauses == 2);
 }
 
-/// The same until enough was received, which is asked between reads alone.
+/// Whether a reception until so many answers are enough, with this fault, hears two and ends so after so many bytes.
+fn stops(alloc: Global, most: usize, fault: Option<usize>, end: Option<End>, count: usize) -> bool {
+    let mut wanted = Wanted::new(&HEARD);
+    wanted.most = most;
+    let mut reader = In::new(&LINE, 1, fault);
+    let found = hand_on(alloc, Call::Plain, &mut reader, &mut wanted);
+    found == end && wanted.has_heard(2) && reader.moved() == count
+}
+
+/// The hearer has had enough, and no byte more is asked for; a read that fails ends all. Into a room of the caller's it is asked
+/// between reads alone.
 #[test]
-fn until_enough_into_a_room(rt: HostRuntime) {
+fn until_enough(rt: HostRuntime) {
+    let is_enough = stops(rt.alloc(), 2, None, None, 7);
+    let is_ended = stops(rt.alloc(), usize::MAX, Some(8), Some(End::ReadFault), 8);
     let mut receiver = Receiver::<4>::new();
     let mut wanted = Wanted::new(&HEARD);
     wanted.most = 1;
@@ -292,91 +253,57 @@ fn until_enough_into_a_room(rt: HostRuntime) {
         &mut wanted,
         &mut room,
     );
-    check(
-        &rt,
-        end.is_none() && reader.moved() == 20 && wanted.pauses == 1,
-    );
+    let is_asked = end.is_none() && reader.moved() == 20 && wanted.pauses == 1;
+    check(&rt, is_enough && is_ended && is_asked);
 }
 
-/// One read.
-fn listen(
-    alloc: Global,
-    receiver: &mut Receiver<4>,
-    reader: &mut In<'_>,
-    wanted: &mut Wanted<'_, u32>,
-) -> Option<End> {
-    receiver.listen_with(alloc, &Ordinary(OfType), reader, wanted, &mut [0u8; ROOM])
-}
-
-/// One read a call, and nothing that it has brought about is left.
-#[test]
-fn each_read(rt: HostRuntime) {
+/// Whether each read brings a byte, but one that fails after so many, and nothing that it has brought about is left: a read that
+/// fails changes nothing, and what comes after it is received as ever.
+fn listens_by_bytes(alloc: Global, fault: Option<usize>) -> bool {
     let mut receiver = Receiver::<4>::new();
     let mut wanted = Wanted::new(&HEARD);
-    let mut reader = In::new(&LINE, 1, None);
-    for count in 1..29 {
-        let end = listen(rt.alloc(), &mut receiver, &mut reader, &mut wanted);
-        check(&rt, end.is_none() && reader.moved() == count);
-    }
-    let end = listen(rt.alloc(), &mut receiver, &mut reader, &mut wanted);
-    check(&rt, end == Some(End::Ended) && wanted.has_heard(6));
-    check(&rt, receiver.finish::<u32>() == Some(Answer::Cut));
-}
-
-/// The same strictly, by a receiver with a limit that is set at run time.
-#[test]
-fn each_read_strictly(rt: HostRuntime) {
-    let mut wanted = Wanted::new(&HEARD_STRICTLY);
-    let mut reader = In::new(&LINE, 1, None);
-    let Ok(mut receiver) = OwnedReceiver::new(rt.alloc(), 4, 0) else {
-        check(&rt, false);
-        return;
-    };
-    for _ in 0..28 {
-        let end = receiver.listen_with(
-            rt.alloc(),
-            &Strict(OfType),
-            &mut reader,
-            &mut wanted,
-            &mut [0u8; ROOM],
-        );
-        check(&rt, end.is_none());
-    }
-    check(&rt, wanted.has_heard(6) && reader.moved() == 28);
-}
-
-/// A read that fails changes nothing: what comes after it is received as ever.
-#[test]
-fn behind_a_fault(rt: HostRuntime) {
-    let mut receiver = Receiver::<4>::new();
-    let mut wanted = Wanted::new(&HEARD);
-    let mut reader = In::new(&LINE, 1, Some(5));
-    let mut faults = 0usize;
-    for _ in 0..29 {
-        match listen(rt.alloc(), &mut receiver, &mut reader, &mut wanted) {
-            Some(end) => {
-                check(&rt, end == End::ReadFault && reader.moved() == 5);
-                faults = faults.saturating_add(1);
-            }
-            None => {}
+    let mut reader = In::new(&LINE, 1, fault);
+    let mut moved = 0usize;
+    for call in 0..30 {
+        let mut want = None;
+        if fault == Some(call) {
+            want = Some(End::ReadFault);
+        } else if moved == 28 {
+            want = Some(End::Ended);
+        } else {
+            moved = moved.saturating_add(1);
+        }
+        let room = &mut [0u8; ROOM];
+        let end = receiver.listen_with(alloc, &Ordinary(OfType), &mut reader, &mut wanted, room);
+        if end != want || reader.moved() != moved {
+            return false;
         }
     }
-    check(&rt, faults == 1 && wanted.has_heard(6));
+    wanted.has_heard(6) && receiver.finish::<u32>() == Some(Answer::Cut)
 }
 
-/// The hearer has had enough, and no byte more is asked for; a read that fails ends all.
-#[test]
-fn until_enough(rt: HostRuntime) {
-    let mut wanted = Wanted::new(&HEARD);
-    wanted.most = 2;
+/// The same strictly, without a fault, by a receiver with a limit that is set at run time.
+fn listens_strictly(alloc: Global) -> bool {
+    let mut wanted = Wanted::new(&HEARD_STRICTLY);
     let mut reader = In::new(&LINE, 1, None);
-    let end = hand_on(rt.alloc(), Call::Plain, &mut reader, &mut wanted);
-    let passed = end.is_none() && wanted.has_heard(2);
-    check(&rt, passed && reader.moved() == 7);
-    let mut wanted = Wanted::new(&HEARD);
-    let mut reader = In::new(&LINE, 1, Some(8));
-    let end = hand_on(rt.alloc(), Call::Plain, &mut reader, &mut wanted);
-    check(&rt, end == Some(End::ReadFault) && wanted.has_heard(2));
+    let Ok(mut receiver) = OwnedReceiver::new(alloc, 4, 0) else {
+        return false;
+    };
+    for _ in 0..28 {
+        let room = &mut [0u8; ROOM];
+        let end = receiver.listen_with(alloc, &Strict(OfType), &mut reader, &mut wanted, room);
+        if end.is_some() {
+            return false;
+        }
+    }
+    wanted.has_heard(6) && reader.moved() == 28
+}
+
+#[test]
+fn each_read(rt: HostRuntime) {
+    let alloc = rt.alloc();
+    let plainly = listens_by_bytes(alloc, None) && listens_by_bytes(alloc, Some(5));
+    check(&rt, plainly && listens_strictly(alloc));
 }
 
 // "hi", one with a byte after it, bytes that are no text, and a beginning.
@@ -384,45 +311,42 @@ const TEXTS: [u8; 17] = [
     4, 2, 0x68, 0x69, 0, 5, 2, 0x68, 0x69, 7, 0, 3, 1, 0xFF, 0, 4, 2,
 ];
 
-const TEXTS_HEARD: [(usize, Answer<&str>); 4] = [
-    (4, Answer::Value("hi")),
-    (10, Answer::Value("hi")),
-    (14, Answer::Damaged),
-    (17, Answer::Cut),
-];
+/// A text without memory.
+type Text = ArrayString<8>;
 
-const TEXTS_HEARD_STRICTLY: [(usize, Answer<&str>); 4] = [
-    (4, Answer::Value("hi")),
-    (10, Answer::Damaged),
-    (14, Answer::Damaged),
-    (17, Answer::Cut),
-];
-
-/// The texts of a line, each in a value of its own that takes no memory, ordinarily or strictly.
-fn hand_texts_on(
-    alloc: Global,
-    is_strict: bool,
-    wanted: &mut Wanted<'_, &'static str>,
-) -> Option<End> {
+/// Whether the texts of a line, each in a value of its own, are received ordinarily, or strictly: then no byte is after one.
+fn hears_texts(alloc: Global, is_strict: bool) -> bool {
+    let Ok(hi) = Text::from("hi") else {
+        return false;
+    };
+    let longer = if is_strict {
+        Answer::Damaged
+    } else {
+        Answer::Value(hi)
+    };
+    let answers = [
+        (4, Answer::Value(hi)),
+        (10, longer),
+        (14, Answer::Damaged),
+        (17, Answer::Cut),
+    ];
+    let mut wanted = Wanted::new(&answers);
     let reader = &mut In::new(&TEXTS, 1, None);
     let mut receiver = Receiver::<8>::new();
-    if is_strict {
-        return receiver.receive_each_with::<Text, _, _, _>(alloc, &Strict(OfType), reader, wanted);
-    }
-    receiver.receive_each_with::<Text, _, _, _>(alloc, &Ordinary(OfType), reader, wanted)
+    let end = if is_strict {
+        receiver.receive_each_with(alloc, &Strict(OfType), reader, &mut wanted)
+    } else {
+        receiver.receive_each_with(alloc, &Ordinary(OfType), reader, &mut wanted)
+    };
+    wanted.is_whole(end)
 }
 
 #[test]
 fn texts_without_memory(rt: HostRuntime) {
-    let rows: [(bool, &[(usize, Answer<&str>)]); 2] = [
-        (false, &TEXTS_HEARD),
-        (true, &TEXTS_HEARD_STRICTLY),
-    ];
-    for (at, (is_strict, answers)) in rows.iter().enumerate() {
-        let mut wanted = Wanted::new(answers);
-        let end = hand_texts_on(rt.alloc(), *is_strict, &mut wanted);
-        check_at(&rt, at, wanted.is_whole(end));
-    }
+    check(
+        &rt,
+        hears_texts(rt.alloc(), false) && hears_texts(rt.alloc(), true),
+    );
 }
 
 // From which byte to which a chunk of the line goes, how many bytes are used for the first answer in it, and how long the
@@ -440,21 +364,15 @@ const SPANS: [(usize, usize, usize, usize); 8] = [
     (27, 28, 1, 0),
 ];
 
-// Whether the first answer in a chunk is about so many bytes before the last that was used.
-fn spans(alloc: Global, receiver: &mut Receiver<4>, row: (usize, usize, usize, usize)) -> bool {
-    let (from, to, used, stretch) = row;
-    let Some(piece) = LINE.get(from..to) else {
-        return false;
-    };
-    let pushed = receiver.push::<u32>(alloc, piece);
-    pushed.used == used && pushed.stretch == stretch
-}
-
 /// How long the answered stretch was, also where earlier pushes took its beginning.
 #[test]
 fn lengths_of_stretches(rt: HostRuntime) {
     let mut receiver = Receiver::<4>::new();
-    for row in &SPANS {
-        check(&rt, spans(rt.alloc(), &mut receiver, *row));
+    for (at, (from, to, used, stretch)) in SPANS.iter().enumerate() {
+        let Some(piece) = LINE.get(*from..*to) else {
+            return check(&rt, false);
+        };
+        let pushed = receiver.push::<u32>(rt.alloc(), piece);
+        check_at(&rt, at, pushed.used == *used && pushed.stretch == *stretch);
     }
 }

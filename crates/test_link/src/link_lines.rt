@@ -19,6 +19,7 @@ fn is_sent_again(all: &InTurn<Out<'_>>) -> bool {
     is_broken(all.first) && all.second.is_ok() && all.writer.moved() == 7
 }
 
+/// Two sends, and two sessions.
 #[test]
 fn sends_in_turn(rt: HostRuntime) {
     let mut room = [0u8; 16];
@@ -30,10 +31,6 @@ fn sends_in_turn(rt: HostRuntime) {
     let passed = is_sent_again(&all);
     drop(all);
     check(&rt, passed && holds(&room, 7, &LINE));
-}
-
-#[test]
-fn sends_each_in_turn(rt: HostRuntime) {
     let mut room = [0u8; 16];
     let mut first = [Fate::Refused; 2];
     let mut second = [Fate::Refused; 1];
@@ -53,14 +50,11 @@ fn sends_each_in_turn(rt: HostRuntime) {
     );
 }
 
+/// As values, and as a run.
 #[test]
-fn receives_values(rt: HostRuntime) {
+fn receives_what_was_sent(rt: HostRuntime) {
     let all = headline::receive_values::<u32, _, 16>(rt.alloc(), In::new(&LINE, 3, None));
     check(&rt, hears(&all, &[Answer::Damaged, Answer::Value(300)]));
-}
-
-#[test]
-fn receives_a_run(rt: HostRuntime) {
     let all = headline::receive_run::<u32, _, 16>(rt.alloc(), In::new(&LINE, 2, None));
     check(&rt, hears(&all, &[Answer::Damaged, Answer::Value(300)]));
 }

@@ -1,11 +1,12 @@
-//! `link`, receiving: what is lent, stretches cut anywhere, readers that fail, and what is left in place. Answers to plain
-//! streams are lines of `replay_link`.
+//! `link`, receiving, with each kind of sentinel and of limit: what is lent, stretches cut anywhere, readers that fail, limits that
+//! are set anew, and what is left in place. Answers to plain streams are lines of `replay_link`.
 ghost use Rattle.std.specs.Prelude.{◌≤◌, length};
 
-use crate::checks::{are_bytes, check, is_answer, is_lent, is_told};
+use crate::checks::{all_true, are_bytes, check, check_at, is_answer, is_lent, is_told};
 use line_io::memory::In;
 use link::{
-    Answer, End, NoMemory, Pushed, Receiver, read_in_place, receive, receive_by_accumulator,
+    Answer, End, NoMemory, OwnedReceiver, Pushed, Receiver, read_in_place,
+    read_in_place_with_sentinel, receive, receive_by_accumulator,
 };
 use std::alloc::Global;
 
@@ -78,90 +79,133 @@ fn skips_idle_bytes(rt: HostRuntime) {
     );
 }
 
+/// By a receiver with a limit of its type, before a stretch that the bytes cut; with another sentinel; and by one whose limit is set
+/// at run time.
 #[test]
 fn lends(rt: HostRuntime) {
     let mut receiver = Receiver::<8>::new();
     let lent = receiver.push_ref::<&str>(rt.alloc(), &[4, 2, 104, 105, 0, 2, 5]);
     check(&rt, is_lent(&lent, 5, &"hi"));
-}
-
-#[test]
-fn stands_in_a_lent_stretch(rt: HostRuntime) {
-    let mut receiver = Receiver::<8>::new();
     let used = receiver.push_ref::<&str>(rt.alloc(), &[2, 5]).used;
     check(&rt, used == 2 && !receiver.is_between());
-    let last = receiver.finish::<u8>();
-    check(&rt, matches!(&last, Some(Answer::Cut)));
+    check(&rt, receiver.finish::<u8>() == Some(Answer::Cut));
+    let mut receiver = Receiver::<8>::new_with_sentinel(1);
+    let lent = receiver.push_ref::<&[u8]>(rt.alloc(), &[2, 0, 8, 1]);
+    let passed = is_lent(&lent, 4, &[9].as_slice());
+    check(&rt, passed && receiver.is_between());
+    let Ok(mut receiver) = OwnedReceiver::new(rt.alloc(), 4, 0x0A) else {
+        return check(&rt, false);
+    };
+    let lent = receiver.push_ref::<&str>(rt.alloc(), &[0x0E, 0x08, 0x62, 0x63, 0x0A]);
+    let passed = is_lent(&lent, 5, &"hi");
+    check(&rt, passed && receiver.is_between());
 }
 
-/// Two bytes of a stretch, and then a read that fails.
+// Whether a frame of `true` is taken.
+fn takes_true(alloc: Global, receiver: &mut OwnedReceiver) -> bool {
+    let pushed = receiver.push::<bool>(alloc, &[2, 1, 0]);
+    is_answer(&pushed.answer, &Answer::Value(true))
+}
+
+// Whether one byte is too much, until its stretch ends.
+fn takes_nothing(alloc: Global, receiver: &mut OwnedReceiver) -> bool {
+    let pushed = receiver.push_strict::<()>(alloc, &[1]);
+    let ended = receiver.push::<bool>(alloc, &[0]);
+    is_answer(&pushed.answer, &Answer::TooLong) && matches!(&ended.answer, Ok(None))
+}
+
+// Whether a receiver of two bytes goes by a limit that is lowered, and by one that is raised again.
+fn goes_by_its_limit(alloc: Global, receiver: &mut OwnedReceiver) -> bool {
+    takes_true(alloc, receiver)
+        && receiver.is_between()
+        && receiver.set_limit(0).is_ok()
+        && takes_nothing(alloc, receiver)
+        && receiver.is_between()
+        && receiver.set_limit(2).is_ok()
+        && receiver.limit() == 2
+        && takes_true(alloc, receiver)
+}
+
 #[test]
-fn ends_at_a_fault(rt: HostRuntime) {
-    let got = receive::<bool, _, 8>(rt.alloc(), In::new(&[2, 1], 1, Some(2)));
-    check(&rt, got.answers.is_empty() && got.end == End::ReadFault);
+fn limit_set_anew(rt: HostRuntime) {
+    let Ok(mut receiver) = OwnedReceiver::new(rt.alloc(), 2, 0) else {
+        return check(&rt, false);
+    };
+    let passed = goes_by_its_limit(rt.alloc(), &mut receiver);
+    check(&rt, passed && receiver.finish::<()>().is_none());
 }
 
-// Whether a list is of one thing, and has few places.
-fn is_one_of_few<T>(list: &Vec<T>) -> bool {
-    list.len() == 1 && list.capacity() <= 64
-}
-
-/// A list asks for some places, not for many.
+/// A list asks for some places, not for many. Two bytes of a stretch, and then a read that fails, bring no answer.
 #[test]
-fn one_answer_takes_few_places(rt: HostRuntime) {
+fn lists_take_few_places(rt: HostRuntime) {
     let received = receive::<bool, _, 8>(rt.alloc(), In::new(&[2, 1, 0], 3, None));
     let gathered = receive_by_accumulator::<bool, _, 8>(rt.alloc(), In::new(&[2, 1, 0], 3, None));
-    check(
-        &rt,
-        is_one_of_few(&received.answers) && is_one_of_few(&gathered.values),
-    );
+    let failed = receive::<bool, _, 8>(rt.alloc(), In::new(&[2, 1], 1, Some(2)));
+    let found = [
+        received.answers.len() == 1,
+        received.answers.capacity() <= 64,
+        gathered.values.len() == 1,
+        gathered.values.capacity() <= 64,
+        failed.answers.is_empty(),
+        failed.end == End::ReadFault,
+    ];
+    check(&rt, all_true(found));
 }
 
-/// Whether the next stretch is answered so, with so many bytes after it.
-fn reads(alloc: Global, bytes: &mut [u8], wanted: Answer<bool>, behind: usize) -> bool {
+// Whether the next stretch is answered so, with so many bytes after it.
+fn reads(
+    alloc: Global,
+    bytes: &mut [u8],
+    sentinel: u8,
+    wanted: Answer<bool>,
+    behind: usize,
+) -> bool {
+    if sentinel != 0 {
+        return match read_in_place_with_sentinel::<bool>(alloc, bytes, sentinel) {
+            Some((answer, rest)) => is_told(&answer, &wanted) && rest.len() == behind,
+            None => false,
+        };
+    }
     match read_in_place::<bool>(alloc, bytes) {
         Some((answer, rest)) => is_told(&answer, &wanted) && rest.len() == behind,
         None => false,
     }
 }
 
-/// A stretch that isn't ended stays as it was, and so do the zeros before one that is.
+// Whether a value is read, the sentinel before it is still there, and a stretch after it that isn't ended stays as it was.
+fn leaves_the_unfinished(alloc: Global, sentinel: u8) -> bool {
+    let last = [sentinel, 3 ^ sentinel, 1 ^ sentinel];
+    let mut bytes = [sentinel; 6];
+    bytes[1] = 2 ^ sentinel;
+    bytes[2] = 1 ^ sentinel;
+    bytes[3..].copy_from_slice(&last);
+    reads(alloc, &mut bytes, sentinel, Answer::Value(true), 2)
+        && bytes[0] == sentinel
+        && are_bytes(&bytes[3..], &last)
+        && reads(alloc, &mut bytes[4..], sentinel, Answer::Cut, 0)
+        && bytes[0] == sentinel
+        && are_bytes(&bytes[3..], &last)
+}
+
 #[test]
-fn leaves_the_unfinished(rt: HostRuntime) {
+fn reads_in_place(rt: HostRuntime) {
     let alloc = rt.alloc();
-    let mut bytes = [0u8, 2, 1, 0, 3, 1];
-    let is_read = reads(alloc, &mut bytes, Answer::Value(true), 2);
-    let is_left = is_read && reads(alloc, &mut bytes[4..], Answer::Cut, 0);
-    let is_same = is_left && bytes[0] == 0 && are_bytes(&bytes[3..], &[0, 3, 1]);
-    let nothing = read_in_place::<bool>(alloc, &mut []);
-    check(&rt, is_same && nothing.is_none());
+    let are_left = leaves_the_unfinished(alloc, 0) && leaves_the_unfinished(alloc, 0x0A);
+    check(
+        &rt,
+        are_left && read_in_place::<bool>(alloc, &mut []).is_none(),
+    );
 }
 
-// What is answered to a stretch.
-#[derive(Clone, Copy, PartialEq, Drop)]
-enum Kind {
-    Ones,
-    Damaged,
-    Other,
-}
-
-// Whether an answer is a value of 252 ones, or a damaged stretch.
-fn kind_of(answer: &Answer<Vec<u8>>) -> Kind {
-    let ones = [1u8; 252];
-    match answer {
-        Answer::Value(bytes) if *bytes.as_slice() == *ones.as_slice() => Kind::Ones,
-        Answer::Damaged => Kind::Damaged,
-        _ => Kind::Other,
-    }
-}
-
-// The next answer in a chunk, ordinarily or strictly, and how many bytes it took.
+// Whether the next answer in a chunk, ordinarily or strictly, is a value of 252 ones, a damaged stretch or none, as it is wanted; and
+// how many bytes it took.
 fn next(
     alloc: Global,
     receiver: &mut Receiver<256>,
     piece: &[u8],
     strict: bool,
-) -> (usize, Option<Kind>)
+    is_value: Option<bool>,
+) -> (usize, bool)
     ensures { result.0 ≤ length piece.now }
 {
     let Pushed { used, answer, .. } = if strict {
@@ -169,59 +213,44 @@ fn next(
     } else {
         receiver.push::<Vec<u8>>(alloc, piece)
     };
-    match answer {
-        Ok(Some(answer)) => (used, Some(kind_of(&answer))),
-        Ok(None) => (used, None),
-        Err(_) => (used, Some(Kind::Other)),
-    }
+    let is_right = match (answer, is_value) {
+        (Ok(Some(Answer::Value(bytes))), Some(true)) => are_bytes(&bytes, &[1; 252]),
+        (Ok(Some(Answer::Damaged)), Some(false)) => true,
+        (Ok(None), None) => true,
+        _ => false,
+    };
+    (used, is_right)
 }
 
-// Whether a chunk, taken in to its end, brings so many answers, of which so many are damaged stretches.
+// Whether a chunk, taken in to its end, brings these values and damaged stretches, and no more.
 fn brings(
     alloc: Global,
     receiver: &mut Receiver<256>,
     piece: &[u8],
     strict: bool,
-    answers: u8,
-    damaged: u8,
+    are_values: &[bool],
 ) -> bool {
     let mut rest = piece;
-    let mut found = 0u8;
-    for count in 0..3 {
-        let (used, answer) = next(alloc, receiver, rest, strict);
-        match answer {
-            Some(Kind::Ones) => {}
-            Some(Kind::Damaged) => found = found.saturating_add(1),
-            Some(Kind::Other) => return false,
-            None => return count == answers && found == damaged,
+    for is_value in are_values {
+        let (used, is_right) = next(alloc, receiver, rest, strict, Some(*is_value));
+        if !is_right {
+            return false;
         }
         rest = &rest[used..];
     }
-    false
+    next(alloc, receiver, rest, strict, None).1
 }
 
-// Whether the stream in two chunks brings so many values each; strictly the first of them is damaged.
-fn is_heard(alloc: Global, first: &[u8], last: &[u8], before: u8, behind: u8) -> bool {
-    let mut plain = Receiver::<256>::new();
-    let mut strict = Receiver::<256>::new();
-    let refused = before.min(1);
-    brings(alloc, &mut plain, first, false, before, 0)
-        && brings(alloc, &mut plain, last, false, behind, 0)
-        && brings(alloc, &mut strict, first, true, before, refused)
-        && brings(alloc, &mut strict, last, true, behind, 1 - refused)
+// Whether the stream in two chunks brings these answers, so many of them by its first one.
+fn is_heard(alloc: Global, chunks: (&[u8], &[u8]), before: usize, strict: bool) -> bool {
+    let are_values = [!strict, true];
+    let (first, last) = are_values.split_at(before.min(2));
+    let mut receiver = Receiver::<256>::new();
+    brings(alloc, &mut receiver, chunks.0, strict, first)
+        && brings(alloc, &mut receiver, chunks.1, strict, last)
 }
 
-// How many values end in each of two chunks that the stream below is cut into.
-fn ends_by(cut: usize) -> (u8, u8) {
-    if cut <= 256 {
-        (0, 2)
-    } else if cut <= 512 {
-        (1, 1)
-    } else {
-        (2, 0)
-    }
-}
-
+/// Two frames of 252 ones: the first has a code too many, and is damaged strictly.
 #[test]
 fn either_frame_cut_anywhere(rt: HostRuntime) {
     let mut stream = [1u8; 513];
@@ -232,10 +261,14 @@ fn either_frame_cut_anywhere(rt: HostRuntime) {
     stream[258] = 252;
     stream[512] = 0;
     for cut in 0..514 {
-        let (before, behind) = ends_by(cut);
-        let (first, last) = stream.split_at(cut);
-        let passed = is_heard(rt.alloc(), first, last, before, behind);
-        check(&rt, passed);
+        let before = usize::from(256 < cut).saturating_add(usize::from(512 < cut));
+        let chunks = stream.split_at(cut);
+        let plainly = is_heard(rt.alloc(), chunks, before, false);
+        check_at(
+            &rt,
+            cut,
+            plainly && is_heard(rt.alloc(), chunks, before, true),
+        );
     }
 }
 

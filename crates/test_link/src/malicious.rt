@@ -19,21 +19,17 @@ fn is_refused(alloc: Global, bytes: &[u8], cause: Error) -> bool {
         && fails_by(take_from_bytes::<Vec<u8>>(alloc, bytes), cause)
 }
 
-#[test]
-fn endless_counts(rt: HostRuntime) {
-    let (end, padding) = (Error::DeserializeUnexpectedEnd, Error::DeserializeBadVarint);
-    let is_end = is_refused(rt.alloc(), &GREATEST, end);
-    check(&rt, is_end && is_refused(rt.alloc(), &TOO_GREAT, padding));
-}
-
 // A frame whose message is the greatest count.
 const FRAMED_COUNT: [u8; 12] = [
     11, 0xFF, 0xFF, 0xFF, 0xFF, 0xFF, 0xFF, 0xFF, 0xFF, 0xFF, 1, 0,
 ];
 
-/// A frame whose message is a count without end, for a type that lends.
+/// Messages of such a count, and a frame for a type that lends.
 #[test]
-fn framed_endless_count(rt: HostRuntime) {
+fn endless_counts(rt: HostRuntime) {
+    let (end, padding) = (Error::DeserializeUnexpectedEnd, Error::DeserializeBadVarint);
+    let is_end = is_refused(rt.alloc(), &GREATEST, end);
+    check(&rt, is_end && is_refused(rt.alloc(), &TOO_GREAT, padding));
     let mut receiver = Receiver::<16>::new();
     let pushed = receiver.push_ref::<&[u8]>(rt.alloc(), &FRAMED_COUNT);
     check(&rt, is_answer(&pushed.answer, &Answer::Damaged));

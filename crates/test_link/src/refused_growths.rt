@@ -1,7 +1,7 @@
 //! Out of memory: in a run in which an allocation is refused, each call answers so or gives its whole answer.
 //!
-//! The tests whose names begin with `said` are also run with each allocation refused in turn, by `.ci/refusals`. In the gate
-//! none is refused, and `whole_answers` passes too.
+//! `said_by_each_call` is also run with each allocation refused in turn, by `.ci/refusals`. In the gate none is refused, and
+//! `whole_answers` passes too.
 ghost use Rattle.std.specs.Prelude.{◌<◌};
 
 use crate::checks::{all_true, are_bytes, are_fates, check, is_answer, is_told};
@@ -39,24 +39,12 @@ struct Wants {
 }
 
 impl Wants {
-    fn new() -> Wants {
-        Wants {
-            count: 0,
-            are_whole: true,
-        }
-    }
-
     fn add(&mut self) {
         self.count = self.count.saturating_add(1);
     }
 
     fn expect(&mut self, is_right: bool) {
         self.are_whole = self.are_whole && is_right;
-    }
-
-    /// Whether no more calls than these found no memory, and the others are right.
-    fn are_at_most(&self, count: usize) -> bool {
-        self.are_whole && self.count <= count
     }
 
     /// The value; nothing when out of memory, which is this refusal, and no other refusal.
@@ -82,13 +70,6 @@ impl Wants {
     fn written(&mut self, answer: postcard::Result<Vec<u8>>, whole: &[u8]) {
         self.bytes(answer, Error::OutOfMemory, whole);
     }
-
-    /// The vector of a 7, or out of memory.
-    fn told(&mut self, answer: Result<Answer<Vec<u8>>, NoMemory>) {
-        if let Some(answer) = self.value(answer, NoMemory) {
-            self.expect(is_vector(&answer, 7));
-        }
-    }
 }
 
 // Whether an answer is the vector of this byte.
@@ -102,52 +83,42 @@ fn is_vector(answer: &Answer<Vec<u8>>, byte: u8) -> bool {
 // 10, 11, 0, 12
 const MESSAGE: [u8; 4] = [10, 11, 0, 12];
 
-/// The vector forms of `cobs` that encode.
-fn encode(alloc: Global, wants: &mut Wants) {
+/// The vector forms of `cobs` that encode and decode, and its decoder that owns its room.
+fn frame(alloc: Global, wants: &mut Wants) {
     let plain = cobs::encode_vec(alloc, &MESSAGE);
     wants.bytes(plain, AllocError, &[3, 10, 11, 2, 12]);
     let between = cobs::encode_vec_including_sentinels(alloc, &MESSAGE);
     wants.bytes(between, AllocError, &[0, 3, 10, 11, 2, 12, 0]);
     let masked = cobs::encode_vec_with_sentinel(alloc, &MESSAGE, 10);
     wants.bytes(masked, AllocError, &[9, 0, 1, 8, 6]);
-}
-
-/// The vector forms of `cobs` that decode.
-fn decode(alloc: Global, wants: &mut Wants) {
     let plain = cobs::decode_vec(alloc, &[3, 10, 11, 2, 12]);
     wants.bytes(plain, DecodeVecError::OutOfMemory, &MESSAGE);
     let unmasked = cobs::decode_vec_with_sentinel(alloc, &[9, 0, 1, 8, 6], 10);
     wants.bytes(unmasked, DecodeVecError::OutOfMemory, &MESSAGE);
-}
-
-// Whether a decoder that owns three bytes fills one of them by this frame of a 7.
-fn fills_one(decoder: &mut CobsDecoderOwned, frame: &[u8]) -> bool {
-    are_bytes(decoder.dest(), &[0, 0, 0])
-        && decoder.push(frame).is_ok()
-        && are_bytes(decoder.dest(), &[7, 0, 0])
+    wants.owned(CobsDecoderOwned::new(alloc, 3), &[2, 7, 0]);
+    let marked = CobsDecoderOwned::new_with_sentinel(alloc, 3, 0xFF);
+    wants.owned(marked, &[0xFD, 0xF8, 0xFF]);
 }
 
 impl Wants {
     /// A decoder that owns three bytes, and fills one of them by this frame of a 7; or out of memory.
     fn owned(&mut self, decoder: Result<CobsDecoderOwned, AllocError>, frame: &[u8]) {
         if let Some(mut decoder) = self.value(decoder, AllocError) {
-            self.expect(fills_one(&mut decoder, frame));
+            let fills_one = are_bytes(decoder.dest(), &[0, 0, 0])
+                && decoder.push(frame).is_ok()
+                && are_bytes(decoder.dest(), &[7, 0, 0]);
+            self.expect(fills_one);
         }
     }
-}
-
-/// Frames of `cobs`, and its decoder that owns its room.
-fn frame(alloc: Global, wants: &mut Wants) {
-    encode(alloc, wants);
-    decode(alloc, wants);
-    wants.owned(CobsDecoderOwned::new(alloc, 3), &[2, 7, 0]);
 }
 
 // The tuple (1, 10, "Hello!").
 const WHOLE: [u8; 9] = [1, 10, 6, 0x48, 0x65, 0x6C, 0x6C, 0x6F, 0x21];
 
-// The frame of "Hi!".
+// The frame of "Hi!": on a line whose mark is zero, and on one whose mark is FF.
 const FRAMED: [u8; 6] = [5, 3, 0x48, 0x69, 0x21, 0];
+
+const FRAMED_MARKED: [u8; 6] = [0xFA, 0xFC, 0xB7, 0x96, 0xDE, 0xFF];
 
 const ONES: [u8; 40] = [1; 40];
 
@@ -167,13 +138,17 @@ fn write_value<T: Serialize>(alloc: Global, wants: &mut Wants, value: &T, whole:
 /// Calls that write into a vector.
 fn write(alloc: Global, wants: &mut Wants) {
     write_value(alloc, wants, &(1u8, 10u32, "Hello!"), &WHOLE);
+    write_value(alloc, wants, &ONES.as_slice(), &LONG);
     wants.written(to_allocvec_cobs(alloc, &"Hi!"), &FRAMED);
     wants.written(to_stdvec_cobs(alloc, &"Hi!"), &FRAMED);
-    write_value(alloc, wants, &ONES.as_slice(), &LONG);
+    let framed = to_allocvec_cobs_with_sentinel(alloc, &"Hi!", 0xFF);
+    wants.written(framed, &FRAMED_MARKED);
+    let framed = to_stdvec_cobs_with_sentinel(alloc, &"Hi!", 0xFF);
+    wants.written(framed, &FRAMED_MARKED);
 }
 
 /// A text, bytes and a box.
-fn read_parts(alloc: Global, wants: &mut Wants) {
+fn read_values(alloc: Global, wants: &mut Wants) {
     let text = from_bytes::<String>(alloc, &[3, 0x48, 0x69, 0x21]);
     if let Some(text) = wants.value(text, Error::OutOfMemory) {
         wants.expect(text.as_str() == "Hi!");
@@ -185,16 +160,11 @@ fn read_parts(alloc: Global, wants: &mut Wants) {
     }
 }
 
-// Whether a map has the entries 1 to 5 and 2 to 6, and no others.
-fn is_the_map(map: &BTreeMap<u8, u8>) -> bool {
-    map.len() == 2 && map.get(&1) == Some(&5) && map.get(&2) == Some(&6)
-}
-
 /// A map.
 fn read_map(alloc: Global, wants: &mut Wants) {
     let read = from_bytes::<BTreeMap<u8, u8>>(alloc, &[2, 2, 6, 1, 5]);
     if let Some(map) = wants.value(read, Error::OutOfMemory) {
-        wants.expect(is_the_map(&map));
+        wants.expect(map.len() == 2 && map.get(&1) == Some(&5) && map.get(&2) == Some(&6));
     }
 }
 
@@ -235,27 +205,13 @@ fn read_stretch(alloc: Global, wants: &mut Wants, is_marked: bool) {
     } else {
         read_in_place::<Vec<u8>>(alloc, &mut line)
     };
-    match read {
-        Some((answer, rest)) => {
-            wants.expect(rest.len() == 1);
-            wants.told(answer);
-        }
-        None => wants.expect(false),
+    let Some((answer, rest)) = read else {
+        return wants.expect(false);
+    };
+    wants.expect(rest.len() == 1);
+    if let Some(answer) = wants.value(answer, NoMemory) {
+        wants.expect(is_vector(&answer, 7));
     }
-}
-
-/// Such frames.
-fn read_frames(alloc: Global, wants: &mut Wants, is_marked: bool) {
-    read_frame(alloc, wants, is_marked);
-    take_frame(alloc, wants, is_marked);
-    read_stretch(alloc, wants, is_marked);
-}
-
-/// Values that allocate, and frames of such values.
-fn read_all(alloc: Global, wants: &mut Wants) {
-    read_parts(alloc, wants);
-    read_map(alloc, wants);
-    read_frames(alloc, wants, false);
 }
 
 // Two frames: the vectors of a 7 and of an 8.
@@ -432,9 +388,9 @@ fn go_on(alloc: Global, wants: &mut Wants) {
             }
         }
     }
-    wants.expect(heard.is_right && heard.pauses == 3);
-    wants.expect(heard.heard.saturating_add(lost) == 6);
-    wants.expect(receiver.is_between() && line.moved() == 24);
+    let are_heard = heard.is_right && heard.heard.saturating_add(lost) == 6;
+    let is_behind = receiver.is_between() && line.moved() == 24;
+    wants.expect(are_heard && heard.pauses == 3 && is_behind);
 }
 
 // The same six frames where the line's mark is FF.
@@ -483,44 +439,14 @@ fn listen_by(alloc: Global, wants: &mut Wants, calls: &[Call], line: &[u8], each
     }
 }
 
-/// The same by an accumulator.
-fn gather(alloc: Global, wants: &mut Wants, is_marked: bool, each: usize)
-    requires { 0 < each }
-{
-    wants.gathered(if is_marked {
-        receive_by_accumulator_with_sentinel::<_, _, 8>(alloc, In::new(&MARKED, each, None), 0xFF)
-    } else {
-        receive_by_accumulator::<_, _, 8>(alloc, In::new(&LINE, each, None))
-    });
-}
-
 /// By each call for a line whose mark is zero.
 fn listen(alloc: Global, wants: &mut Wants, each: usize)
     requires { 0 < each }
 {
     listen_by(alloc, wants, &[Call::Plain, Call::Strict], &LINE, each);
-    gather(alloc, wants, false, each);
+    let line = In::new(&LINE, each, None);
+    wants.gathered(receive_by_accumulator::<_, _, 8>(alloc, line));
     hand_on(alloc, wants, each);
-}
-
-// 5, 3, "Hi!", 0 for such a line
-const HI_MARKED: [u8; 6] = [0xFA, 0xFC, 0xB7, 0x96, 0xDE, 0xFF];
-
-/// Calls that write for such a line, and the decoder that owns its room.
-fn write_marked(alloc: Global, wants: &mut Wants) {
-    let framed = to_allocvec_cobs_with_sentinel(alloc, &"Hi!", 0xFF);
-    wants.written(framed, &HI_MARKED);
-    let framed = to_stdvec_cobs_with_sentinel(alloc, &"Hi!", 0xFF);
-    wants.written(framed, &HI_MARKED);
-    let decoder = CobsDecoderOwned::new_with_sentinel(alloc, 3, 0xFF);
-    wants.owned(decoder, &[0xFD, 0xF8, 0xFF]);
-}
-
-/// Receptions with a limit that is set at run time.
-fn listen_owned(alloc: Global, wants: &mut Wants) {
-    listen_by(alloc, wants, &[Call::Limited(8, 0xFF)], &MARKED, 7);
-    listen_by(alloc, wants, &[Call::LimitedStrict(8, 0)], &LINE, 7);
-    hand_on_owned(alloc, wants);
 }
 
 impl Wants {
@@ -595,9 +521,39 @@ fn raise(alloc: Global, wants: &mut Wants) {
     wants.expect(is_answer(&pushed.answer, &Answer::Value(())));
 }
 
+/// All calls of `cobs` and `postcard`, and those that read one frame.
+fn write_and_read(alloc: Global, wants: &mut Wants) {
+    frame(alloc, wants);
+    write(alloc, wants);
+    read_values(alloc, wants);
+    read_map(alloc, wants);
+    for is_marked in [false, true] {
+        read_frame(alloc, wants, is_marked);
+        take_frame(alloc, wants, is_marked);
+        read_stretch(alloc, wants, is_marked);
+    }
+}
+
+/// All calls that receive frames, to the end in chunks of some sizes; but those with a limit that is set at run time.
+fn receive_all(alloc: Global, wants: &mut Wants) {
+    feed(alloc, wants);
+    push(alloc, wants);
+    listen(alloc, wants, 1);
+    listen(alloc, wants, 7);
+    listen(alloc, wants, 24);
+    go_on(alloc, wants);
+    let marked = [Call::Marked, Call::MarkedStrict];
+    listen_by(alloc, wants, &marked, &MARKED, 7);
+    let line = In::new(&MARKED, 7, None);
+    let got = receive_by_accumulator_with_sentinel::<_, _, 8>(alloc, line, 0xFF);
+    wants.gathered(got);
+}
+
 /// Receivers whose limit is set at run time.
 fn own_values(alloc: Global, wants: &mut Wants) {
-    listen_owned(alloc, wants);
+    listen_by(alloc, wants, &[Call::Limited(8, 0xFF)], &MARKED, 7);
+    listen_by(alloc, wants, &[Call::LimitedStrict(8, 0)], &LINE, 7);
+    hand_on_owned(alloc, wants);
     own_short(alloc, wants);
     let mut line = [0u8; 1027];
     wants.expect(fills(&mut line));
@@ -606,83 +562,26 @@ fn own_values(alloc: Global, wants: &mut Wants) {
     raise(alloc, wants);
 }
 
-/// All calls that receive frames of a line whose mark is zero, to the end in chunks of some sizes.
-fn receive_all(alloc: Global, wants: &mut Wants) {
-    feed(alloc, wants);
-    push(alloc, wants);
-    listen(alloc, wants, 1);
-    listen(alloc, wants, 7);
-    listen(alloc, wants, 24);
-    go_on(alloc, wants);
-}
-
-/// All calls for a line whose mark is FF.
-fn mark_all(alloc: Global, wants: &mut Wants) {
-    write_marked(alloc, wants);
-    read_frames(alloc, wants, true);
-    listen_by(
-        alloc,
-        wants,
-        &[Call::Marked, Call::MarkedStrict],
-        &MARKED,
-        7,
-    );
-    gather(alloc, wants, true, 7);
+/// Whether no more calls than these find no memory, of all of them, and the others answer the whole.
+fn are_answered(alloc: Global, count: usize) -> bool {
+    let mut wants = Wants {
+        count: 0,
+        are_whole: true,
+    };
+    write_and_read(alloc, &mut wants);
+    receive_all(alloc, &mut wants);
+    own_values(alloc, &mut wants);
+    wants.are_whole && wants.count <= count
 }
 
 #[test]
-fn said_by_frames(rt: HostRuntime) {
-    let mut wants = Wants::new();
-    frame(rt.alloc(), &mut wants);
-    check(&rt, wants.are_at_most(1));
-}
-
-#[test]
-fn said_by_writing(rt: HostRuntime) {
-    let mut wants = Wants::new();
-    write(rt.alloc(), &mut wants);
-    check(&rt, wants.are_at_most(1));
-}
-
-#[test]
-fn said_by_reading(rt: HostRuntime) {
-    let mut wants = Wants::new();
-    read_all(rt.alloc(), &mut wants);
-    check(&rt, wants.are_at_most(1));
-}
-
-#[test]
-fn said_by_receiving(rt: HostRuntime) {
-    let mut wants = Wants::new();
-    receive_all(rt.alloc(), &mut wants);
-    check(&rt, wants.are_at_most(1));
-}
-
-#[test]
-fn said_with_a_mark(rt: HostRuntime) {
-    let mut wants = Wants::new();
-    mark_all(rt.alloc(), &mut wants);
-    check(&rt, wants.are_at_most(1));
-}
-
-#[test]
-fn said_by_owning(rt: HostRuntime) {
-    let mut wants = Wants::new();
-    own_values(rt.alloc(), &mut wants);
-    check(&rt, wants.are_at_most(1));
+fn said_by_each_call(rt: HostRuntime) {
+    check(&rt, are_answered(rt.alloc(), 1));
 }
 
 #[test]
 fn whole_answers(rt: HostRuntime) {
-    let alloc = rt.alloc();
-    let mut wants = Wants::new();
-    frame(alloc, &mut wants);
-    write(alloc, &mut wants);
-    read_all(alloc, &mut wants);
-    receive_all(alloc, &mut wants);
-    mark_all(alloc, &mut wants);
-    own_values(alloc, &mut wants);
-    check(&rt, wants.are_at_most(0));
+    check(&rt, are_answered(rt.alloc(), 0));
 }
 
 // With each allocation refused in turn the tests below meet none.
@@ -700,18 +599,6 @@ fn none_asked_by_cobs(rt: HostRuntime) {
     check(&rt, matches!(&decoded, Ok(4)));
 }
 
-#[test]
-fn none_asked_by_sending(rt: HostRuntime) {
-    let mut room = [0u8; 16];
-    let mut sender = Sender::<_, 8>::new(Out::new(&mut room, 1, None));
-    let sent = sender.send(&300u32);
-    let is_sent = sent.is_ok() && sender.into_inner().moved() == 5;
-    let mut fates = [Fate::Refused; 1];
-    let out = send_each::<u32, _, 8>(Out::new(&mut room, 1, None), &[300], &mut fates);
-    let are_sent = out.moved() == 5 && are_fates(&fates, &[Fate::Done]);
-    check(&rt, is_sent && are_sent);
-}
-
 // Whether so many bytes were written.
 fn has_length(written: postcard::Result<&mut [u8]>, length: usize) -> bool {
     match written {
@@ -723,7 +610,15 @@ fn has_length(written: postcard::Result<&mut [u8]>, length: usize) -> bool {
 #[test]
 fn none_asked_by_writing(rt: HostRuntime) {
     let mut room = [0u8; 16];
+    let mut sender = Sender::<_, 8>::new(Out::new(&mut room, 1, None));
+    let sent = sender.send(&300u32);
+    let is_sent = sent.is_ok() && sender.into_inner().moved() == 5;
+    let mut fates = [Fate::Refused; 1];
+    let out = send_each::<u32, _, 8>(Out::new(&mut room, 1, None), &[300], &mut fates);
+    let are_sent = out.moved() == 5 && are_fates(&fates, &[Fate::Done]);
     let are_written = [
+        is_sent,
+        are_sent,
         has_length(to_slice(&"Hi!", &mut room), 4),
         has_length(to_slice_cobs(&"Hi!", &mut room), 6),
         to_io(&"Hi!", &mut room[..]).is_ok(),
@@ -743,24 +638,6 @@ fn is_value<T: PartialEq>(read: &postcard::Result<T>, wanted: &T) -> bool {
         Ok(value) => *value == *wanted,
         Err(_) => false,
     }
-}
-
-#[test]
-fn none_asked_by_reading(rt: HostRuntime) {
-    let alloc = rt.alloc();
-    let are_read = [
-        is_value(&from_bytes::<&str>(alloc, &HI), &"Hi!"),
-        is_value(&from_bytes_owned::<[u8; 4]>(alloc, &HI), &HI),
-        matches!(&take_from_bytes::<u8>(alloc, &HI), Ok((3, _))),
-    ];
-    check(&rt, all_true(are_read));
-}
-
-#[test]
-fn none_asked_by_readers(rt: HostRuntime) {
-    let mut buffer = [0u8; 3];
-    let read = from_io::<&str, _>(rt.alloc(), (HI.as_slice(), &mut buffer));
-    check(&rt, matches!(&read, Ok((text, _)) if *text == "Hi!"));
 }
 
 // The frame of 5, twice.
@@ -794,16 +671,6 @@ fn none_asked_by_receiving(rt: HostRuntime) {
     check(&rt, all_true(are_fives));
 }
 
-fn is_five_framed(alloc: Global) -> bool {
-    let mut line = FIVES;
-    is_value(&from_bytes_cobs::<u32>(alloc, &mut line), &5)
-}
-
-fn is_five_taken(alloc: Global) -> bool {
-    let mut line = FIVES;
-    matches!(&take_from_bytes_cobs::<u32>(alloc, &mut line), Ok((5, _)))
-}
-
 fn is_five_in_place(alloc: Global) -> bool {
     let mut line = FIVES;
     match read_in_place::<u32>(alloc, &mut line) {
@@ -812,13 +679,21 @@ fn is_five_in_place(alloc: Global) -> bool {
     }
 }
 
+/// Values, one by a reader, and frames.
 #[test]
-fn none_asked_by_frames(rt: HostRuntime) {
+fn none_asked_by_reading(rt: HostRuntime) {
     let alloc = rt.alloc();
-    let are_fives = [
-        is_five_framed(alloc),
-        is_five_taken(alloc),
+    let mut buffer = [0u8; 3];
+    let by_reader = from_io::<&str, _>(alloc, (HI.as_slice(), &mut buffer));
+    let (mut framed, mut taken) = (FIVES, FIVES);
+    let are_read = [
+        is_value(&from_bytes::<&str>(alloc, &HI), &"Hi!"),
+        is_value(&from_bytes_owned::<[u8; 4]>(alloc, &HI), &HI),
+        matches!(&take_from_bytes::<u8>(alloc, &HI), Ok((3, _))),
+        matches!(&by_reader, Ok((text, _)) if *text == "Hi!"),
+        is_value(&from_bytes_cobs::<u32>(alloc, &mut framed), &5),
+        matches!(&take_from_bytes_cobs::<u32>(alloc, &mut taken), Ok((5, _))),
         is_five_in_place(alloc),
     ];
-    check(&rt, all_true(are_fives));
+    check(&rt, all_true(are_read));
 }

@@ -1,79 +1,12 @@
-//! Devices that fail, and memory that isn't found.
+//! Writers that fail, and memory that isn't found.
 use crate::checks::{check_at, holds};
 use crate::framed_runs::{
-    FRAMED, FRAMED_HEX, PACK, PACK_HEX, ROOM, Row, STRETCH, STRICT_HEX, UNPACK, UNPACK_HEX, UNREAD,
-    VALUES, begins, expect, is_right, run_over,
+    FRAMED, FRAMED_HEX, PACK, PACK_HEX, ROOM, Row, STRICT_HEX, UNPACK, UNPACK_HEX, VALUES, begins,
+    is_right, run_over,
 };
 use framed_lib::arguments::Mode;
 use line_io::Fault;
 use std::alloc::Global;
-use std::process::Abort;
-
-const UNREAD_ROWS: [Row<'static>; 7] = [
-    Row {
-        mode: Mode::Unpack,
-        text: b"\x00\x04\x02hi\x00\x04",
-        read_fault: Some(7),
-        out: b"value hi\n",
-        ..UNREAD
-    },
-    Row {
-        mode: Mode::Unpack,
-        text: &STRETCH,
-        read_fault: Some(1025),
-        out: b"too long\n",
-        ..UNREAD
-    },
-    Row {
-        mode: Mode::Strict,
-        text: b"\x04\x02hi\x00\x04\x01bc\x00\x04",
-        read_fault: Some(11),
-        out: b"value hi\ndamaged\n",
-        ..UNREAD
-    },
-    Row {
-        mode: Mode::Unpack,
-        hex: true,
-        text: b"00040268690004",
-        read_fault: Some(14),
-        ..UNREAD
-    },
-    Row {
-        mode: Mode::Strict,
-        hex: true,
-        text: b"00040268690004",
-        read_fault: Some(14),
-        ..UNREAD
-    },
-    Row {
-        text: b"hi\n",
-        read_fault: Some(3),
-        ..UNREAD
-    },
-    Row {
-        hex: true,
-        text: b"hi\n",
-        read_fault: Some(3),
-        ..UNREAD
-    },
-];
-
-#[test]
-fn reader_fails(rt: HostRuntime) {
-    expect(&rt, &UNREAD_ROWS);
-}
-
-/// Expects it of each row, and of the same where nothing is taken in place of a fault.
-fn expect_at_each_fault<R: AllocGlobal + Abort>(rt: &R, rows: &[Row<'_>]) {
-    for (at, row) in rows.iter().enumerate() {
-        check_at(rt, at, is_right(rt.alloc(), row));
-        let taking_nothing = Row {
-            fault: Fault::Nothing,
-            ..*row
-        };
-        check_at(rt, at, is_right(rt.alloc(), &taking_nothing));
-    }
-}
 
 const UNWRITTEN: Row<'static> = Row {
     write_fault: Some(2),
@@ -145,9 +78,17 @@ const UNTAKEN_ROWS: [Row<'static>; 9] = [
     },
 ];
 
+/// Each row, and the same where nothing is taken in place of a fault.
 #[test]
 fn writer_or_standard_error_fails(rt: HostRuntime) {
-    expect_at_each_fault(&rt, &UNTAKEN_ROWS);
+    for (at, row) in UNTAKEN_ROWS.iter().enumerate() {
+        let taking_nothing = Row {
+            fault: Fault::Nothing,
+            ..*row
+        };
+        let fails = is_right(rt.alloc(), row);
+        check_at(&rt, at, fails && is_right(rt.alloc(), &taking_nothing));
+    }
 }
 
 /// Whether a run writes what the row has and nothing is said, or an allocation was refused: then it says so, and writes a

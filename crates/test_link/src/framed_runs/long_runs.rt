@@ -7,7 +7,6 @@ use crate::framed_runs::{
 use framed_lib::arguments::Mode;
 use line_io::Fault;
 use std::alloc::{AllocError, Global};
-use std::process::Abort;
 
 /// A chunk so many times, and what stands before and after it.
 #[derive(Clone, Copy, Drop)]
@@ -29,28 +28,17 @@ fn make(alloc: Global, bytes: &Repeated) -> Result<Vec<u8>, AllocError> {
 
 /// Whether a run in chunks of some thousand bytes does what the row says, but that this is to be written: all of it, or as
 /// many bytes as the writer takes before it fails.
-fn is_right_in(alloc: Global, row: &Row<'_>, all: &[u8], room: &mut [u8]) -> bool {
+fn is_right_in(alloc: Global, row: &Row<'_>, all: &[u8]) -> bool {
+    let Ok(mut room) = vec![in alloc; 0u8; all.len()] else {
+        return false;
+    };
     let mut told = [0u8; ROOM];
-    let left = run_over(alloc, row, 4096, 5000, 4096, room, &mut told);
+    let left = run_over(alloc, row, 4096, 5000, 4096, &mut room, &mut told);
     let count = row.write_fault.unwrap_or(all.len());
     left.status == row.status
         && left.written == count
-        && begins(room, count, all)
+        && begins(&room, count, all)
         && holds(&told, left.said, row.said)
-}
-
-fn is_right_writing(alloc: Global, row: &Row<'_>, all: &[u8]) -> bool {
-    match vec![in alloc; 0u8; all.len()] {
-        Ok(mut room) => is_right_in(alloc, row, all, &mut room),
-        Err(_) => false,
-    }
-}
-
-fn is_right_reading(alloc: Global, row: &Row<'_>, out: &Repeated) -> bool {
-    match make(alloc, out) {
-        Ok(all) => is_right_writing(alloc, row, &all),
-        Err(_) => false,
-    }
 }
 
 /// What a run has but for its text, the text, and what is to be written.
@@ -58,17 +46,17 @@ type Long<'a> = (&'a Row<'a>, &'a Repeated, &'a Repeated);
 
 /// Whether a run on a long text does what the row says, but that this is to be written.
 fn is_long_right(alloc: Global, row: &Row<'_>, text: &Repeated, out: &Repeated) -> bool {
-    match make(alloc, text) {
-        Ok(text) => is_right_reading(
-            alloc,
-            &Row {
-                text: &text,
-                ..*row
-            },
-            out,
-        ),
-        Err(_) => false,
-    }
+    let Ok(text) = make(alloc, text) else {
+        return false;
+    };
+    let Ok(all) = make(alloc, out) else {
+        return false;
+    };
+    let row = Row {
+        text: &text,
+        ..*row
+    };
+    is_right_in(alloc, &row, &all)
 }
 
 const LINES: Repeated = Repeated {
@@ -170,22 +158,16 @@ const MANY_SAID: Repeated = Repeated {
     ..SAID
 };
 
-const PACKS: [Long<'static>; 5] = [
+const RUNS: [Long<'static>; 15] = [
     (&PACK, &LINES, &FRAMES),
     (&PACK_HEX, &LINES, &DIGITS),
     (&REFUSES_LATE, &LATE_LINES, &LATE_FRAMES),
     (&PACK, &MANY_LINES, &MANY_FRAMES),
     (&PACK_HEX, &MANY_LINES, &MANY_DIGITS),
-];
-
-const UNPACKS: [Long<'static>; 4] = [
     (&UNPACK, &FRAMES, &SAID),
     (&STRICT, &FRAMES, &SAID),
     (&LONG_UNREAD, &FRAMES, &SAID),
     (&UNPACK, &MANY_FRAMES, &MANY_SAID),
-];
-
-const UNPACKS_HEX: [Long<'static>; 6] = [
     (&UNPACK_HEX, &CAPITALS, &SAID),
     (&STRICT_HEX, &CAPITALS, &SAID),
     (&UNPACK_HEX, &MANY_CAPITALS, &MANY_SAID),
@@ -194,35 +176,10 @@ const UNPACKS_HEX: [Long<'static>; 6] = [
     (&BAD_HEX, &NO_FIRST_DIGIT, &NOTHING),
 ];
 
-/// Expects it of each run.
-fn expect_long<R: AllocGlobal + Abort>(rt: &R, runs: &[Long<'_>]) {
-    for (at, (row, text, out)) in runs.iter().enumerate() {
-        check_at(rt, at, is_long_right(rt.alloc(), row, text, out));
-    }
-}
-
 #[test]
-fn packs_long_texts(rt: HostRuntime) {
-    expect_long(&rt, &PACKS);
-}
-
-#[test]
-fn unpacks_long_streams(rt: HostRuntime) {
-    expect_long(&rt, &UNPACKS);
-    expect_long(&rt, &UNPACKS_HEX);
-}
-
-/// Expects of a run that a beginning is written where the writer fails after so many bytes.
-fn expect_fronts<R: AllocGlobal + Abort>(rt: &R, run: Long<'_>, befores: &[usize]) {
-    let (row, text, out) = run;
-    for before in befores {
-        let broken = Row {
-            write_fault: Some(*before),
-            said: b"write failed\n",
-            status: 3,
-            ..*row
-        };
-        check_at(rt, *before, is_long_right(rt.alloc(), &broken, text, out));
+fn packs_and_unpacks_much(rt: HostRuntime) {
+    for (at, (row, text, out)) in RUNS.iter().enumerate() {
+        check_at(&rt, at, is_long_right(rt.alloc(), row, text, out));
     }
 }
 
@@ -234,19 +191,35 @@ const PACK_UNTAKEN: Row<'static> = Row {
 
 const PACKED_FRONTS: [usize; 8] = [0, 1, 40960, 40961, 40962, 81921, 81922, 100_000];
 
-const DIGITS_FRONTS: [usize; 7] = [0, 1, 81921, 81922, 81923, 163_843, 200_002];
+const DIGITS_FRONTS: [usize; 8] = [0, 1, 2, 81921, 81922, 81923, 163_843, 200_002];
 
-#[test]
-fn packs_some_at_a_time(rt: HostRuntime) {
-    let befores = &PACKED_FRONTS;
-    expect_fronts(&rt, (&PACK, &MANY_LINES, &MANY_FRAMES), befores);
-    expect_fronts(&rt, (&PACK_UNTAKEN, &MANY_LINES, &MANY_FRAMES), befores);
-    expect_fronts(&rt, (&PACK_HEX, &MANY_LINES, &MANY_DIGITS), &DIGITS_FRONTS);
+const SAID_FRONTS: [usize; 8] = [0, 1, 2, 65534, 65535, 65536, 65537, 140_000 - 1];
+
+// Runs, and after how many bytes the writer fails in each.
+const BROKEN: [(Long<'static>, [usize; 8]); 4] = [
+    ((&PACK, &MANY_LINES, &MANY_FRAMES), PACKED_FRONTS),
+    ((&PACK_UNTAKEN, &MANY_LINES, &MANY_FRAMES), PACKED_FRONTS),
+    ((&PACK_HEX, &MANY_LINES, &MANY_DIGITS), DIGITS_FRONTS),
+    ((&UNPACK, &MANY_FRAMES, &MANY_SAID), SAID_FRONTS),
+];
+
+/// Whether a beginning is written where the writer fails after so many bytes.
+fn is_front_right(alloc: Global, run: Long<'_>, before: usize) -> bool {
+    let (row, text, out) = run;
+    let broken = Row {
+        write_fault: Some(before),
+        said: b"write failed\n",
+        status: 3,
+        ..*row
+    };
+    is_long_right(alloc, &broken, text, out)
 }
 
-const SAID_FRONTS: [usize; 7] = [0, 1, 65534, 65535, 65536, 65537, 140_000 - 1];
-
 #[test]
-fn unpacks_some_at_a_time(rt: HostRuntime) {
-    expect_fronts(&rt, (&UNPACK, &MANY_FRAMES, &MANY_SAID), &SAID_FRONTS);
+fn writes_some_at_a_time(rt: HostRuntime) {
+    for (run, befores) in &BROKEN {
+        for before in befores {
+            check_at(&rt, *before, is_front_right(rt.alloc(), *run, *before));
+        }
+    }
 }
