@@ -8,7 +8,7 @@ ghost use Rattle.schema_table.specs.declared.value.Value.{Value as Values};
 ghost use Rattle.wire_lib.specs.Damages.{IsDamageWord};
 ghost use Rattle.wire_lib.specs.Fronts.{dots_after, damage_said};
 ghost use Rattle.wire_lib.specs.Kinds.{kinds_of};
-ghost use Rattle.wire_lib.specs.Printable.{AddsPrintableLine};
+ghost use Rattle.wire_lib.specs.Printable.{AddsPrintableLine, ArePrintable};
 ghost use Rattle.wire_lib.specs.Said.{OnlyAppended};
 ghost use Rattle.wire_lib.specs.Tables.{row_names};
 ghost use Rattle.wire_lib.specs.Received.{held_by, read_by, are_all_values};
@@ -284,10 +284,9 @@ fn damage_text(
     Ok(text)
 }
 
-/// Appends a printable line of these words.
-fn put_line(alloc: Global, lines: &mut Vec<u8>, words: &[&str]) -> Result<(), AllocError>
-    ensures line { OnOk result (AddsPrintableLine lines.old.items lines.new.items) }
-    ensures only { OnlyAppended lines.old.items lines.new.items }
+/// These words as one printable line, with a blank between two of them.
+fn line_of(alloc: Global, words: &[&str]) -> Result<Vec<u8>, AllocError>
+    ensures { IfOk result (λ line. ArePrintable line.items) }
 {
     let mut text = String::new(alloc);
     for word in words {
@@ -296,7 +295,15 @@ fn put_line(alloc: Global, lines: &mut Vec<u8>, words: &[&str]) -> Result<(), Al
         }
         text.push_str(word)?;
     }
-    let line = printable(alloc, text.as_str(), usize::MAX)?;
+    printable(alloc, text.as_str(), usize::MAX)
+}
+
+/// Appends a printable line of these words.
+fn put_line(alloc: Global, lines: &mut Vec<u8>, words: &[&str]) -> Result<(), AllocError>
+    ensures line { OnOk result (AddsPrintableLine lines.old.items lines.new.items) }
+    ensures only { OnlyAppended lines.old.items lines.new.items }
+{
+    let line = line_of(alloc, words)?;
     lines.extend_from_slice(&line)?;
     Ok(lines.push(b'\n')?)
 }
