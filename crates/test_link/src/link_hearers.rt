@@ -201,20 +201,40 @@ fn each_at_its_byte(rt: HostRuntime) {
     }
 }
 
+// By one read, strictly: all before its pause.
+const AT_ONCE: [(usize, Answer<u32>); 6] = [
+    (0, Answer::Value(5)),
+    (0, Answer::Value(300)),
+    (0, Answer::Damaged),
+    (0, Answer::TooLong),
+    (0, Answer::Value(300)),
+    (0, Answer::Damaged),
+];
+
+// By two reads, the first of twenty bytes.
+const BY_TWO_READS: [(usize, Answer<u32>); 6] = [
+    (0, Answer::Value(5)),
+    (0, Answer::Value(300)),
+    (0, Answer::Damaged),
+    (0, Answer::TooLong),
+    (1, Answer::Value(300)),
+    (1, Answer::Value(5)),
+];
+
 /// Into a room of the caller's, by a reader of messages: one read, which brings the whole line, strictly; and two, of which none
 /// brings more than the room holds: what the first one has left there isn't received.
 #[test]
 fn each_read_into_a_room(rt: HostRuntime) {
-    let mut wanted = Wanted::new(&HEARD_STRICTLY);
+    let mut wanted = Wanted::new(&AT_ONCE);
     let mut reader = In::new(&LINE, 28, None);
     let mut receiver = Receiver::<4>::new();
     let strict = Chosen { strict: true };
     let mut room = [0u8; ROOM];
     let end = receiver.listen_with(rt.alloc(), &strict, &mut reader, &mut wanted, &mut room);
-    let passed = end.is_none() && wanted.heard == 6;
+    let passed = end.is_none() && wanted.has_heard(6);
     check(&rt, passed && wanted.pauses == 1);
     let mut receiver = Receiver::<4>::new();
-    let mut wanted = Wanted::new(&HEARD);
+    let mut wanted = Wanted::new(&BY_TWO_READS);
     let mut reader = In::new(&LINE, 28, None);
     let mut room = [0u8; 20];
     for moved in [20, 28] {
@@ -222,7 +242,7 @@ fn each_read_into_a_room(rt: HostRuntime) {
         let end = receiver.listen_with(rt.alloc(), &ordinary, &mut reader, &mut wanted, &mut room);
         check(&rt, end.is_none() && reader.moved() == moved);
     }
-    check(&rt, wanted.heard == 6 && wanted.pauses == 2);
+    check(&rt, wanted.has_heard(6) && wanted.pauses == 2);
 }
 
 /// Whether a reception until so many answers are enough, with this fault, hears two and ends so after so many bytes.
@@ -241,7 +261,7 @@ fn until_enough(rt: HostRuntime) {
     let is_enough = stops(rt.alloc(), 2, None, None, 7);
     let is_ended = stops(rt.alloc(), usize::MAX, Some(8), Some(End::ReadFault), 8);
     let mut receiver = Receiver::<4>::new();
-    let mut wanted = Wanted::new(&HEARD);
+    let mut wanted = Wanted::new(&BY_TWO_READS);
     wanted.most = 1;
     let mut reader = In::new(&LINE, 28, None);
     let mut room = [0u8; 20];
@@ -253,8 +273,9 @@ fn until_enough(rt: HostRuntime) {
         &mut wanted,
         &mut room,
     );
-    let is_asked = end.is_none() && reader.moved() == 20 && wanted.pauses == 1;
-    check(&rt, is_enough && is_ended && is_asked);
+    let is_asked = end.is_none() && reader.moved() == 20;
+    let is_heard = wanted.has_heard(4) && wanted.pauses == 1;
+    check(&rt, is_enough && is_ended && is_asked && is_heard);
 }
 
 /// Whether each read brings a byte, but one that fails after so many, and nothing that it has brought about is left: a read that
