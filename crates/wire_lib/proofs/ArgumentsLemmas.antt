@@ -2,32 +2,32 @@
 use Rattle.std.proofs.Common.{◌≡◌, ◌↔◌, ◌==◌, ◌<◌, ◌≤◌, ◌+◌, ◌⊎◌, ℕ, Bool, true, false, length, List, [], ◌∷◌, ◌++◌, Option, Some, None, Ok, Err, Result, MatchOption, codes, refl, sym, subst, ap, ◌∙◌, inl, inr, if◌then◌else◌, arith, zero, suc, map, take, drop, take-append-drop, get_or, String, Global, string_bytes}
 use Rattle.std.proofs.lemmas.Bool.Decides.{nat_tests}
 use Rattle.std.specs.List.{All, Contains}
-use Rattle.std.specs.Option.{option_map}
+use Rattle.std.specs.Option.{option_map, option_or}
 use Rattle.std.proofs.lemmas.List.{take_more, take_all, drop_more, map-append}
 use Rattle.std.proofs.lemmas.List.Elements.{All-append, Contains-append_left, Contains-push, Contains-push_cases}
 use Rattle.std.specs.Result.{result_ok}
 use Rattle.std.specs.Str.Parse.{ParsesUnsigned}
 use denote.Ref.{Bor}
 use Rattle.hex.specs.Hex.{decode_sized}
-use Rattle.wire_lib.specs.Arguments.{value_behind, later_of, last_value, WritesNumber, AreSetBy, AddsArgument, IsArgument, IsRefusedFor, HasNoFrames}
+use Rattle.wire_lib.specs.Arguments.{value_behind, last_value, WritesNumber, AreSetBy, AddsArgument, IsArgument, IsRefusedFor, HasNoFrames}
 use Rattle.wire_lib.specs.declared.words.Action.{Action}
 use Rattle.wire_lib.specs.declared.words.Options.{Options}
 
 -- the last value, with one more argument
 last_then : (name : List ℕ) (words : List (List ℕ)) (word : List ℕ)
-    → last_value name (words ++ word ∷ []) ≡ later_of (last_value name words) (value_behind name word)
+    → last_value name (words ++ word ∷ []) ≡ option_or (value_behind name word) (last_value name words)
 last_then name [] word = by (value_behind name word)
   where
-    by : (v : Option (List ℕ)) → later_of v None ≡ later_of None v
+    by : (v : Option (List ℕ)) → v ≡ option_or v None
     by None = refl
     by (Some x) = refl
 last_then name (first ∷ words) word =
-    ap (later_of (value_behind name first)) (last_then name words word)
-    ∙ by (value_behind name first) (last_value name words) (value_behind name word)
+    ap (λ v. option_or v (value_behind name first)) (last_then name words word) ∙ by (value_behind name word)
   where
-    by : (x y z : Option (List ℕ)) → later_of x (later_of y z) ≡ later_of (later_of x y) z
-    by x y None = refl
-    by x y (Some z) = refl
+    by : (v : Option (List ℕ)) → option_or (option_or v (last_value name words)) (value_behind name first)
+        ≡ option_or v (option_or (last_value name words) (value_behind name first))
+    by None = refl
+    by (Some x) = refl
 
 -- a text begins with itself, and nothing follows
 same_char : (c : ℕ) → (c == c) ≡ true
@@ -60,11 +60,11 @@ set_before words word flag is other h = (λ e. Contains-append_left words (word 
 -- an argument with this name, and one with another
 value_now : (words : List (List ℕ)) (name word value : List ℕ) (P : Option (List ℕ) → Type 0)
     → value_behind name word ≡ Some value → P (Some value) → P (last_value name (words ++ word ∷ []))
-value_now words name word value P e p = subst P (sym (last_then name words word ∙ ap (later_of (last_value name words)) e)) p
+value_now words name word value P e p = subst P (sym (last_then name words word ∙ ap (λ v. option_or v (last_value name words)) e)) p
 
 value_before : (words : List (List ℕ)) (name word : List ℕ) (P : Option (List ℕ) → Type 0)
     → value_behind name word ≡ None → P (last_value name words) → P (last_value name (words ++ word ∷ []))
-value_before words name word P e p = subst P (sym (last_then name words word ∙ ap (later_of (last_value name words)) e)) p
+value_before words name word P e p = subst P (sym (last_then name words word ∙ ap (λ v. option_or v (last_value name words)) e)) p
 
 false_true : false ≡ true → ⊥
 false_true e = cc

@@ -1,7 +1,7 @@
 -- The options that the program's arguments set.
 use Rattle.std.specs.Prelude.{◌≡◌, ◌↔◌, ◌==◌, ◌<◌, ◌≤◌, ◌^◌, ◌++◌, ◌⊎◌, ◌≢◌, ℕ, true, List, [], ◌∷◌, length, Option, Some, None, Ok, IsOk, MatchOption, codes, if◌then◌else◌}
 use Rattle.std.specs.List.{All, Contains, position_or_len, before_first, after_first}
-use Rattle.std.specs.Option.{option_map}
+use Rattle.std.specs.Option.{option_map, option_or}
 use Rattle.std.specs.Str.Parse.{IsNumeral, digits_value, without_leading_plus}
 use Rattle.hex.specs.Hex.{decode_sized}
 use Rattle.wire_lib.specs.declared.words.Action.{Action}
@@ -14,15 +14,10 @@ value_behind [] word = Some word
 value_behind (c ∷ name) [] = None
 value_behind (c ∷ name) (b ∷ word) = if b == c then value_behind name word else None
 
--- the later of two values, if there are two
-abbrev pub later_of : Option (List ℕ) → Option (List ℕ) → Option (List ℕ)
-later_of first None = first
-later_of first (Some value) = Some value
-
 -- the value of the last argument that begins with this name
 abbrev pub last_value : List ℕ → List (List ℕ) → Option (List ℕ)
 last_value name [] = None
-last_value name (word ∷ words) = later_of (value_behind name word) (last_value name words)
+last_value name (word ∷ words) = option_or (last_value name words) (value_behind name word)
 
 -- a text is a number below 2^k in decimal digits, also with a plus before them
 abbrev pub WritesNumber : ℕ → List ℕ → ℕ → Type 0
