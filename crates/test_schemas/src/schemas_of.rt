@@ -113,10 +113,11 @@ fn put_lines(line: &mut String, schema: &Schema) -> Result<(), AllocError> {
     Ok(())
 }
 
-/// Whether these are the lines of a table.
+/// Whether these are the lines of a table, each node of which has names.
 fn are_lines(alloc: Global, schema: &Schema, wanted: &str) -> bool {
     let mut lines = String::new(alloc);
-    put_lines(&mut lines, schema).is_ok() && lines.as_str() == wanted
+    let are_named = schema.names.len() == schema.nodes.len();
+    are_named && put_lines(&mut lines, schema).is_ok() && lines.as_str() == wanted
 }
 
 /// Whether these lines are returned for a text: those of its table, or what is wrong.
