@@ -62,22 +62,25 @@ const FRAME: [u8; 66] = [
     0xA9, 0x00,
 ];
 
-// Whether the frame holds a sealed value with such a first code, and these are its bytes after the first.
-fn goes_on(alloc: Global, code: u8, second: u8, third: u8) -> bool {
+// Whether the frame with such a first code is refused so; or holds a sealed value, and these are its bytes after the first.
+fn goes_on(alloc: Global, code: u8, wanted: Result<(u8, u8), Error>) -> bool {
     let mut frame = FRAME;
     frame[0] = code;
     match postcard::from_bytes_cobs::<Sealed<[u8; 60]>>(alloc, &mut frame) {
-        Ok(sealed) => sealed.0[1] == second && sealed.0[2] == third,
-        Err(_) => false,
+        Ok(sealed) => wanted == Ok((sealed.0[1], sealed.0[2])),
+        Err(e) => wanted == Err(e),
     }
 }
 
 // With 4 as the first code these bytes are no frame.
 #[test]
 fn flipped_bit_of_a_code_is_not_told(rt: HostRuntime) {
-    check(&rt, goes_on(rt.alloc(), 2, 0, 2));
-    check(&rt, goes_on(rt.alloc(), 3, 7, 0));
-    check(&rt, !goes_on(rt.alloc(), 4, 7, 2));
+    check(&rt, goes_on(rt.alloc(), 2, Ok((0, 2))));
+    check(&rt, goes_on(rt.alloc(), 3, Ok((7, 0))));
+    check(
+        &rt,
+        goes_on(rt.alloc(), 4, Err(Error::DeserializeBadEncoding)),
+    );
 }
 
 // The key of an interface: the CRC-32 of its name and version.
