@@ -366,14 +366,21 @@ type InFixedRoom = (
     Box<u8>,
 );
 
+// Whether each part is the one that was sent.
+fn is_in_fixed_room(value: &InFixedRoom) -> bool {
+    all_true([
+        matches!(value.0, Ok(true)),
+        are_equal(&value.1, &[7]),
+        is_text(&value.2, "b"),
+        *value.3 == 8,
+    ])
+}
+
 #[test]
 fn what_borrows_nothing(rt: HostRuntime) {
     let bytes = [1, 9, 1, 3, 1, 0x61, 1, 4, 5, 6, 0];
     let read = read_owned::<Whole>(rt.alloc(), &bytes, 1);
     check(&rt, matches!(&read, Some(value) if is_whole(value)));
     let read = read_owned::<InFixedRoom>(rt.alloc(), &[0, 1, 1, 7, 1, 0x62, 8], 0);
-    check(
-        &rt,
-        matches!(&read, Some((Ok(true), items, _, _)) if are_equal(items, &[7])),
-    );
+    check(&rt, matches!(&read, Some(value) if is_in_fixed_room(value)));
 }
