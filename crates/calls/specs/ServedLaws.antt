@@ -5,6 +5,7 @@ use Rattle.std.proofs.lemmas.Bool.{eq-eqb, eqb-true}
 use Rattle.std.proofs.lemmas.List.{append-nil}
 use Rattle.line_io.specs.Device.{LineState}
 use Rattle.postcard_tree.specs.Tree.{Tree}
+use Rattle.postcard_tree.specs.ReadingLaws.{WireForm}
 use Rattle.link.specs.Run.{Among, Send, completed, refused, broken, written}
 use Rattle.line_io.specs.Transfers.{Failed}
 use Rattle.link.specs.Senders.{IsSent, IsRefusal}
@@ -20,7 +21,7 @@ use Rattle.link.specs.declared.receiver.Answer.TheVariants.{Value, Damaged, TooL
 use Rattle.link.specs.Each.{HearerLaws}
 use Rattle.calls.specs.Calls.{Execution, call, next_of, no_call, notices, again, ServesAll, greatest, known, fresh, no_request, request, Rises, In}
 use Rattle.link.specs.Senders.{SenderPlace, sender_place, HasSent}
-use Rattle.calls.specs.Serving.{kept_of, sender_of, SaysAll, Runs, IsServed, IsPassed, IsReplied, Executes, TakesAnswer, ServiceHears, requests_of, unsent_by_result, unsent_by, unsent_by_fate, unsent_of}
+use Rattle.calls.specs.Serving.{kept_of, sender_of, SaysAll, Runs, IsServed, IsPassed, IsReplied, Serving, serving, ServiceState, service_state, Executes, TakesAnswer, ServiceHears, requests_of, unsent_by_result, unsent_by, unsent_by_fate, unsent_of}
 use Rattle.calls.specs.declared.service.Service.{Service}
 use Rattle.calls.specs.declared.server.Served.{Served}
 use Rattle.calls.specs.declared.server.Served.TheVariants.{Executed, Again, Other, Passed, NoCall}
@@ -177,14 +178,19 @@ module _ {Q R : Type 0} {equal : Q → Q → Bool} {passes : ℕ → ℕ → Opt
   passes_by {n = n} {q = q} l e =
       rw e (request {q = (n, q)} {first = []} {log = []} {says = []} {out = []} (greatest l) no_request)
 
-module _ {A Q R : Type 0} (executes : A → Q → R → A → Type 0) (equal : Q → Q → Bool) (passes : ℕ → ℕ → Option R) (limit : ℕ) (writes : ℕ × R → Option Tree) (valid : ℕ × R → Type 0) where
+module _ {A Q R : Type 0} (executes : A → Q → R → A → Type 0) (equal : Q → Q → Bool) (passes : ℕ → ℕ → Option R) (limit : ℕ) (form : WireForm (ℕ × R)) where
+  -- what a service has
+  abbrev state : A → Option (Execution Q R) → Bool → SenderPlace → ServiceState A Q R
+  state a kept unsent sender = record { application = a; kept = kept; unsent = unsent; sender = sender }
+
   -- what such a service does
   abbrev Makes : A → A → Option (Execution Q R) → Option (Execution Q R) → Bool → Bool → SenderPlace → SenderPlace → List (ℕ × Q) → Type 0
-  Makes = Executes executes equal passes limit writes valid
+  Makes old new kept later u v here there =
+      Executes (serving executes equal passes) form limit (state old kept u here) (state new later v there)
 
   -- no request
   pub executes_none : (a : A) (kept : Option (Execution Q R)) (unsent : Bool) (place : SenderPlace) → Makes a a kept kept unsent unsent place place []
-  executes_none a kept unsent place = record { log = []; out = []; fates = []; served = no_request; rises = tt; ran = refl; replied = says_none limit writes valid place; sentinel = refl; told = refl }
+  executes_none a kept unsent place = record { log = []; out = []; fates = []; served = no_request; rises = tt; ran = refl; replied = says_none limit form.writes form.valid place; sentinel = refl; told = refl }
 
   -- requests, and then requests
   pub executes_then : (a b c : A) (kept mid later : Option (Execution Q R)) (u v w : Bool) (here there end : SenderPlace) (qs ps : List (ℕ × Q))
@@ -197,7 +203,7 @@ module _ {A Q R : Type 0} (executes : A → Q → R → A → Type 0) (equal : Q
         served = served;
         rises = (rises served).0;
         ran = folds_then (Runs executes) a b c p.log q.log p.ran q.ran;
-        replied = says_then limit writes valid here there end p.out q.out p.fates q.fates p.sentinel p.replied q.replied;
+        replied = says_then limit form.writes form.valid here there end p.out q.out p.fates q.fates p.sentinel p.replied q.replied;
         sentinel = q.sentinel ∙ p.sentinel;
         told = q.told ∙ ap (λ z. unsent_of z q.fates) p.told ∙ sym (unsent_then u p.fates q.fates);
       }
@@ -232,12 +238,12 @@ module _ {A Q R : Type 0} (executes : A → Q → R → A → Type 0) (equal : Q
   one_said : (old new : A) (kept later : Option (Execution Q R)) (u v : Bool)
       (here there : SenderPlace) (n : ℕ) (q : Q) (p : ℕ × R) (log : List (Execution Q R))
       (x : Result (Unit {0}) SendError)
-      → HasSent limit (writes p) (valid p) here there x
+      → HasSent limit (form.writes p) (form.valid p) here there x
       → ServesAll equal passes kept ((n, q) ∷ []) log (p ∷ []) later
       → FoldsTo (Runs executes) old log new → v ≡ unsent_by_result u x
       → Makes old new kept later u v here there ((n, q) ∷ [])
   one_said old new kept later u v here there n q p log x h served ran t =
-      let one = says_one limit writes valid p here there x h in
+      let one = says_one limit form.writes form.valid p here there x h in
       record {
         log = log;
         out = p ∷ [];
@@ -247,13 +253,13 @@ module _ {A Q R : Type 0} (executes : A → Q → R → A → Type 0) (equal : Q
         ran = ran;
         replied = one.1;
         sentinel = h.sentinel;
-        told = t ∙ told_of limit writes valid p here there x h u;
+        told = t ∙ told_of limit form.writes form.valid p here there x h u;
       }
 
   -- a request for which nothing was done, and of which this was said
   unserved : (old new : A) (kept later : Option (Execution Q R)) (u v : Bool) (here there : SenderPlace) (n : ℕ) (q : Q) (said : Option R) (same : Type 0) (r : Option (Result (Unit {0}) SendError))
       → n < no_call → n < next_of kept → again equal passes kept n q ≡ notices said → later ≡ kept → new ≡ old → (same → there ≡ here)
-      → IsPassed said same (λ p x. HasSent limit (writes p) (valid p) here there x) r → v ≡ unsent_by u (Passed r)
+      → IsPassed said same (λ p x. HasSent limit (form.writes p) (form.valid p) here there x) r → v ≡ unsent_by u (Passed r)
       → Makes old new kept later u v here there ((n, q) ∷ [])
   unserved old new kept later u v here there n q None same None m l is e stays unsaid z t =
       let stands = unsaid z in record {
@@ -263,7 +269,7 @@ module _ {A Q R : Type 0} (executes : A → Q → R → A → Type 0) (equal : Q
         served = knows [] m l is e;
         rises = tt;
         ran = sym stays;
-        replied = subst (λ z. SaysAll limit writes valid here z [] []) (sym stands) (says_none limit writes valid here);
+        replied = subst (λ z. SaysAll limit form.writes form.valid here z [] []) (sym stands) (says_none limit form.writes form.valid here);
         sentinel = ap (λ z. z.sentinel) stands;
         told = t;
       }
@@ -283,25 +289,25 @@ module _ {A Q R : Type 0} (executes : A → Q → R → A → Type 0) (equal : Q
     served = passes_by l e;
     rises = tt;
     ran = sym stays;
-    replied = subst (λ z. SaysAll limit writes valid here z [] []) (sym stands) (says_none limit writes valid here);
+    replied = subst (λ z. SaysAll limit form.writes form.valid here z [] []) (sym stands) (says_none limit form.writes form.valid here);
     sentinel = ap (λ z. z.sentinel) stands;
     told = t;
   }
 
   -- what one request did
   one_served : (old new : A) (kept later : Option (Execution Q R)) (u v : Bool) (here there : SenderPlace) (n : ℕ) (q : Q) (same : Type 0) (r : Served) → (same → there ≡ here)
-      → IsServed executes equal old new kept later n q r → IsReplied passes same (λ p x. HasSent limit (writes p) (valid p) here there x) later n r → v ≡ unsent_by u r
+      → IsServed executes equal (old, kept) (new, later) (n, q) r → IsReplied passes same (λ p x. HasSent limit (form.writes p) (form.valid p) here there x) later n r → v ≡ unsent_by u r
       → Makes old new kept later u v here there ((n, q) ∷ [])
   one_served old new kept later u v here there n q same (Executed x) unsaid (m, l, says, ran, e) (p, f, said) t =
       let is : p ≡ call n q says = which (sym f ∙ e) in
-      let said_so = subst (λ (v : Execution Q R). HasSent limit (writes (v.number, v.says)) (valid (v.number, v.says)) here there x) is said in
+      let said_so = subst (λ (v : Execution Q R). HasSent limit (form.writes (v.number, v.says)) (form.valid (v.number, v.says)) here there x) is said in
       let served = request {q = (n, q)} {first = call n q says ∷ []} {log = []}
       {says = (n, says) ∷ []} {out = []} (fresh says m l) no_request in
       one_said old new kept later u v here there n q (n, says) (call n q says ∷ []) x said_so
       (rw e served) (new, ran, refl) t
   one_served old new kept later u v here there n q same (Again x) unsaid ((m, k, is, numbered, alike), e, stays) (p, f, said) t =
       let kept_is : p ≡ k = which (sym f ∙ e ∙ is) in
-      let said_so = subst (λ (v : Execution Q R). HasSent limit (writes (v.number, v.says)) (valid (v.number, v.says)) here there x) kept_is said in
+      let said_so = subst (λ (v : Execution Q R). HasSent limit (form.writes (v.number, v.says)) (form.valid (v.number, v.says)) here there x) kept_is said in
       let d : next_of kept ≡ k.number + 1 = ap next_of is in
       let same = ap (λ o. again equal passes o n q) is ∙ said_again k n q numbered alike in
       one_said old new kept later u v here there n q (k.number, k.says) [] x said_so
@@ -309,7 +315,7 @@ module _ {A Q R : Type 0} (executes : A → Q → R → A → Type 0) (equal : Q
   one_served old new kept later u v here there n q same (Other r) unsaid ((m, k, is, numbered, differs), e, stays) (p, f, z) t =
       let kept_is : p ≡ k = which (sym f ∙ e ∙ is) in
       unserved old new kept later u v here there n q (passes n k.number) same r m (let d : next_of kept ≡ k.number + 1 = ap next_of is in omega (arith, d, numbered)) (ap (λ o. again equal passes o n q) is ∙ not_again k n q differs) e stays unsaid
-      (subst (λ (y : Execution Q R). IsPassed (passes n y.number) same (λ p x. HasSent limit (writes p) (valid p) here there x) r) kept_is z) (t ∙ either u r)
+      (subst (λ (y : Execution Q R). IsPassed (passes n y.number) same (λ p x. HasSent limit (form.writes p) (form.valid p) here there x) r) kept_is z) (t ∙ either u r)
     where
       either : (u : Bool) (r : Option (Result (Unit {0}) SendError)) → unsent_by u (Other r) ≡ unsent_by u (Passed r)
       either u None = refl
@@ -317,7 +323,7 @@ module _ {A Q R : Type 0} (executes : A → Q → R → A → Type 0) (equal : Q
   one_served old new kept later u v here there n q same (Passed r) unsaid (m, k, is, l, e, stays) (p, f, z) t =
       let kept_is : p ≡ k = which (sym f ∙ e ∙ is) in
       unserved old new kept later u v here there n q (passes n k.number) same r m (let d : next_of kept ≡ k.number + 1 = ap next_of is in omega (arith, d, l)) (ap (λ o. again equal passes o n q) is ∙ passed k n q l) e stays unsaid
-      (subst (λ (y : Execution Q R). IsPassed (passes n y.number) same (λ p x. HasSent limit (writes p) (valid p) here there x) r) kept_is z) t
+      (subst (λ (y : Execution Q R). IsPassed (passes n y.number) same (λ p x. HasSent limit (form.writes p) (form.valid p) here there x) r) kept_is z) t
   one_served old new kept later u v here there n q same NoCall unsaid (l, e, stays) z t =
       not_called old new kept later u v here there n q l e stays (unsaid z) t
 
@@ -331,7 +337,7 @@ module _ {A Q R : Type 0} (executes : A → Q → R → A → Type 0) (equal : Q
 
   -- one answer of a line
   pub executes_one : (old new : A) (kept later : Option (Execution Q R)) (u v : Bool) (here there : SenderPlace) (same : Type 0) (answer : Answer (ℕ × Q)) → (same → there ≡ here)
-      → TakesAnswer executes equal passes old new kept later u v same (λ p x. HasSent limit (writes p) (valid p) here there x) answer
+      → TakesAnswer (serving executes equal passes) (state old kept u here) (state new later v there) same (λ p x. HasSent limit (form.writes p) (form.valid p) here there x) answer
       → Makes old new kept later u v here there (requests_of (answer ∷ []))
   executes_one old new kept later u v here there same (Value p) unsaid (r, served, replied, t) = one_served old new kept later u v here there p.0 p.1 same r unsaid served replied t
   executes_one old new kept later u v here there same Damaged unsaid (e, f, g, t) = stays_as old new kept later u v here there e f t (unsaid g)
@@ -339,11 +345,11 @@ module _ {A Q R : Type 0} (executes : A → Q → R → A → Type 0) (equal : Q
   executes_one old new kept later u v here there same Cut unsaid (e, f, g, t) = stays_as old new kept later u v here there e f t (unsaid g)
 
 -- what a service must meet as a hearer
-pub service_laws : {A W Q R : Type 0} {N : ℕ} (executes : A → Q → R → A → Type 0) (equal : Q → Q → Bool) (passes : ℕ → ℕ → Option R) (line : W → LineState) (writes : ℕ × R → Option Tree) (valid : ℕ × R → Type 0)
-    → HearerLaws {H = Service A W Q R N} (ServiceHears executes equal passes line writes valid)
-service_laws {A} {W} {Q} {R} {N} executes equal passes line writes valid = record {
-  none = λ h. executes_none executes equal passes N writes valid h.application (kept_of h.server) h.unsent (sender_place line (sender_of h.server));
+pub service_laws : {A W Q R : Type 0} {N : ℕ} (rules : Serving A Q R) (line : W → LineState) (form : WireForm (ℕ × R))
+    → HearerLaws {H = Service A W Q R N} (ServiceHears rules line form)
+service_laws {A} {W} {Q} {R} {N} rules line form = record {
+  none = λ h. executes_none rules.executes rules.equal rules.passes N form h.application (kept_of h.server) h.unsent (sender_place line (sender_of h.server));
   more = λ h k m a b p q.
-      subst (λ l. Executes executes equal passes N writes valid h.application m.application (kept_of h.server) (kept_of m.server) h.unsent m.unsent (sender_place line (sender_of h.server)) (sender_place line (sender_of m.server)) l)
-      (sym (requests_then a b)) (executes_then executes equal passes N writes valid _ _ _ _ _ _ _ _ _ _ _ _ (requests_of a) (requests_of b) p q);
+      subst (λ l. Executes rules form N (service_state line h) (service_state line m) l)
+      (sym (requests_then a b)) (executes_then rules.executes rules.equal rules.passes N form _ _ _ _ _ _ _ _ _ _ _ _ (requests_of a) (requests_of b) p q);
 }

@@ -3,6 +3,7 @@ use Rattle.std.specs.Prelude.{◌≡◌, ℕ, ◌<◌, ◌≤◌, Bool, true, fa
 use Rattle.std.specs.List.{FoldsTo}
 use Rattle.line_io.specs.Device.{LineState}
 use Rattle.postcard_tree.specs.Tree.{Tree}
+use Rattle.postcard_tree.specs.ReadingLaws.{WireForm}
 use Rattle.link.specs.declared.sender.Sender.{Sender}
 use Rattle.link.specs.declared.sender.SendError.{SendError}
 use Rattle.link.specs.declared.session.Fate.{Fate}
@@ -50,13 +51,22 @@ IsStanding {Q} {R} equal kept number asks Same = (number < no_call) × (e : Exec
 IsStanding {Q} {R} equal kept number asks Changed = (number < no_call) × (e : Execution Q R) × (kept ≡ Some e) × (e.number ≡ number) × (equal e.asks asks ≡ false)
 IsStanding {Q} {R} equal kept number asks (Below last) = (number < no_call) × (e : Execution Q R) × (kept ≡ Some e) × (number < e.number) × (last ≡ e.number)
 
--- what is executed and kept, by the server's answer
-abbrev pub IsServed : {A Q R : Type 0} → (A → Q → R → A → Type 0) → (Q → Q → Bool) → A → A → Option (Execution Q R) → Option (Execution Q R) → ℕ → Q → Served → Type 0
-IsServed {R = R} executes equal old new kept later number asks (Executed r) = (number < no_call) × (next_of kept ≤ number) × (says : R) × executes old asks says new × (later ≡ Some (call number asks says))
-IsServed executes equal old new kept later number asks (Again r) = IsStanding equal kept number asks Same × (later ≡ kept) × (new ≡ old)
-IsServed executes equal old new kept later number asks (Other r) = IsStanding equal kept number asks Changed × (later ≡ kept) × (new ≡ old)
-IsServed {Q = Q} {R = R} executes equal old new kept later number asks (Passed r) = (number < no_call) × (e : Execution Q R) × (kept ≡ Some e) × (number < e.number) × (later ≡ kept) × (new ≡ old)
-IsServed executes equal old new kept later number asks NoCall = (no_call ≤ number) × (later ≡ kept) × (new ≡ old)
+-- What is executed and kept, by the server's answer to a number and a request: an application and the kept call before, and these
+-- afterwards.
+abbrev pub IsServed : {A Q R : Type 0} → (A → Q → R → A → Type 0) → (Q → Q → Bool)
+    → A × Option (Execution Q R) → A × Option (Execution Q R) → ℕ × Q → Served → Type 0
+IsServed {R = R} executes equal old new asked (Executed r) = (asked.0 < no_call)
+    × (next_of old.1 ≤ asked.0) × (says : R) × executes old.0 asked.1 says new.0
+    × (new.1 ≡ Some (call asked.0 asked.1 says))
+IsServed executes equal old new asked (Again r) =
+    IsStanding equal old.1 asked.0 asked.1 Same × (new.1 ≡ old.1) × (new.0 ≡ old.0)
+IsServed executes equal old new asked (Other r) =
+    IsStanding equal old.1 asked.0 asked.1 Changed × (new.1 ≡ old.1) × (new.0 ≡ old.0)
+IsServed {Q = Q} {R = R} executes equal old new asked (Passed r) = (asked.0 < no_call)
+    × (e : Execution Q R) × (old.1 ≡ Some e) × (asked.0 < e.number)
+    × (new.1 ≡ old.1) × (new.0 ≡ old.0)
+IsServed executes equal old new asked NoCall =
+    (no_call ≤ asked.0) × (new.1 ≡ old.1) × (new.0 ≡ old.0)
 
 -- what is said of a request that was passed over, if anything is, goes out by the greatest number; else nothing is sent
 abbrev pub IsPassed : {R : Type 0} → Option R → (same : Type 0) → (ℕ × R → Result (Unit {0}) SendError → Type 0) → Option (Result (Unit {0}) SendError) → Type 0
@@ -105,9 +115,45 @@ requests_of [] = []
 requests_of (Value v ∷ more) = v ∷ requests_of more
 requests_of (_ ∷ more) = requests_of more
 
+-- What a service goes by.
+pub record Serving (A Q R : Type 0) : Type 1 where
+  -- what the application makes of itself by a request, and what it says to it
+  pub executes : A → Q → R → A → Type 0
+  -- whether two requests are the same
+  pub equal : Q → Q → Bool
+  -- what is said of a request by this number that is passed over, behind the last number that was executed
+  pub passes : ℕ → ℕ → Option R
+
+-- these three of an application and its requests
+abbrev pub serving : {A Q R : Type 0} → (A → Q → R → A → Type 0) → (Q → Q → Bool)
+    → (ℕ → ℕ → Option R) → Serving A Q R
+serving executes equal passes = record { executes = executes; equal = equal; passes = passes }
+
+-- what a service has
+pub record ServiceState (A Q R : Type 0) : Type 0 where
+  -- the application
+  pub application : A
+  -- the call that is kept
+  pub kept : Option (Execution Q R)
+  -- whether a reply wasn't sent whole
+  pub unsent : Bool
+  -- where the sender of replies stands
+  pub sender : SenderPlace
+
+-- what this service has, by where its writers are
+abbrev pub service_state : {A W Q R : Type 0} {N : ℕ} → (W → LineState) → Service A W Q R N
+    → ServiceState A Q R
+service_state line s = record {
+  application = s.application;
+  kept = kept_of s.server;
+  unsent = s.unsent;
+  sender = sender_place line (sender_of s.server);
+}
+
 -- What was executed of requests, and replied: some of them, in their order, each number once at most and above those before; the
 -- replies are one session. Whether one of them wasn't sent whole is told.
-pub record Executes {A Q R : Type 0} (executes : A → Q → R → A → Type 0) (equal : Q → Q → Bool) (passes : ℕ → ℕ → Option R) (limit : ℕ) (writes : ℕ × R → Option Tree) (valid : ℕ × R → Type 0) (old new : A) (kept later : Option (Execution Q R)) (unsent unsent' : Bool) (before after : SenderPlace) (requests : List (ℕ × Q)) : Type 0 where
+pub record Executes {A Q R : Type 0} (rules : Serving A Q R) (form : WireForm (ℕ × R)) (limit : ℕ)
+    (old new : ServiceState A Q R) (requests : List (ℕ × Q)) : Type 0 where
   -- the requests that were executed, in order
   pub log : List (Execution Q R)
   -- the replies and notices, in order
@@ -115,26 +161,29 @@ pub record Executes {A Q R : Type 0} (executes : A → Q → R → A → Type 0)
   -- whether each of these was sent whole
   pub fates : List Fate
   -- these are executed and replied when the requests are served in turn
-  pub served : ServesAll equal passes kept requests log out later
+  pub served : ServesAll rules.equal rules.passes old.kept requests log out new.kept
   -- each executed number is above those before, and above the last one that was kept
-  pub rises : Rises (next_of kept) log
+  pub rises : Rises (next_of old.kept) log
   -- the application executed these, in order, and nothing else
-  pub ran : FoldsTo (Runs executes) old log new
+  pub ran : FoldsTo (Runs rules.executes) old.application log new.application
   -- the replies were sent as one session
-  pub replied : SaysAll limit writes valid before after out fates
+  pub replied : SaysAll limit form.writes form.valid old.sender new.sender out fates
   -- the sender keeps its sentinel
-  pub sentinel : after.sentinel ≡ before.sentinel
+  pub sentinel : new.sender.sentinel ≡ old.sender.sentinel
   -- `unsent` is set if a reply wasn't sent whole, and otherwise as it was
-  pub told : unsent' ≡ unsent_of unsent fates
+  pub told : new.unsent ≡ unsent_of old.unsent fates
 
 -- One answer of the line: a request is served, and anything else changes nothing.
-abbrev pub TakesAnswer : {A Q R : Type 0} → (A → Q → R → A → Type 0) → (Q → Q → Bool) → (ℕ → ℕ → Option R) → A → A → Option (Execution Q R) → Option (Execution Q R) → Bool → Bool → (same : Type 0) → (ℕ × R → Result (Unit {0}) SendError → Type 0) → Answer (ℕ × Q) → Type 0
-TakesAnswer executes equal passes old new kept later unsent unsent' same sends (Value p) = (r : Served) × IsServed executes equal old new kept later p.0 p.1 r × IsReplied passes same sends later p.0 r × (unsent' ≡ unsent_by unsent r)
-TakesAnswer executes equal passes old new kept later unsent unsent' same sends _ =
-    (new ≡ old) × (later ≡ kept) × same × (unsent' ≡ unsent)
+abbrev pub TakesAnswer : {A Q R : Type 0} → Serving A Q R → ServiceState A Q R → ServiceState A Q R
+    → (same : Type 0) → (ℕ × R → Result (Unit {0}) SendError → Type 0) → Answer (ℕ × Q) → Type 0
+TakesAnswer rules old new same sends (Value p) = (r : Served)
+    × IsServed rules.executes rules.equal (old.application, old.kept) (new.application, new.kept) p r
+    × IsReplied rules.passes same sends new.kept p.0 r × (new.unsent ≡ unsent_by old.unsent r)
+TakesAnswer rules old new same sends _ = (new.application ≡ old.application)
+    × (new.kept ≡ old.kept) × same × (new.unsent ≡ old.unsent)
 
 -- what a service makes of the results of a line
-abbrev pub ServiceHears : {A W Q R : Type 0} {N : ℕ} → (A → Q → R → A → Type 0) → (Q → Q → Bool) → (ℕ → ℕ → Option R) → (W → LineState) → (ℕ × R → Option Tree) → (ℕ × R → Type 0) → Service A W Q R N → List (Answer (ℕ × Q)) → Service A W Q R N → Type 0
-ServiceHears {N = N} executes equal passes line writes valid old answers new =
-    Executes executes equal passes N writes valid old.application new.application (kept_of old.server) (kept_of new.server) old.unsent new.unsent
-    (sender_place line (sender_of old.server)) (sender_place line (sender_of new.server)) (requests_of answers)
+abbrev pub ServiceHears : {A W Q R : Type 0} {N : ℕ} → Serving A Q R → (W → LineState)
+    → WireForm (ℕ × R) → Service A W Q R N → List (Answer (ℕ × Q)) → Service A W Q R N → Type 0
+ServiceHears {N = N} rules line form old answers new =
+    Executes rules form N (service_state line old) (service_state line new) (requests_of answers)

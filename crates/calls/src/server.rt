@@ -175,8 +175,8 @@ impl<W: Outlet, Q: PartialEq + Drop, R: Serialize + Drop, const N: usize> Server
         number: u64,
         request: Q,
     ) -> Served
-        ensures served { IsServed A.executes Q.eq application.old application.new
-            (kept_of self.old) (kept_of self.new) number request result }
+        ensures served { IsServed A.executes Q.eq (application.old, kept_of self.old)
+            (application.new, kept_of self.new) (number, request) result }
         ensures replied { IsReplied A.passes (sender_of self.new ≡ sender_of self.old)
             (λ p r. HasSent N (⟦<(u64, R) as Readable>⟧.form.writes p)
             (⟦<(u64, R) as Readable>⟧.form.valid p)

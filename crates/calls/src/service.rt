@@ -1,7 +1,7 @@
 //! A server as a hearer.
 ghost use Rattle.std.specs.Prelude.{◌≡◌, [], ◌∷◌, false, ⊤};
 ghost use Rattle.link.specs.Senders.{sender_place, HasSent};
-ghost use Rattle.calls.specs.Serving.{kept_of, sender_of, TakesAnswer, ServiceHears, unsent_by, unsent_by_result};
+ghost use Rattle.calls.specs.Serving.{sender_of, serving, service_state, TakesAnswer, ServiceHears, unsent_by, unsent_by_result};
 ghost use Rattle.calls.specs.ServedLaws.{service_laws};
 
 use crate::server::{Application, Served, Server};
@@ -54,8 +54,8 @@ impl<Q: PartialEq + Drop, R: Serialize + Drop, A, W: Outlet, const N: usize> Ser
     fn take(&mut self, answer: Answer<(u64, Q)>)
     where
         A: Application<Q, R>,
-        ensures { TakesAnswer A.executes Q.eq A.passes self.old.application self.new.application
-            (kept_of self.old.server) (kept_of self.new.server) self.old.unsent self.new.unsent
+        ensures { TakesAnswer (serving A.executes Q.eq A.passes)
+            (service_state W.line self.old) (service_state W.line self.new)
             (sender_of self.new.server ≡ sender_of self.old.server)
             (λ p r. HasSent N (⟦<(u64, R) as Readable>⟧.form.writes p)
             (⟦<(u64, R) as Readable>⟧.form.valid p)
@@ -77,28 +77,26 @@ impl<
     W: Outlet,
     const N: usize,
 > Hearer<(u64, Q)> for Service<A, W, Q, R, N> {
-    ghost hears = { λ old answers new. ServiceHears A.executes Q.eq A.passes W.line
-        ⟦<(u64, R) as Readable>⟧.form.writes ⟦<(u64, R) as Readable>⟧.form.valid old answers new };
+    ghost hears = { λ old answers new. ServiceHears (serving A.executes Q.eq A.passes) W.line
+        ⟦<(u64, R) as Readable>⟧.form old answers new };
 
-    ghost laws = { service_laws A.executes Q.eq A.passes W.line
-        ⟦<(u64, R) as Readable>⟧.form.writes ⟦<(u64, R) as Readable>⟧.form.valid };
+    ghost laws = { service_laws (serving A.executes Q.eq A.passes) W.line
+        ⟦<(u64, R) as Readable>⟧.form };
 
     ghost enough = { λ s. false };
 
     ghost settled = { λ s. ⊤ };
 
     fn hear(&mut self, answer: Answer<(u64, Q)>)
-        ensures { ServiceHears A.executes Q.eq A.passes W.line
-            ⟦<(u64, R) as Readable>⟧.form.writes ⟦<(u64, R) as Readable>⟧.form.valid self.old
-            (answer ∷ []) self.new }
+        ensures { ServiceHears (serving A.executes Q.eq A.passes) W.line
+            ⟦<(u64, R) as Readable>⟧.form self.old (answer ∷ []) self.new }
     {
         self.take(answer);
     }
 
     fn pause(&mut self)
-        ensures heard { ServiceHears A.executes Q.eq A.passes W.line
-            ⟦<(u64, R) as Readable>⟧.form.writes ⟦<(u64, R) as Readable>⟧.form.valid self.old []
-            self.new }
+        ensures heard { ServiceHears (serving A.executes Q.eq A.passes) W.line
+            ⟦<(u64, R) as Readable>⟧.form self.old [] self.new }
         ensures settles { ⊤ }
     {}
 

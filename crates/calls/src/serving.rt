@@ -2,7 +2,7 @@
 ghost use Rattle.std.specs.Prelude.{◌≡◌, Some, false, ⊤};
 ghost use Rattle.link.specs.Receivers.{SameTerms};
 ghost use Rattle.link.specs.Each.{ListensOut, MayLackMemory, hearing, listener_place};
-ghost use Rattle.calls.specs.Serving.{ServiceHears};
+ghost use Rattle.calls.specs.Serving.{ServiceHears, serving};
 
 use crate::server::Application;
 use crate::service::Service;
@@ -46,9 +46,8 @@ pub fn serve_with<
     service: &mut Service<A, W, Q, R, N>,
 ) -> End
     ensures served { ListensOut D.inside (M.judging messages.now)
-        (hearing (ServiceHears A.executes Q.eq A.passes W.line
-        ⟦<(u64, R) as Readable>⟧.form.writes ⟦<(u64, R) as Readable>⟧.form.valid)
-        (λ _. false) (λ _. ⊤))
+        (hearing (ServiceHears (serving A.executes Q.eq A.passes) W.line
+        ⟦<(u64, R) as Readable>⟧.form) (λ _. false) (λ _. ⊤))
         (listener_place I.line reader.old receiver.old service.old)
         (listener_place I.line reader.new receiver.new service.new) (Some result) }
     ensures memory { MayLackMemory (M.judging messages.now).growing (Some result) }

@@ -5,6 +5,8 @@ use Rattle.std.specs.List.{FoldsTo, zip}
 use Rattle.std.proofs.lemmas.List.{append-nil}
 use Rattle.std.proofs.lemmas.Slice.Zip.{AllZip-long, firsts-zip}
 use Rattle.postcard_tree.specs.Tree.{Tree}
+use Rattle.postcard_tree.specs.ReadingLaws.{WireForm}
+use Rattle.link.specs.Judged.{Judging}
 use Rattle.postcard_tree.specs.Alike.{AlikePairs}
 use Rattle.link.specs.Run.{Send, line}
 use Rattle.link.specs.Fates.{IsSendOf}
@@ -17,10 +19,10 @@ use Rattle.calls_laws.specs.Heard.{HearsSent}
 use Rattle.calls_laws.specs.Headline.{WentOver, WasExecuted, RepliesAreRight}
 use Rattle.calls_laws.specs.Exchange.{ExecutedOnce, ExecutedAtMostOnce, LeftBy, HeardFront, AsksOnly, ServesLine, TakesReply}
 
-module _ {V : Type 0} (takes : Tree → Type 0) (holds : List ℕ → Tree → Type 0) (reads : Tree → V → Type 0) (writes : V → Option Tree) (valid : V → Type 0) (taken : (v : V) (t : Tree) → valid v → writes v ≡ Some t → takes t) (limit s : ℕ) where
+module _ {V : Type 0} (form : WireForm V) (judging : Judging V) (taken : (v : V) (t : Tree) → form.valid v → form.writes v ≡ Some t → form.takes t) (limit s : ℕ) where
   -- what one sender left, and what was heard of a front of it
-  pub went_over : (messages : List V) (bytes : List ℕ) (answers : List (Answer V)) (l : LeftBy limit s writes valid messages bytes) → HeardFront holds reads limit s bytes answers
-      → WentOver takes holds reads writes valid limit s (zip messages l.said.sends ∷ []) answers
+  pub went_over : (messages : List V) (bytes : List ℕ) (answers : List (Answer V)) (l : LeftBy limit s form.writes form.valid messages bytes) → HeardFront judging.holds judging.reads limit s bytes answers
+      → WentOver form judging limit s (zip messages l.said.sends ∷ []) answers
   went_over messages bytes answers l h =
       let calls = zip messages l.said.sends in
       let left = takes_run taken (then_session l.sentinel l.fresh (all_sent l.said) no_session) in
@@ -28,9 +30,9 @@ module _ {V : Type 0} (takes : Tree → Type 0) (holds : List ℕ → Tree → T
       let whole : bytes ≡ there = all_written l.start.line l.stop.line bytes there l.empty l.told left.wrote in
       record { is = left.is; of = left.of; front = h.front; rest = h.rest; parts = sym whole ∙ h.parts; heard = h.heard }
 
-  pub sent_are : (messages : List V) (bytes : List ℕ) (l : LeftBy limit s writes valid messages bytes) → values_sent (zip messages l.said.sends ∷ []) ≡ messages
+  pub sent_are : (messages : List V) (bytes : List ℕ) (l : LeftBy limit s form.writes form.valid messages bytes) → values_sent (zip messages l.said.sends ∷ []) ≡ messages
   sent_are messages bytes l =
-      append-nil (map (λ (c : V × Send). c.0) (zip messages l.said.sends)) ∙ firsts-zip messages l.said.sends (AllZip-long (λ v x. IsSendOf limit (writes v) (valid v) x) messages l.said.sends l.said.of)
+      append-nil (map (λ (c : V × Send). c.0) (zip messages l.said.sends)) ∙ firsts-zip messages l.said.sends (AllZip-long (λ v x. IsSendOf limit (form.writes v) (form.valid v) x) messages l.said.sends l.said.of)
 
 module _ {Q R : Type 0} where
   -- what was executed was heard
@@ -51,19 +53,18 @@ module _ {Q R : Type 0} where
   at_most_one n m (e ∷ f ∷ log) h all = absurd (let l = h.1.0 in let a = all e (inl refl) in let b = all f (inr (inl refl)) in omega (arith, l, a, b))
 
 module _ {A Q R : Type 0} (executes : A → Q → R → A → Type 0) (equal : Q → Q → Bool) (passes : ℕ → ℕ → Option R) (alike_asked : Q → Q → Type 0) (alike_said : R → R → Type 0)
-    {takes : Tree → Type 0} {holds : List ℕ → Tree → Type 0} {reads : Tree → ℕ × Q → Type 0} {writes : ℕ × Q → Option Tree} {valid : ℕ × Q → Type 0}
-    {takes' : Tree → Type 0} {holds' : List ℕ → Tree → Type 0} {reads' : Tree → ℕ × R → Type 0} {writes' : ℕ × R → Option Tree} {valid' : ℕ × R → Type 0}
-    (taken : (v : ℕ × Q) (t : Tree) → valid v → writes v ≡ Some t → takes t) (taken' : (v : ℕ × R) (t : Tree) → valid' v → writes' v ≡ Some t → takes' t)
-    (hears : HearsSent takes holds reads (AlikePairs (λ m m'. m ≡ m') alike_asked) writes valid) (once : ExecutesOnce Q R)
-    (right : RepliesAreRight alike_asked alike_said (WentOver takes holds reads writes valid) (WentOver takes' holds' reads' writes' valid'))
+    {form : WireForm (ℕ × Q)} {judging : Judging (ℕ × Q)} {form' : WireForm (ℕ × R)} {judging' : Judging (ℕ × R)}
+    (taken : (v : ℕ × Q) (t : Tree) → form.valid v → form.writes v ≡ Some t → form.takes t) (taken' : (v : ℕ × R) (t : Tree) → form'.valid v → form'.writes v ≡ Some t → form'.takes t)
+    (hears : HearsSent form.takes judging.holds judging.reads (AlikePairs (λ m m'. m ≡ m') alike_asked) form.writes form.valid) (once : ExecutesOnce Q R)
+    (right : RepliesAreRight alike_asked alike_said (WentOver form judging) (WentOver form' judging'))
     {limit s limit' s' : ℕ} {old new : A} {x : ℕ × Q} {pending : Option (ℕ × Q)} {requests replies : List ℕ}
-    (asks : AsksOnly limit s writes valid x pending requests) (serves : ServesLine executes equal passes holds reads writes' valid' limit s limit' s' old new requests replies) where
+    (asks : AsksOnly limit s form.writes form.valid x pending requests) (serves : ServesLine executes equal passes judging.holds judging.reads form'.writes form'.valid limit s limit' s' old new requests replies) where
   -- each request that was executed has the number, and is alike the one that was asked
   alike_executed : (e : Execution Q R) → In e serves.log → (x.0 ≡ e.number) × alike_asked x.1 e.asks
   alike_executed e i =
-      let over = went_over takes holds reads writes valid taken limit s asks.messages requests serves.heard asks.left serves.over in
+      let over = went_over form judging taken limit s asks.messages requests serves.heard asks.left serves.over in
       let v = hears limit s (zip asks.messages asks.left.said.sends ∷ []) serves.heard over.front over.rest over.is over.of over.parts over.heard (e.number, e.asks) (was_heard serves.served e i) in
-      let same : v.0 ≡ x = asks.only v.0 (subst (In v.0) (sent_are takes holds reads writes valid taken limit s asks.messages requests asks.left) v.1) in
+      let same : v.0 ≡ x = asks.only v.0 (subst (In v.0) (sent_are form judging taken limit s asks.messages requests asks.left) v.1) in
       (sym (ap (λ p. p.0) same) ∙ v.2.0, subst (λ p. alike_asked p.1 e.asks) same v.2.1)
 
   one_at_most : (serves.log ≡ []) ⊎ ((e : Execution Q R) × (serves.log ≡ e ∷ []))
@@ -88,17 +89,17 @@ module _ {A Q R : Type 0} (executes : A → Q → R → A → Type 0) (equal : Q
   ]
 
   -- the reply that was taken, by the law of whole lines
-  taken_was_said : (r : R) → TakesReply holds' reads' limit' s' pending replies r → WasExecuted alike_asked alike_said 0 serves.log x.0 x.1 r
+  taken_was_said : (r : R) → TakesReply judging'.holds judging'.reads limit' s' pending replies r → WasExecuted alike_asked alike_said 0 serves.log x.0 x.1 r
   taken_was_said r t =
       let sends = asks.left.said.sends in
       let is : (t.number, t.asked) ≡ x = (asks.sent (t.number, t.asked) t.is_pending).0 in
-      let sent = sent_are takes holds reads writes valid taken limit s asks.messages requests asks.left in
+      let sent = sent_are form judging taken limit s asks.messages requests asks.left in
       elim (right limit s limit' s' (zip asks.messages sends ∷ []) (zip serves.out serves.left.said.sends ∷ []) serves.heard t.heard equal passes None serves.later serves.log serves.out x.0 x.1 r
       (subst (λ (z : ℕ × Q). z.0 < no_call) is (asks.numbered (t.number, t.asked) t.is_pending))
-      (went_over takes holds reads writes valid taken limit s asks.messages requests serves.heard asks.left serves.over)
+      (went_over form judging taken limit s asks.messages requests serves.heard asks.left serves.over)
       serves.served
-      (went_over takes' holds' reads' writes' valid' taken' limit' s' serves.out replies t.heard serves.left t.over)
-      (sent_are takes' holds' reads' writes' valid' taken' limit' s' serves.out replies serves.left)
+      (went_over form' judging' taken' limit' s' serves.out replies t.heard serves.left t.over)
+      (sent_are form' judging' taken' limit' s' serves.out replies serves.left)
       (subst OnePerNumber (sym sent) (λ a b i j e. asks.only a i ∙ sym (asks.only b j)))
       (subst (In x) (sym sent) (asks.sent (t.number, t.asked) t.is_pending).1)
       (subst (λ p. In (p.0, r) (requests_of t.heard)) is t.said)) [
@@ -106,7 +107,7 @@ module _ {A Q R : Type 0} (executes : A → Q → R → A → Type 0) (equal : Q
         | inr w ↦ absurd w.is_kept
       ]
 
-  pub reply_is_right : (r : R) → TakesReply holds' reads' limit' s' pending replies r → ExecutedOnce executes alike_asked old new x.1 (λ says. alike_said says r)
+  pub reply_is_right : (r : R) → TakesReply judging'.holds judging'.reads limit' s' pending replies r → ExecutedOnce executes alike_asked old new x.1 (λ says. alike_said says r)
   reply_is_right r t =
       let w = taken_was_said r t in
       elim one_at_most [
@@ -124,7 +125,7 @@ module _ {A Q R : Type 0} (executes : A → Q → R → A → Type 0) (equal : Q
       ]
 
   -- what came of a call: the reply, where one was taken, and what the application did
-  pub outcome : (said : Option R) → IfSome said (TakesReply holds' reads' limit' s' pending replies)
+  pub outcome : (said : Option R) → IfSome said (TakesReply judging'.holds judging'.reads limit' s' pending replies)
       → IfSome said (λ r. ExecutedOnce executes alike_asked old new x.1 (λ says. alike_said says r))
       × ExecutedAtMostOnce {R = R} executes alike_asked old new x.1
   outcome None t = (tt, executed_at_most_once)

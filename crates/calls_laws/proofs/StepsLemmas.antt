@@ -3,6 +3,7 @@ use Rattle.std.proofs.Common.{◌≡◌, ◌<◌, ℕ, Bool, true, false, cond, 
 use Rattle.std.specs.Prelude.{IfSome}
 use Rattle.std.proofs.lemmas.Bool.{eqb-true}
 use Rattle.postcard_tree.specs.Tree.{Tree}
+use Rattle.postcard_tree.specs.ReadingLaws.{WireForm}
 use Rattle.line_io.specs.Device.{LineState}
 use Rattle.link.specs.Filled.{Filled}
 use Rattle.link.specs.Listening.{IsReceived, HasGiven}
@@ -17,7 +18,7 @@ use Rattle.line_io.specs.declared.transfers.End.TheVariants.{Ended, ReadFault, N
 use Rattle.calls.specs.Calls.{Execution, no_call, In, ServesAll}
 use Rattle.link.specs.Senders.{SenderPlace, HasSent}
 use Rattle.calls.specs.Asking.{Asker, stepped, calls, ends, IsCalled, IsRepeated}
-use Rattle.calls.specs.Serving.{requests_of, Executes}
+use Rattle.calls.specs.Serving.{requests_of, Serving, ServiceState, Executes}
 use Rattle.calls.specs.ServedLaws.{in_first, in_joined, alone, which as inside, says_none, says_one, says_then}
 use Rattle.calls.specs.Waits.{Waiter, is_over, anew, after_reply, after_answers}
 use Rattle.calls.specs.declared.client.CallError.{CallError}
@@ -166,20 +167,20 @@ asks_only limit s writes valid n m q p p' start stop bytes r e f empty fresh sen
     })
 
 -- what a new server did over an empty line, with the requests of a reader that tells what comes
-pub serves_line : {A Q R : Type 0} (executes : A → Q → R → A → Type 0) (equal : Q → Q → Bool) (passes : ℕ → ℕ → Option R) (holds : List ℕ → Tree → Type 0) (reads : Tree → ℕ × Q → Type 0) (writes : ℕ × R → Option Tree) (valid : ℕ × R → Type 0)
-    (limit s limit' s' : ℕ) (old new : A) (kept later : Option (Execution Q R)) (u v : Bool) (start stop : SenderPlace) (requests replies bytes rest : List ℕ) (end : End) (heard : List (Answer (ℕ × Q)))
-    → Executes executes equal passes limit' writes valid old new kept later u v start stop (requests_of heard) → IsReceived holds reads limit s end heard bytes → requests ≡ bytes ++ rest
-    → kept ≡ None → start.line.told ≡ Some [] → start.clean ≡ false → start.sentinel ≡ s' → stop.line.told ≡ Some replies
-    → ServesLine executes equal passes holds reads writes valid limit s limit' s' old new requests replies
-serves_line executes equal passes holds reads writes valid limit s limit' s' old new kept later u v start stop requests replies bytes rest end heard e received parts none empty fresh sentinel told = record {
+pub serves_line : {A Q R : Type 0} (rules : Serving A Q R) (form : WireForm (ℕ × R)) (holds : List ℕ → Tree → Type 0) (reads : Tree → ℕ × Q → Type 0)
+    (limit s limit' s' : ℕ) (old new : ServiceState A Q R) (requests replies bytes rest : List ℕ) (end : End) (heard : List (Answer (ℕ × Q)))
+    → Executes rules form limit' old new (requests_of heard) → IsReceived holds reads limit s end heard bytes → requests ≡ bytes ++ rest
+    → old.kept ≡ None → old.sender.line.told ≡ Some [] → old.sender.clean ≡ false → old.sender.sentinel ≡ s' → new.sender.line.told ≡ Some replies
+    → ServesLine rules.executes rules.equal rules.passes holds reads form.writes form.valid limit s limit' s' old.application new.application requests replies
+serves_line rules form holds reads limit s limit' s' old new requests replies bytes rest end heard e received parts none empty fresh sentinel told = record {
   heard = heard;
   over = record { front = bytes; rest = rest; parts = parts; heard = inl (end, received) };
   log = e.log;
   out = e.out;
-  later = later;
-  served = subst (λ k. ServesAll equal passes k (requests_of heard) e.log e.out later) none e.served;
+  later = new.kept;
+  served = subst (λ k. ServesAll rules.equal rules.passes k (requests_of heard) e.log e.out new.kept) none e.served;
   ran = e.ran;
-  left = record { start = start; stop = stop; fates = e.fates; said = e.replied; empty = empty; fresh = fresh; sentinel = sentinel; told = told };
+  left = record { start = old.sender; stop = new.sender; fates = e.fates; said = e.replied; empty = empty; fresh = fresh; sentinel = sentinel; told = told };
 }
 
 -- a client that has taken none has none to let go

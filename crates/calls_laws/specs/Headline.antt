@@ -1,6 +1,7 @@
 -- What a reply says that came over two lines.
 use Rattle.std.specs.Prelude.{◌≡◌, ◌⊎◌, ◌<◌, ℕ, Bool, List, ◌++◌, Option}
-use Rattle.postcard_tree.specs.Tree.{Tree}
+use Rattle.postcard_tree.specs.ReadingLaws.{WireForm}
+use Rattle.link.specs.Judged.{Judging}
 use Rattle.link.specs.Run.{Send, IsRun, line}
 use Rattle.link_laws.specs.Values.{runs_of, AreSends, values_sent}
 use Rattle.calls.specs.Calls.{Execution, next_of, no_call, ServesAll, KeptFor, Rises, In, OnePerNumber}
@@ -11,11 +12,12 @@ use Rattle.calls_laws.specs.Heard.{WasHeard}
 -- Values of a type went over a line: senders left the line of this run of them, each send perhaps interrupted at any byte, and these
 -- are the results of a receiver that was given a prefix of that line, perhaps all of it, and whose reading ended in any way, or went on
 -- after values that couldn't be allocated.
-pub record WentOver {V : Type 0} (takes : Tree → Type 0) (holds : List ℕ → Tree → Type 0) (reads : Tree → V → Type 0) (writes : V → Option Tree) (valid : V → Type 0) (limit s : ℕ) (run : List (List (V × Send))) (answers : List (Answer V)) : Type 0 where
+pub record WentOver {V : Type 0} (form : WireForm V) (judging : Judging V) (limit s : ℕ)
+    (run : List (List (V × Send))) (answers : List (Answer V)) : Type 0 where
   -- the sends are a run of this line
-  pub is : IsRun takes limit s (runs_of run)
+  pub is : IsRun form.takes limit s (runs_of run)
   -- they are sends of these values
-  pub of : AreSends writes valid run
+  pub of : AreSends form.writes form.valid run
   -- what the receiver was given
   pub front : List ℕ
   -- what it wasn't given
@@ -23,7 +25,7 @@ pub record WentOver {V : Type 0} (takes : Tree → Type 0) (holds : List ℕ →
   -- the line of the run is these two
   pub parts : line s (runs_of run) ≡ front ++ rest
   -- these are the results of the first
-  pub heard : WasHeard holds reads limit s answers front
+  pub heard : WasHeard judging.holds judging.reads limit s answers front
 
 -- By this number, one request was executed, once, alike the one that was called, and what was said then is alike the reply.
 pub record WasExecuted {Q R : Type 0} (alike_asked : Q → Q → Type 0) (alike_said : R → R → Type 0) (least : ℕ) (log : List (Execution Q R)) (n : ℕ) (asked : Q) (taken : R) : Type 0 where

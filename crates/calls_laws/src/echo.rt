@@ -27,15 +27,9 @@ pub fn told_apart<Q: Readable, R: Readable, const K: u32, const L: u32>()
 /// that receives what clients asked, by [`Replies`](calls::Replies), gets no reply.
 pub fn silence<T: Lawful, M: SentReader<(u64, Numbered<T, K>)>, const K: u32>(messages: &M)
     ensures server { ServerHearsNothing
-        (WentOver ⟦<(u64, Numbered<T, K>) as Readable>⟧.form.takes
-        (M.judging messages.now).holds (M.judging messages.now).reads
-        ⟦<(u64, Numbered<T, K>) as Readable>⟧.form.writes
-        ⟦<(u64, Numbered<T, K>) as Readable>⟧.form.valid) }
+        (WentOver ⟦<(u64, Numbered<T, K>) as Readable>⟧.form (M.judging messages.now)) }
     ensures client { ClientHearsNothing
-        (WentOver ⟦<(u64, Numbered<T, K>) as Readable>⟧.form.takes
-        (M.judging messages.now).holds (M.judging messages.now).reads
-        ⟦<(u64, Numbered<T, K>) as Readable>⟧.form.writes
-        ⟦<(u64, Numbered<T, K>) as Readable>⟧.form.valid) }
+        (WentOver ⟦<(u64, Numbered<T, K>) as Readable>⟧.form (M.judging messages.now)) }
 {
     messages.show_sent();
 }

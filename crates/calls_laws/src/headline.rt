@@ -20,12 +20,8 @@ pub fn calls<Q: Lawful, R: Lawful, M: SentReader<(u64, Q)>, K: SentReader<(u64, 
     replies_by: &K,
 )
     ensures { RepliesAreRight Q.form.alike R.form.alike
-        (WentOver ⟦<(u64, Q) as Readable>⟧.form.takes (M.judging requests_by.now).holds
-        (M.judging requests_by.now).reads ⟦<(u64, Q) as Readable>⟧.form.writes
-        ⟦<(u64, Q) as Readable>⟧.form.valid)
-        (WentOver ⟦<(u64, R) as Readable>⟧.form.takes (K.judging replies_by.now).holds
-        (K.judging replies_by.now).reads ⟦<(u64, R) as Readable>⟧.form.writes
-        ⟦<(u64, R) as Readable>⟧.form.valid) }
+        (WentOver ⟦<(u64, Q) as Readable>⟧.form (M.judging requests_by.now))
+        (WentOver ⟦<(u64, R) as Readable>⟧.form (K.judging replies_by.now)) }
 {
     requests_by.show_sent();
     replies_by.show_sent();

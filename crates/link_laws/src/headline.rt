@@ -10,7 +10,7 @@
 //! How the bytes get from one to the other is the caller's own; `example_exchange` does it over memory. Each call also states all that
 //! its calls of `link` promise, whatever comes and however it ends.
 ghost use Rattle.std.specs.Prelude.{◌≡◌, ◌<◌, List, length, Some};
-ghost use Rattle.link.specs.Fates.{SenderFitsInMemory};
+ghost use Rattle.link.specs.Fates.{SenderFitsInMemory, new_sender};
 ghost use Rattle.link_laws.specs.Together.{LeavesTwo, LeavesSessions, HearsValues};
 ghost use Rattle.std.specs.List.{AllZip};
 ghost use Rattle.link.specs.Pushes.{Matches};
@@ -112,9 +112,8 @@ pub fn receive_values<T: Lawful + DeserializeOwned, R: Inlet, const N: usize>(
     reader: R,
 ) -> Received<T, R>
     requires { ReceiverFitsInMemory N.row }
-    ensures values { HearsValues N 0 T.form.takes T.form.reads T.form.alike T.form.writes
-        T.form.valid
-        (R.line reader).told result.end result.answers.items }
+    ensures values { HearsValues T.form N 0 (R.line reader).told result.end
+        result.answers.items }
     ensures received { IsReceivedBy (ordinary T.form) N 0 R.line reader result }
 {
     receive_values_with_sentinel::<T, R, N>(alloc, reader, 0)
@@ -133,9 +132,8 @@ pub fn receive_values_with_sentinel<T: Lawful + DeserializeOwned, R: Inlet, cons
     sentinel: u8,
 ) -> Received<T, R>
     requires { ReceiverFitsInMemory N.row }
-    ensures values { HearsValues N sentinel T.form.takes T.form.reads T.form.alike T.form.writes
-        T.form.valid
-        (R.line reader).told result.end result.answers.items }
+    ensures values { HearsValues T.form N sentinel (R.line reader).told result.end
+        result.answers.items }
     ensures received { IsReceivedBy (ordinary T.form) N sentinel R.line reader result }
 {
     crate::carries::<T>();
@@ -182,8 +180,8 @@ pub fn send_in_turn<T: Lawful, W: Outlet, const N: usize>(
 ) -> InTurn<W>
     requires some { 0 < N }
     requires sender { SenderFitsInMemory W.row N.row }
-    ensures { LeavesTwo T.form.takes T.form.writes T.form.valid N 0 (W.line writer)
-        (W.line result.writer) first.now second.now result.first result.second }
+    ensures { LeavesTwo T.form N (new_sender 0 (W.line writer)) (W.line result.writer)
+        (first.now, result.first) (second.now, result.second) }
 {
     send_in_turn_with_sentinel::<T, W, N>(writer, first, second, 0)
 }
@@ -200,9 +198,8 @@ pub fn send_in_turn_with_sentinel<T: Lawful, W: Outlet, const N: usize>(
 ) -> InTurn<W>
     requires some { 0 < N }
     requires sender { SenderFitsInMemory W.row N.row }
-    ensures { LeavesTwo T.form.takes T.form.writes T.form.valid N sentinel
-        (W.line writer) (W.line result.writer)
-        first.now second.now result.first result.second }
+    ensures { LeavesTwo T.form N (new_sender sentinel (W.line writer)) (W.line result.writer)
+        (first.now, result.first) (second.now, result.second) }
 {
     crate::carries::<T>();
     let mut one = Sender::<W, N>::new_with_sentinel(writer, sentinel);
@@ -234,9 +231,8 @@ pub fn send_each_in_turn<T: Lawful, W: Outlet, const N: usize>(
     requires second_places { length seconds.now ≡ length second_fates.old }
     requires some { 0 < N }
     requires sender { SenderFitsInMemory W.row N.row }
-    ensures { LeavesSessions T.form.takes T.form.writes T.form.valid N 0
-        (W.line writer) (W.line result)
-        firsts.now seconds.now first_fates.new second_fates.new }
+    ensures { LeavesSessions T.form N (new_sender 0 (W.line writer)) (W.line result)
+        (firsts.now, first_fates.new) (seconds.now, second_fates.new) }
 {
     send_each_in_turn_with_sentinel::<T, W, N>(
         writer,
@@ -264,9 +260,8 @@ pub fn send_each_in_turn_with_sentinel<T: Lawful, W: Outlet, const N: usize>(
     requires second_places { length seconds.now ≡ length second_fates.old }
     requires some { 0 < N }
     requires sender { SenderFitsInMemory W.row N.row }
-    ensures { LeavesSessions T.form.takes T.form.writes T.form.valid N sentinel
-        (W.line writer) (W.line result)
-        firsts.now seconds.now first_fates.new second_fates.new }
+    ensures { LeavesSessions T.form N (new_sender sentinel (W.line writer)) (W.line result)
+        (firsts.now, first_fates.new) (seconds.now, second_fates.new) }
 {
     crate::carries::<T>();
     let after_first = send_each_with_sentinel::<T, W, N>(writer, firsts, first_fates, sentinel);
