@@ -83,13 +83,13 @@ HearsValues {V} form limit s to_come end answers =
     → HeardOfRun form.reads form.alike s run answers
 
 -- The two parts joined: where the line was empty, what senders left there is what comes, and the reader has told its end, that is heard.
-pub heard_in_turn : {V : Type 0} {form : WireForm V} {n s : ℕ} {old new : LineState}
+pub heard_in_turn : {V : Type 0} (form : WireForm V) {n s : ℕ} {old new : LineState}
     {to_come : Option (List ℕ)} {end : End} {run : List (List (V × Send))} {answers : List (Answer V)}
     (limit : ℕ) (stream : List ℕ) → LeavesRun form.takes form.writes form.valid n s old new run
     → HearsValues form limit s to_come end answers → n ≤ limit
     → old.told ≡ Some [] → new.told ≡ Some stream → to_come ≡ Some stream → end ≡ Ended
     → HeardOfRun form.reads form.alike s run answers
-heard_in_turn {n = n} {s = s} {old = old} {new = new} {run = run} limit stream left hears l empty wrote comes ends =
+heard_in_turn form {n = n} {s = s} {old = old} {new = new} {run = run} limit stream left hears l empty wrote comes ends =
     let bytes = line s (runs_of run) in
     let whole = all_written old new stream bytes empty wrote left.wrote in
     hears n run l left.is left.of (comes ∙ ap Some whole) ends
