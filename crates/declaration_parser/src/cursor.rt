@@ -6,6 +6,7 @@ use std::alloc::Global;
 /// Takes tokens from the start. What is wrong is noted and hides the tokens after it, so nobody has to ask after each step.
 #[derive(Drop)]
 pub struct Cursor<'a> {
+    alloc: Global,
     pub tokens: &'a Tokens,
     /// The tokens that aren't read yet.
     pub rest: Words,
@@ -28,6 +29,7 @@ impl<'a> Cursor<'a> {
     /// At the start of words of a file.
     pub fn new(alloc: Global, tokens: &'a Tokens, file: usize, rest: Words) -> Cursor<'a> {
         Cursor {
+            alloc,
             tokens,
             rest,
             file,
@@ -69,8 +71,10 @@ impl<'a> Cursor<'a> {
     pub fn want(&mut self, is_wanted: bool, wanted: &str) {
         let next = self.step();
         if !is_wanted {
-            let name = self.tokens.text(next.name);
-            self.wrong(&[wanted, " in place of `", name, "`"]);
+            match self.tokens.text(next.name) {
+                "" => self.wrong(&[wanted, ", but nothing follows"]),
+                name => self.wrong(&[wanted, " in place of `", name, "`"]),
+            }
         }
     }
 
@@ -80,12 +84,14 @@ impl<'a> Cursor<'a> {
         self.want(is_wanted, wanted);
     }
 
-    /// Notes what is wrong at the last token, unless it follows something that is wrong.
+    /// Notes what is wrong at the last token, unless it follows something that is wrong, or is said already.
     pub fn wrong(&mut self, pieces: &[&str]) {
         if !self.is_wrong {
-            self.note_field();
-            self.faults.put_all(pieces);
-            self.faults.put("\n");
+            let mut line = Faults::new(self.alloc);
+            self.put_field(&mut line);
+            line.put_all(pieces);
+            line.put("\n");
+            self.faults.put_new(line);
             self.is_wrong = true;
             self.rest.from = self.rest.to;
         }
@@ -96,26 +102,25 @@ impl<'a> Cursor<'a> {
         self.wrong(&["`", self.tokens.text(name), why]);
     }
 
-    /// Notes the line, and which type is read, which variant and which field of it, as far as one is.
-    fn note_field(&mut self) {
+    /// Appends the line, and which type is read, which variant and which field of it, as far as one is.
+    fn put_field(&self, to: &mut Faults) {
         if self.is_without_line {
             return;
         }
-        self.faults
-            .put_line(self.tokens.name_of_file(self.file), self.line);
+        to.put_line(self.tokens.name_of_file(self.file), self.line);
         if self.name == NO_NAME {
             return;
         }
         let (name, variant) = (self.tokens.text(self.name), self.tokens.text(self.variant));
         let colons = if variant.is_empty() { "" } else { "::" };
-        self.faults.put_all(&["`", name, colons, variant]);
+        to.put_all(&["`", name, colons, variant]);
         if let Some((place, name)) = self.field {
-            self.faults.put_all(&[".", self.tokens.text(name)]);
+            to.put_all(&[".", self.tokens.text(name)]);
             if name == NO_NAME {
-                self.faults.put_number(place);
+                to.put_number(place);
             }
         }
-        self.faults.put("`: ");
+        to.put("`: ");
     }
 
     /// Takes what precedes the first of these words that no type encloses.
