@@ -137,7 +137,8 @@ fn behind_quoted(text: &str) -> &str {
     } else if second.starts_with('\'') {
         behind_one(second)
     } else {
-        inside.trim_start_matches(is_of_word)
+        let name = inside.strip_prefix("r#").unwrap_or(inside);
+        name.trim_start_matches(is_of_word)
     }
 }
 
