@@ -49,8 +49,8 @@ impl%plain% Shaped for %name%%names%%where% {
     type Shape = %name%Shape%names%;
     ghost shape = { λ v. %seen% };
     fn from_shape(it: %name%Shape%names%) -> %name%%names% {
-        let %rows% = it;
-%apart%        %value%
+        let %taken% = it;
+        %value%
     }
 }
 ";

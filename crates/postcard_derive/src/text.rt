@@ -10,8 +10,8 @@ use std::collections::BTreeSet;
 /// How many parts a tuple has at most; more are in rows.
 const ROW: usize = 6;
 
-/// The places where fields are a tuple, and where the rows of one are taken apart.
-const PLACES: &str = "types seen held sent lent taken rows apart";
+/// The places where fields are a tuple.
+const PLACES: &str = "types seen held sent lent taken";
 
 /// How a field is written in a place, how one that is sent as its bytes, and what stands for none. A word between two `%` stands
 /// for what it has: its `type`, its `member`, the name that it is `bound` to, its `place`, and the `way` that sends it; `&` is there
@@ -26,7 +26,7 @@ fn spelling_of(place: &str) -> [&'static str; 3] {
         "sent" => ["%&%self.%member%", "%way%(self.%member%)", "()"],
         "lent" => ["%bound%", "%way%(*%bound%)", ""],
         // a pattern for a shape; a value, or a pattern for one
-        "taken" | "rows" => ["%bound%", "%way%(%bound%)", "()"],
+        "taken" => ["%bound%", "%way%(%bound%)", "()"],
         _ => ["%bound%", "%bound%", ""],
     }
 }
@@ -183,7 +183,7 @@ impl<'a> Text<'a> {
         self.put(close);
     }
 
-    /// Appends a tuple; one field stands for itself, and more than six are in rows, which `rows` names and which are taken `apart`.
+    /// Appends a tuple; one field stands for itself, and more than six are in rows.
     fn put_tuple(&mut self, it: &Declaration, fields: &[Field], place: &str) {
         match fields {
             [] => return self.put(spelling_of(place)[2]),
@@ -191,23 +191,15 @@ impl<'a> Text<'a> {
             _ if fields.len() <= ROW => return self.put_list(it, fields, place, ["(", ")"]),
             _ => {}
         }
-        let is_apart = place == "apart";
-        self.put(if is_apart { "" } else { "(" });
+        self.put("(");
         for (count, row) in fields.chunks(ROW).enumerate() {
-            self.put(if count > 0 && !is_apart { ", " } else { "" });
+            self.put(if count > 0 { ", " } else { "" });
             match row {
-                [_] if is_apart => {}
                 [field] => self.put_field(it, field, place, false),
-                _ if is_apart => {
-                    self.put_list(it, row, "taken", ["        let (", ") = row_"]);
-                    self.put_numbered("", count);
-                    self.put(";\n");
-                }
-                _ if place == "rows" => self.put_numbered("row_", count),
                 _ => self.put_list(it, row, place, ["(", ")"]),
             }
         }
-        self.put(if is_apart { "" } else { ")" });
+        self.put(")");
     }
 
     /// Appends what a word stands for in a struct or a variant: its `value` has the names to which its fields are bound.
@@ -226,7 +218,6 @@ impl<'a> Text<'a> {
             Form::Named => [" { ", " }"],
         };
         match word {
-            "apart" if items.len() <= ROW => {}
             _ if is_listed(word, PLACES) => self.put_tuple(it, items, word),
             "value" => {
                 self.put(own);

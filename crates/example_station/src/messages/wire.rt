@@ -361,9 +361,7 @@ impl Shaped for Report {
     ghost shape = { λ v. ((v.a, v.b, v.c, v.d, v.e, v.f), (v.g, v.h, v.i, v.j, v.k, v.l)) };
 
     fn from_shape(it: ReportShape) -> Report {
-        let (row_0, row_1) = it;
-        let (a, b, c, d, e, f) = row_0;
-        let (g, h, i, j, k, l) = row_1;
+        let ((a, b, c, d, e, f), (g, h, i, j, k, l)) = it;
         Report {
             a,
             b,
