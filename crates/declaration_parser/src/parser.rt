@@ -9,7 +9,8 @@ use crate::items::{BODY, behind_public};
 use crate::texts::is_listed;
 use crate::tokens::{NO_NAME, Name, Tokens, Word, Words};
 use crate::words::{
-    MOST_FIELDS, NO_MARK, OF_IMPLEMENTATIONS, ONLY_FIELD, OPEN, OTHER_DERIVE, RAW, TWICE, USED,
+    MOST_FIELDS, MOST_OF_VARIANT, NO_MARK, OF_IMPLEMENTATIONS, ONLY_FIELD, OPEN, OTHER_DERIVE, RAW,
+    TWICE, USED,
 };
 use by_hand::Implemented;
 use std::alloc::Global;
@@ -124,9 +125,15 @@ impl<'a, 'b> Parser<'a, 'b> {
 
     /// Takes a field; nothing if it isn't sent.
     fn item(&mut self, place: usize, named: bool) -> Option<Field> {
+        let is_written = self.at.variant != NO_NAME && self.marking.marks.written;
+        let most = if is_written {
+            MOST_OF_VARIANT
+        } else {
+            MOST_FIELDS
+        };
         self.refuse_in_code(
-            place == MOST_FIELDS,
-            &["more than 36 fields: make some of them a struct"],
+            place == most,
+            &["more than 36 fields, or than 5 in a variant: make some of them a struct"],
         );
         let tokens = self.at.tokens;
         let attributes = self.attributes();

@@ -1,7 +1,9 @@
 //! The words that the parser knows, and what is said of them.
 
-/// How many fields a struct or a variant can have.
+/// How many fields a struct can have that is implemented, and a variant that is written, which is proved with no more.
 pub const MOST_FIELDS: usize = 36;
+
+pub const MOST_OF_VARIANT: usize = 5;
 
 // What is said after a word of a mark, of an attribute or of a derive, each in the case of its name.
 pub const NO_MARK: &str =
@@ -84,13 +86,14 @@ pub const TOOLS: &str = "clippy diagnostic pyo3 rustfmt typeshare wasm_bindgen";
 
 /// Attributes of declarations that change no byte: those of the language, and helpers of derives that are often met.
 pub const OF_ITEMS: &str = "
-    allow arbitrary archive archive_attr arg automatically_derived backtrace bincode bits borsh
-    br brw builder bw cbor cfg clap codec command component defmt deku deny deprecated deref
-    derivative derive diesel display doc educe enumset error expect facet forbid from garde get
-    getset graphql group into into_params max_size must_use n nom non_exhaustive num_enum oai
-    packed_struct postcard proptest prost pyclass rasn reflect repr require rkyv rtype schema
-    schemars set snafu source specta sqlx strum strum_discriminants structopt tabled try_into ts
-    tsify validate valuable value warn zeroize
+    allow arbitrary archive archive_attr arg as_mut as_ref at_enum automatically_derived
+    backtrace bincode bits borsh br brw builder bw cbor cfg clap codec command component debug
+    defmt deku deny deprecated deref deref_mut derivative derive derive_where diesel display doc
+    educe enumset error expect facet forbid from from_str garde get getset graphql group into
+    into_params max_size must_use n nom non_exhaustive num_enum oai packed_struct postcard
+    proptest prost pyclass rasn reflect repr require rkyv rtype schema schemars set snafu source
+    specta sqlx structopt strum strum_discriminants tabled try_into ts tsify validate valuable
+    value warn zeroize
 ";
 
 /// Names that the implementations use: those of postcard, of its parameters, and of what writes.
