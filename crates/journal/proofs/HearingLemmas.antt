@@ -24,7 +24,7 @@ use Rattle.journal.specs.Records.{past, past_all}
 use Rattle.journal.specs.Places.{Located, answers_in, IsLocatedIn, AreLocatedIn, Numbering, numbered_from, furthest, believed, numbered_behind, all_believed, numbered_after}
 use Rattle.journal.specs.declared.numbers.Count.{Count}
 use Rattle.journal.specs.Visits.{VisitorLaws}
-use Rattle.journal.specs.Reading.{IsRead, IsReadTo, HearsLog, HearsMore, HandsOnBelieved, HearsPart, IsHandedTo, ReadByCalls, StopsBefore, StoppedAt, ReadCause, HandedUntil, numbering_of}
+use Rattle.journal.specs.Reading.{LogReading, log_reading, Visited, visited, IsRead, IsReadTo, HearsLog, HearsMore, HandsOnBelieved, HearsPart, IsHandedTo, ReadByCalls, StopsBefore, StoppedAt, ReadCause, HandedUntil, numbering_of}
 use Rattle.journal.specs.declared.reading.ReadError.{ReadError}
 use Rattle.journal.specs.declared.reading.ReadError.TheVariants.{Fault, NoMemory as NoMemoryFound, Halted}
 
@@ -116,37 +116,38 @@ module _ {V : Type 0} (holds : List ℕ → Tree → Type 0) (reads : Tree → �
     located_more bytes (given ++ q.answer ∷ []) located p h.1 (subst (λ g. IsLocatedIn holds reads limit bytes g p) (sym (append_assoc given (q.answer ∷ []) (answers_in located))) k),
   )
 
+module _ {V : Type 0} (log : LogReading V) where
   -- what is said of all bytes
-  pub read_whole : (first : ℕ) (answers : List (Answer (ℕ × V))) (c : Numbering) (bytes : List ℕ) → IsReadTo holds reads limit first answers c bytes → IsRead holds reads limit first answers c.next bytes
-  read_whole first answers c bytes h = record {
+  pub read_whole : (answers : List (Answer (ℕ × V))) (c : Numbering) (bytes : List ℕ) → IsReadTo log answers c bytes → IsRead log answers c.next bytes
+  read_whole answers c bytes h = record {
     located = h.located;
     given = h.given;
     places = h.places;
     handed_on = h.handed_on;
-    next_is = ap (λ n. n.next) h.numbers ∙ sym (next_past (numbered_from first) h.located) ∙ ap (past_all first) (sym h.handed_on);
+    next_is = ap (λ n. n.next) h.numbers ∙ sym (next_past (numbered_from log.first) h.located) ∙ ap (past_all log.first) (sym h.handed_on);
     within = omega (arith, h.within, h.so_far);
   }
 
   -- what is said of some bytes is said of equal ones
-  pub read_as : (first : ℕ) (answers : List (Answer (ℕ × V))) (c : Numbering) (x y : List ℕ) → x ≡ y → IsReadTo holds reads limit first answers c x → IsReadTo holds reads limit first answers c y
-  read_as first answers c x y e g = record {
+  pub read_as : (answers : List (Answer (ℕ × V))) (c : Numbering) (x y : List ℕ) → x ≡ y → IsReadTo log answers c x → IsReadTo log answers c y
+  read_as answers c x y e g = record {
     located = g.located;
-    given = subst (λ z. HasGiven holds reads limit 0 (answers_in g.located) z) e g.given;
-    places = subst (λ z. AreLocatedIn holds reads limit z [] g.located) e g.places;
+    given = subst (λ z. HasGiven log.judging.holds log.judging.reads log.limit 0 (answers_in g.located) z) e g.given;
+    places = subst (λ z. AreLocatedIn log.judging.holds log.judging.reads log.limit z [] g.located) e g.places;
     handed_on = g.handed_on;
     numbers = g.numbers;
     within = g.within;
     so_far = subst (λ z. c.through ≤ length z) e g.so_far;
   }
 
-module _ {V : Type 0} (holds : List ℕ → Tree → Type 0) (reads : Tree → ℕ × V → Type 0) (limit first : ℕ) (front rest : List ℕ) (used : ℕ) where
+module _ {V : Type 0} (log : LogReading V) (front rest : List ℕ) (used : ℕ) where
   -- a push that answered nothing
-  pub read_quiet : (answers : List (Answer (ℕ × V))) (c : Numbering) → IsReadTo holds reads limit first answers c front
-      → Answered holds reads limit 0 front rest used (Ok None) → IsReadTo holds reads limit first answers c (front ++ take used rest)
+  pub read_quiet : (answers : List (Answer (ℕ × V))) (c : Numbering) → IsReadTo log answers c front
+      → Answered log.judging.holds log.judging.reads log.limit 0 front rest used (Ok None) → IsReadTo log answers c (front ++ take used rest)
   read_quiet answers c g h = record {
     located = g.located;
-    given = kept_given holds reads limit 0 front rest (answers_in g.located) (answers_in g.located) used (Ok None) g.given h refl;
-    places = located_longer holds reads limit front (take used rest) [] g.located g.places;
+    given = kept_given log.judging.holds log.judging.reads log.limit 0 front rest (answers_in g.located) (answers_in g.located) used (Ok None) g.given h refl;
+    places = located_longer log.judging.holds log.judging.reads log.limit front (take used rest) [] g.located g.places;
     handed_on = g.handed_on;
     numbers = g.numbers;
     within = g.within;
@@ -154,12 +155,12 @@ module _ {V : Type 0} (holds : List ℕ → Tree → Type 0) (reads : Tree → �
   }
 
   -- fewer bytes than a push takes bring about nothing
-  pub read_before : (answers : List (Answer (ℕ × V))) (c : Numbering) (u : ℕ) → IsReadTo holds reads limit first answers c front
-      → IsLeast holds limit 0 front rest used → u < used → IsReadTo holds reads limit first answers c (front ++ take u rest)
+  pub read_before : (answers : List (Answer (ℕ × V))) (c : Numbering) (u : ℕ) → IsReadTo log answers c front
+      → IsLeast log.judging.holds log.limit 0 front rest used → u < used → IsReadTo log answers c (front ++ take u rest)
   read_before answers c u g h l = record {
     located = g.located;
     given = record { verdicts = g.given.verdicts; given = h.same g.given.verdicts g.given.given u l; matching = g.given.matching };
-    places = located_longer holds reads limit front (take u rest) [] g.located g.places;
+    places = located_longer log.judging.holds log.judging.reads log.limit front (take u rest) [] g.located g.places;
     handed_on = g.handed_on;
     numbers = g.numbers;
     within = g.within;
@@ -167,14 +168,14 @@ module _ {V : Type 0} (holds : List ℕ → Tree → Type 0) (reads : Tree → �
   }
 
   -- so it is said of a push, whatever it answered
-  pub least_of : (r : Result (Option (Answer (ℕ × V))) NoMemory) → Answered holds reads limit 0 front rest used r → IsLeast holds limit 0 front rest used
+  pub least_of : (r : Result (Option (Answer (ℕ × V))) NoMemory) → Answered log.judging.holds log.judging.reads log.limit 0 front rest used r → IsLeast log.judging.holds log.limit 0 front rest used
   least_of (Ok o) (a, says, push) = push.least
   least_of (Err x) l = l.least
 
   -- where one that answered stands
-  located_at : (answers : List (Answer (ℕ × V))) (x : Answer (ℕ × V)) (stretch heard : ℕ) → HasGiven holds reads limit 0 answers front
-      → Answered holds reads limit 0 front rest used (Ok (Some x)) → IsStretchOf 0 front rest used (Ok (Some x)) stretch → 0 < used → used ≤ length rest → heard ≡ length front + used
-      → IsLocatedIn holds reads limit (front ++ take used rest) answers (record { before = (heard - 1) - stretch; through = heard; answer = x })
+  located_at : (answers : List (Answer (ℕ × V))) (x : Answer (ℕ × V)) (stretch heard : ℕ) → HasGiven log.judging.holds log.judging.reads log.limit 0 answers front
+      → Answered log.judging.holds log.judging.reads log.limit 0 front rest used (Ok (Some x)) → IsStretchOf 0 front rest used (Ok (Some x)) stretch → 0 < used → used ≤ length rest → heard ≡ length front + used
+      → IsLocatedIn log.judging.holds log.judging.reads log.limit (front ++ take used rest) answers (record { before = (heard - 1) - stretch; through = heard; answer = x })
   located_at answers x stretch heard g (a, says, push) st some fits e =
       let all = front ++ take (used - 1) rest in
       let byte = get_or rest (used - 1) 0 in
@@ -188,82 +189,83 @@ module _ {V : Type 0} (holds : List ℕ → Tree → Type 0) (reads : Tree → �
         rest = [];
         bytes_are = bytes ∙ sym (append-nil (all ++ byte ∷ []));
         not_yet = record { verdicts = g.verdicts; given = push.least.same g.verdicts g.given (used - 1) (omega (arith, some)); matching = g.matching };
-        now = subst (λ z. HasGiven holds reads limit 0 (answers ++ x ∷ []) z) bytes (kept_given holds reads limit 0 front rest answers (answers ++ x ∷ []) used (Ok (Some x)) g (a, says, push) refl);
+        now = subst (λ z. HasGiven log.judging.holds log.judging.reads log.limit 0 (answers ++ x ∷ []) z) bytes (kept_given log.judging.holds log.judging.reads log.limit 0 front rest answers (answers ++ x ∷ []) used (Ok (Some x)) g (a, says, push) refl);
         before_is = omega (arith, st, long, e, some);
         through_is = omega (arith, long, e, some);
       }
 
-  pub read_answer : (answers : List (Answer (ℕ × V))) (c : Numbering) (x : Answer (ℕ × V)) (stretch heard : ℕ) → IsReadTo holds reads limit first answers c front
-      → Answered holds reads limit 0 front rest used (Ok (Some x)) → IsStretchOf 0 front rest used (Ok (Some x)) stretch → 0 < used → used ≤ length rest → heard ≡ length front + used
-      → IsReadTo holds reads limit first (answers ++ believed c ((heard - 1) - stretch) x ∷ []) (numbered_behind c heard (believed c ((heard - 1) - stretch) x)) (front ++ take used rest)
+  pub read_answer : (answers : List (Answer (ℕ × V))) (c : Numbering) (x : Answer (ℕ × V)) (stretch heard : ℕ) → IsReadTo log answers c front
+      → Answered log.judging.holds log.judging.reads log.limit 0 front rest used (Ok (Some x)) → IsStretchOf 0 front rest used (Ok (Some x)) stretch → 0 < used → used ≤ length rest → heard ≡ length front + used
+      → IsReadTo log (answers ++ believed c ((heard - 1) - stretch) x ∷ []) (numbered_behind c heard (believed c ((heard - 1) - stretch) x)) (front ++ take used rest)
   read_answer answers c x stretch heard g h st some fits e =
       let before = (heard - 1) - stretch in
       let p : Located V = record { before = before; through = heard; answer = x } in
-      let start = numbered_from first in
+      let start = numbered_from log.first in
       let long : length (front ++ take used rest) ≡ heard = length-append front (take used rest) ∙ ap (λ n. length front + n) (length-take used rest ∙ omega (arith, fits)) ∙ sym e in
       let to : (numbered_behind c heard (believed c before x)).through ≤ heard = moves_to c heard (believed c before x) (omega (arith, g.so_far, e)) in
       record {
         located = g.located ++ p ∷ [];
-        given = subst (λ z. HasGiven holds reads limit 0 z (front ++ take used rest)) (sym (answers_more g.located p)) (kept_given holds reads limit 0 front rest (answers_in g.located) (answers_in g.located ++ x ∷ []) used (Ok (Some x)) g.given h refl);
+        given = subst (λ z. HasGiven log.judging.holds log.judging.reads log.limit 0 z (front ++ take used rest)) (sym (answers_more g.located p)) (kept_given log.judging.holds log.judging.reads log.limit 0 front rest (answers_in g.located) (answers_in g.located ++ x ∷ []) used (Ok (Some x)) g.given h refl);
         places =
-            located_more holds reads limit (front ++ take used rest) [] g.located p (located_longer holds reads limit front (take used rest) [] g.located g.places)
+            located_more log.judging.holds log.judging.reads log.limit (front ++ take used rest) [] g.located p (located_longer log.judging.holds log.judging.reads log.limit front (take used rest) [] g.located g.places)
             (located_at (answers_in g.located) x stretch heard g.given h st some fits e);
         handed_on = ap (λ z. z ++ believed c before x ∷ []) g.handed_on ∙ ap (λ n. all_believed start g.located ++ believed n before x ∷ []) g.numbers ∙ sym (believed_more start g.located p);
         numbers = ap (λ n. numbered_behind n heard (believed n before x)) g.numbers ∙ sym (numbered_more start g.located p);
-        within = moves_within c first before heard x g.within (omega (arith, g.so_far, e, some)) (omega (arith, e, some));
+        within = moves_within c log.first before heard x g.within (omega (arith, g.so_far, e, some)) (omega (arith, e, some));
         so_far = omega (arith, to, long);
       }
 
   -- either, and its answer was handed on
-  pub read_on : {S : Type 0} {took : S → List (Answer (ℕ × V)) → S → Type 0} → VisitorLaws took → (answers more : List (Answer (ℕ × V))) (c later : Numbering) (stretch heard : ℕ) (r : Result (Option (Answer (ℕ × V))) NoMemory) (old mid new : S)
-      → took old more mid → IsReadTo holds reads limit first (answers ++ more) c front
-      → Answered holds reads limit 0 front rest used r → IsStretchOf 0 front rest used r stretch → 0 < used → used ≤ length rest → heard ≡ length front + used
-      → HandsOnBelieved took r ((heard - 1) - stretch) heard mid new c later
-      → (also : List (Answer (ℕ × V))) × took old also new × IsReadTo holds reads limit first (answers ++ also) later (front ++ take used rest)
-  read_on {took} laws answers more c later stretch heard (Ok None) old mid new before g h st some fits e k = (
+  pub read_on : {S : Type 0} {took : S → List (Answer (ℕ × V)) → S → Type 0} (halts : S → Type 0) → VisitorLaws took → (answers more : List (Answer (ℕ × V))) (c later : Numbering) (stretch heard : ℕ) (r : Result (Option (Answer (ℕ × V))) NoMemory) (old mid new : S)
+      → took old more mid → IsReadTo log (answers ++ more) c front
+      → Answered log.judging.holds log.judging.reads log.limit 0 front rest used r → IsStretchOf 0 front rest used r stretch → 0 < used → used ≤ length rest → heard ≡ length front + used
+      → HandsOnBelieved (visited took halts mid new) r ((heard - 1) - stretch) heard c later
+      → (also : List (Answer (ℕ × V))) × took old also new × IsReadTo log (answers ++ also) later (front ++ take used rest)
+  read_on {took} halts laws answers more c later stretch heard (Ok None) old mid new before g h st some fits e k = (
     more ++ [],
     laws.more old mid new more [] before k.0,
-    subst (λ z. IsReadTo holds reads limit first (answers ++ z) later (front ++ take used rest)) (sym (append-nil more))
-        (subst (λ n. IsReadTo holds reads limit first (answers ++ more) n (front ++ take used rest)) (sym k.1) (read_quiet (answers ++ more) c g h)),
+    subst (λ z. IsReadTo log (answers ++ z) later (front ++ take used rest)) (sym (append-nil more))
+        (subst (λ n. IsReadTo log (answers ++ more) n (front ++ take used rest)) (sym k.1) (read_quiet (answers ++ more) c g h)),
   )
-  read_on {took} laws answers more c later stretch heard (Ok (Some x)) old mid new before g h st some fits e k = (
+  read_on {took} halts laws answers more c later stretch heard (Ok (Some x)) old mid new before g h st some fits e k = (
     more ++ believed c ((heard - 1) - stretch) x ∷ [],
     laws.more old mid new more (believed c ((heard - 1) - stretch) x ∷ []) before k.0,
-    subst (λ z. IsReadTo holds reads limit first z later (front ++ take used rest)) (append_assoc answers more (believed c ((heard - 1) - stretch) x ∷ []))
-        (subst (λ n. IsReadTo holds reads limit first ((answers ++ more) ++ believed c ((heard - 1) - stretch) x ∷ []) n (front ++ take used rest)) (sym k.1) (read_answer (answers ++ more) c x stretch heard g h st some fits e)),
+    subst (λ z. IsReadTo log z later (front ++ take used rest)) (append_assoc answers more (believed c ((heard - 1) - stretch) x ∷ []))
+        (subst (λ n. IsReadTo log ((answers ++ more) ++ believed c ((heard - 1) - stretch) x ∷ []) n (front ++ take used rest)) (sym k.1) (read_answer (answers ++ more) c x stretch heard g h st some fits e)),
   )
-  read_on laws answers more c later stretch heard (Err x) old mid new before g h st some fits e k = absurd k
+  read_on halts laws answers more c later stretch heard (Err x) old mid new before g h st some fits e k = absurd k
 
--- nothing was heard yet
-pub heard_none : {S V : Type 0} {N : ℕ} {took : S → List (Answer (ℕ × V)) → S → Type 0} {holds : List ℕ → Tree → Type 0} {reads : Tree → ℕ × V → Type 0} → VisitorLaws took → (first : ℕ) (visitor : S) (receiver : Reception (ArrayBuffer N)) (answers : List (Answer (ℕ × V))) (count : Count) (stream : List ℕ)
-    → HearsLog holds reads first receiver answers count stream → HearsMore took holds reads first visitor visitor receiver answers count (stream ++ [])
-heard_none {holds} {reads} laws first visitor receiver answers count stream h = record {
-  more = [];
-  handed = laws.nothing visitor;
-  hears = subst (λ z. HearsLog holds reads first receiver z count (stream ++ [])) (sym (append-nil answers)) (subst (λ z. HearsLog holds reads first receiver answers count z) (sym (append-nil stream)) h);
-}
+module _ {S V : Type 0} {N : ℕ} {took : S → List (Answer (ℕ × V)) → S → Type 0} (halts : S → Type 0) (laws : VisitorLaws took) (log : LogReading V) where
+  -- nothing was heard yet
+  pub heard_none : (visitor : S) (receiver : Reception (ArrayBuffer N)) (answers : List (Answer (ℕ × V))) (count : Count) (stream : List ℕ)
+      → HearsLog log receiver answers count stream → HearsMore log (visited took halts visitor visitor) receiver answers count (stream ++ [])
+  heard_none visitor receiver answers count stream h = record {
+    more = [];
+    handed = laws.nothing visitor;
+    hears = subst (λ z. HearsLog log receiver z count (stream ++ [])) (sym (append-nil answers)) (subst (λ z. HearsLog log receiver answers count z) (sym (append-nil stream)) h);
+  }
 
--- at the start of a log
-pub heard_first : {S V : Type 0} {N : ℕ} {took : S → List (Answer (ℕ × V)) → S → Type 0} (holds : List ℕ → Tree → Type 0) (reads : Tree → ℕ × V → Type 0) → VisitorLaws took → (first : ℕ) (visitor : S) (receiver : Reception (ArrayBuffer N))
-    → IsBehind in_array N 0 receiver [] → HearsMore took holds reads first visitor visitor receiver [] (record { next = first; through = 0; heard = 0 }) []
-heard_first holds reads laws first visitor receiver h = record {
-  more = [];
-  handed = laws.nothing visitor;
-  hears = record {
-    after = h;
-    read = record { located = []; given = record { verdicts = []; given = search rules; matching = tt }; places = tt; handed_on = refl; numbers = refl; within = omega arith; so_far = omega arith };
-    heard = refl;
-  };
-}
+  -- at the start of a log
+  pub heard_first : (visitor : S) (receiver : Reception (ArrayBuffer N))
+      → IsBehind in_array N 0 receiver [] → HearsMore log (visited took halts visitor visitor) receiver [] (record { next = log.first; through = 0; heard = 0 }) []
+  heard_first visitor receiver h = record {
+    more = [];
+    handed = laws.nothing visitor;
+    hears = record {
+      after = h;
+      read = record { located = []; given = record { verdicts = []; given = search rules; matching = tt }; places = tt; handed_on = refl; numbers = refl; within = omega arith; so_far = omega arith };
+      heard = refl;
+    };
+  }
 
--- more was heard behind what was
-pub then_more : {S V : Type 0} {N : ℕ} {took : S → List (Answer (ℕ × V)) → S → Type 0} {holds : List ℕ → Tree → Type 0} {reads : Tree → ℕ × V → Type 0} → VisitorLaws took → (first : ℕ) (old mid new : S) (receiver : Reception (ArrayBuffer N)) (answers before : List (Answer (ℕ × V))) (count : Count) (stream : List ℕ)
-    → took old before mid → HearsMore took holds reads first mid new receiver (answers ++ before) count stream → HearsMore took holds reads first old new receiver answers count stream
-then_more {holds} {reads} laws first old mid new receiver answers before count stream b h = record {
-  more = before ++ h.more;
-  handed = laws.more old mid new before h.more b h.handed;
-  hears = subst (λ z. HearsLog holds reads first receiver z count stream) (append_assoc answers before h.more) h.hears;
-}
+  -- more was heard behind what was
+  pub then_more : (old mid new : S) (receiver : Reception (ArrayBuffer N)) (answers before : List (Answer (ℕ × V))) (count : Count) (stream : List ℕ)
+      → took old before mid → HearsMore log (visited took halts mid new) receiver (answers ++ before) count stream → HearsMore log (visited took halts old new) receiver answers count stream
+  then_more old mid new receiver answers before count stream b h = record {
+    more = before ++ h.more;
+    handed = laws.more old mid new before h.more b h.handed;
+    hears = subst (λ z. HearsLog log receiver z count stream) (append_assoc answers before h.more) h.hears;
+  }
 
 -- n bytes more were read
 more_read : (bytes room : List ℕ) (at n : ℕ) → n ≤ length room → drop at bytes ≡ take n room ++ drop (at + n) bytes → take (at + n) bytes ≡ take at bytes ++ take n room
@@ -298,10 +300,10 @@ pub calls_partly : (old mid new : LineState) (at n : ℕ) → old.calls_left ≤
 calls_partly old mid new at n few down most one some fits count from to = record { fewest = omega (arith, few, one, from); most = omega (arith, most, down, one, some, fits, to) }
 
 -- what is said at a fault, of the bytes so far
-pub handed_to : {S V : Type 0} {N : ℕ} (took : S → List (Answer (ℕ × V)) → S → Type 0) (halts : S → Type 0) (judging : Judging (ℕ × V)) (first : ℕ) (old new : S) (receiver : Reception (ArrayBuffer N)) (count : Count) (calls : ℕ → Type 0) (held : Option (List ℕ))
-    → calls count.heard → IfSome held (λ bytes. HearsMore took judging.holds judging.reads first old new receiver [] count (take count.heard bytes)) → IfSome held (λ bytes. IsHandedTo took halts judging N first old new Fault calls bytes)
-handed_to took halts judging first old new receiver count calls None by h = tt
-handed_to took halts judging first old new receiver count calls (Some bytes) by h = record {
+pub handed_to : {S V : Type 0} {N : ℕ} (log : LogReading V) (visit : Visited S V) (receiver : Reception (ArrayBuffer N)) (count : Count) (calls : ℕ → Type 0) (held : Option (List ℕ))
+    → calls count.heard → IfSome held (λ bytes. HearsMore log visit receiver [] count (take count.heard bytes)) → IfSome held (λ bytes. IsHandedTo log visit calls Fault bytes)
+handed_to log visit receiver count calls None by h = tt
+handed_to log visit receiver count calls (Some bytes) by h = record {
   count = count.heard;
   within = (let long = h.hears.heard in let part = length-take count.heard bytes in omega (arith, long, part));
   by = by;
@@ -313,10 +315,10 @@ handed_to took halts judging first old new receiver count calls (Some bytes) by 
 }
 
 -- how many calls were used, by the bytes that were heard
-pub few_calls : {S V : Type 0} {N : ℕ} (took : S → List (Answer (ℕ × V)) → S → Type 0) (judging : Judging (ℕ × V)) (first : ℕ) (old new : S) (receiver : Reception (ArrayBuffer N)) (count : Count) (held : Option (List ℕ)) (all left : ℕ)
-    → IfSome held (λ bytes. HearsMore took judging.holds judging.reads first old new receiver [] count (take count.heard bytes)) → all ≤ left + (count.heard + 1) → IfSome held (λ bytes. all ≤ left + (length bytes + 1))
-few_calls took judging first old new receiver count None all left h l = tt
-few_calls took judging first old new receiver count (Some bytes) all left h l = (let long = h.hears.heard in let part = length-take count.heard bytes in omega (arith, long, part, l))
+pub few_calls : {S V : Type 0} {N : ℕ} (log : LogReading V) (visit : Visited S V) (receiver : Reception (ArrayBuffer N)) (count : Count) (held : Option (List ℕ)) (all left : ℕ)
+    → IfSome held (λ bytes. HearsMore log visit receiver [] count (take count.heard bytes)) → all ≤ left + (count.heard + 1) → IfSome held (λ bytes. all ≤ left + (length bytes + 1))
+few_calls log visit receiver count None all left h l = tt
+few_calls log visit receiver count (Some bytes) all left h l = (let long = h.hears.heard in let part = length-take count.heard bytes in omega (arith, long, part, l))
 
 -- a fact of an error that is passed on
 pub if_passed : {T E : Type 0} (r : Result T E) (e : E) (P : E → Type 0) → IsErrAnd r (λ y. y ≡ e) → P e → IfErr r P
@@ -329,11 +331,11 @@ cause_on NoMemoryFound failed growing halts later f h = h
 cause_on Halted failed growing halts later f h = f h
 
 -- the answers that a push handed on, behind others
-pub handed_more : {S V : Type 0} {took : S → List (Answer (ℕ × V)) → S → Type 0} → VisitorLaws took → (r : Result (Option (Answer (ℕ × V))) NoMemory) (before through : ℕ) (old mid new : S) (c later : Numbering) (more : List (Answer (ℕ × V)))
-    → took old more mid → HandsOnBelieved took r before through mid new c later → (answers : List (Answer (ℕ × V))) × took old answers new
-handed_more laws (Ok None) before through old mid new c later more t h = (more ++ [], laws.more old mid new more [] t h.0)
-handed_more laws (Ok (Some a)) before through old mid new c later more t h = (more ++ believed c before a ∷ [], laws.more old mid new more (believed c before a ∷ []) t h.0)
-handed_more laws (Err e) before through old mid new c later more t h = absurd h
+pub handed_more : {S V : Type 0} {took : S → List (Answer (ℕ × V)) → S → Type 0} (halts : S → Type 0) → VisitorLaws took → (r : Result (Option (Answer (ℕ × V))) NoMemory) (before through : ℕ) (old mid new : S) (c later : Numbering) (more : List (Answer (ℕ × V)))
+    → took old more mid → HandsOnBelieved (visited took halts mid new) r before through c later → (answers : List (Answer (ℕ × V))) × took old answers new
+handed_more halts laws (Ok None) before through old mid new c later more t h = (more ++ [], laws.more old mid new more [] t h.0)
+handed_more halts laws (Ok (Some a)) before through old mid new c later more t h = (more ++ believed c before a ∷ [], laws.more old mid new more (believed c before a ∷ []) t h.0)
+handed_more halts laws (Err e) before through old mid new c later more t h = absurd h
 
 module _ {S : Type 0} (P Q halts : S → Type 0) where
   -- what is known of the visitor before is known of it when reading stopped
@@ -380,7 +382,7 @@ stops_before judging limit front rest used answers stretch (Err x) NoMemoryFound
 stops_before {V} judging limit front rest used answers stretch (Ok (Some a)) Halted behind bytes g h st some fits s all =
     let heard = length front + used in
     let p : Located V = record { before = (heard - 1) - stretch; through = heard; answer = a } in
-    let here = located_at judging.holds judging.reads limit 0 front rest used answers a stretch heard g h st some fits refl in
+    let here = located_at (log_reading judging limit 0) front rest used answers a stretch heard g h st some fits refl in
     record {
       next = p;
       located = subst (λ z. IsLocatedIn judging.holds judging.reads limit z answers p) (sym all) (one_longer judging.holds judging.reads limit (front ++ take used rest) behind answers p here);
@@ -391,11 +393,11 @@ stops_before judging limit front rest used answers stretch (Ok o) NoMemoryFound 
 stops_before judging limit front rest used answers stretch (Ok None) Halted behind bytes g h st some fits s all = absurd s
 stops_before judging limit front rest used answers stretch (Err x) Halted behind bytes g h st some fits s all = absurd s
 
-module _ {S V : Type 0} {N : ℕ} {took : S → List (Answer (ℕ × V)) → S → Type 0} (laws : VisitorLaws took) (halts : S → Type 0) (judging : Judging (ℕ × V)) (first : ℕ) (old mid new : S) (e : ReadError) (calls : ℕ → Type 0) where
+module _ {S V : Type 0} {took : S → List (Answer (ℕ × V)) → S → Type 0} (laws : VisitorLaws took) (halts : S → Type 0) (log : LogReading V) (old mid new : S) (e : ReadError) (calls : ℕ → Type 0) where
   -- what was handed on of a chunk, behind what was before it
   handed_part : (bytes room : List ℕ) (at n : ℕ) (before : List (Answer (ℕ × V))) → drop at bytes ≡ take n room ++ drop (at + n) bytes → at ≡ length (take at bytes) → took old before mid
       → ((count : ℕ) → at ≤ count → count < at + n → calls count)
-      → HearsPart N took halts judging first mid new before (take at bytes) (take n room) e → IsHandedTo took halts judging N first old new e calls bytes
+      → HearsPart log (visited took halts mid new) before (take at bytes) (take n room) e → IsHandedTo log (visited took halts old new) calls e bytes
   unfolding read_as read_before
   handed_part bytes room at n before cut long b by p =
       let front = take at bytes ++ p.done in
@@ -405,8 +407,8 @@ module _ {S V : Type 0} {N : ℕ} {took : S → List (Answer (ℕ × V)) → S �
       let parts : (used : ℕ) → bytes ≡ (front ++ take used p.rest) ++ (drop used p.rest ++ more) = λ used. parts_of bytes (take at bytes) (drop at bytes) (take n room) p.done p.rest more used (take-append-drop at bytes) cut p.piece_is in
       let size : length (front ++ take u p.rest) ≡ count = length-append front (take u p.rest) ∙ ap (λ m. length front + m) (length-take u p.rest ∙ (let fits = p.within in omega (arith, fits))) in
       let here : front ++ take u p.rest ≡ take count bytes = sym (ap (λ m. take m bytes) (sym size) ∙ first_part bytes (front ++ take u p.rest) (drop u p.rest ++ more) (parts u)) in
-      let least = least_of judging.holds judging.reads N first front p.rest p.used p.result p.answered in
-      let read = read_before judging.holds judging.reads N first front p.rest p.used (before ++ p.more) (numbering_of p.count) u p.hears.read least (let some = p.some in omega (arith, some)) in
+      let least = least_of log front p.rest p.used p.result p.answered in
+      let read = read_before log front p.rest p.used (before ++ p.more) (numbering_of p.count) u p.hears.read least (let some = p.some in omega (arith, some)) in
       let long_front : length front ≡ at + length p.done = length-append (take at bytes) p.done ∙ ap (λ m. m + length p.done) (sym long) in
       let long_piece : length p.done + length p.rest ≤ n = (let both = ap length p.piece_is ∙ length-append p.done p.rest in let part = length-take n room in omega (arith, both, part)) in
       record {
@@ -416,24 +418,24 @@ module _ {S V : Type 0} {N : ℕ} {took : S → List (Answer (ℕ × V)) → S �
         answers = before ++ p.more;
         handed = so_far_map (took mid p.more) (took old (before ++ p.more)) halts new e (λ v h. laws.more old mid v before p.more b h) p.handed;
         numbers = numbering_of p.count;
-        read = read_as judging.holds judging.reads N first (before ++ p.more) (numbering_of p.count) (front ++ take u p.rest) (take count bytes) here read;
-        stops = stops_before judging N front p.rest p.used (answers_in p.hears.read.located) p.stretch p.result e (drop p.used p.rest ++ more) bytes p.hears.read.given p.answered p.stretch_is p.some p.within p.stopped (parts p.used);
+        read = read_as log (before ++ p.more) (numbering_of p.count) (front ++ take u p.rest) (take count bytes) here read;
+        stops = stops_before log.judging log.limit front p.rest p.used (answers_in p.hears.read.located) p.stretch p.result e (drop p.used p.rest ++ more) bytes p.hears.read.given p.answered p.stretch_is p.some p.within p.stopped (parts p.used);
       }
 
   -- what was handed on when a chunk wasn't read to its end
-  pub so_far_read : (receiver : Reception (ArrayBuffer N)) (count : Count) (held : Option (List ℕ)) (room : List ℕ) (n : ℕ)
-      → GaveAt held count.heard n room → IfSome held (λ bytes. HearsMore took judging.holds judging.reads first old mid receiver [] count (take count.heard bytes))
+  pub so_far_read : (receiver : Reception (ArrayBuffer log.limit)) (count : Count) (held : Option (List ℕ)) (room : List ℕ) (n : ℕ)
+      → GaveAt held count.heard n room → IfSome held (λ bytes. HearsMore log (visited took halts old mid) receiver [] count (take count.heard bytes))
       → ((c : ℕ) → count.heard ≤ c → c < count.heard + n → calls c)
-      → ((stream : List ℕ) (answers : List (Answer (ℕ × V))) → HearsLog judging.holds judging.reads first receiver answers count stream → HearsPart N took halts judging first mid new answers stream (take n room) e)
-      → IfSome held (λ bytes. IsHandedTo took halts judging N first old new e calls bytes)
+      → ((stream : List ℕ) (answers : List (Answer (ℕ × V))) → HearsLog log receiver answers count stream → HearsPart log (visited took halts mid new) answers stream (take n room) e)
+      → IfSome held (λ bytes. IsHandedTo log (visited took halts old new) calls e bytes)
   so_far_read receiver count None room n g h by f = tt
   so_far_read receiver count (Some bytes) room n g h by f = handed_part bytes room count.heard n h.more g h.hears.heard h.handed by (f (take count.heard bytes) h.more h.hears)
 
 -- what was handed on of a store that holds the same, by calls of which more is known
-pub handed_by : {S V : Type 0} (N : ℕ) (took : S → List (Answer (ℕ × V)) → S → Type 0) (halts : S → Type 0) (judging : Judging (ℕ × V)) (first : ℕ) (old new : S) (e : ReadError) (calls more : ℕ → Type 0) (held later : Option (List ℕ))
-    → later ≡ held → ((n : ℕ) → calls n → more n) → IfSome held (λ bytes. IsHandedTo took halts judging N first old new e calls bytes) → IfSome later (λ bytes. IsHandedTo took halts judging N first old new e more bytes)
-handed_by N took halts judging first old new e calls more None later same f h = rw same tt
-handed_by N took halts judging first old new e calls more (Some bytes) later same f h =
+pub handed_by : {S V : Type 0} (log : LogReading V) (visit : Visited S V) (e : ReadError) (calls more : ℕ → Type 0) (held later : Option (List ℕ))
+    → later ≡ held → ((n : ℕ) → calls n → more n) → IfSome held (λ bytes. IsHandedTo log visit calls e bytes) → IfSome later (λ bytes. IsHandedTo log visit more e bytes)
+handed_by log visit e calls more None later same f h = rw same tt
+handed_by log visit e calls more (Some bytes) later same f h =
     rw same (record { count = h.count; within = h.within; by = f h.count h.by; answers = h.answers; handed = h.handed; numbers = h.numbers; read = h.read; stops = h.stops })
 
 -- the calls of reads, and few before them

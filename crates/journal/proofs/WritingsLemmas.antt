@@ -1,16 +1,16 @@
 -- The bytes of a record.
 use Rattle.std.proofs.Common.{◌≡◌, ℕ, ◌+◌, ◌-◌, ◌<◌, ◌≤◌, true, List, [], ◌∷◌, ◌++◌, length, take, Option, Some, None, Ok, Err, refl, sym, ap, ◌∙◌, subst, arith}
-use Rattle.std.specs.Prelude.{bit_xor, Bool}
+use Rattle.std.specs.Prelude.{bit_xor}
 use Rattle.std.proofs.lemmas.List.{length-append, length-map, take_all}
 use Rattle.cobs.specs.Frames.{shortest_frame}
 use Rattle.cobs.specs.Sentinel.{frame_for}
-use Rattle.line_io.specs.Device.{LineState, Wrote}
+use Rattle.line_io.specs.Device.{Wrote}
 use Rattle.postcard_tree.specs.Tree.{Tree, IsTree}
 use Rattle.postcard_tree.specs.Spelling.{short}
 use Rattle.postcard.specs.Written.{WrittenWhole}
 use Rattle.link.specs.Run.{completed, broken, IsFramed, sent}
 use Rattle.journal.specs.Records.{numbered, record_of}
-use Rattle.journal.specs.Appending.{Appended}
+use Rattle.journal.specs.Appending.{Appended, LogPlace}
 use Rattle.journal.specs.declared.log.AppendError.TheVariants.{Line}
 
 -- the record that stands in front of a buffer
@@ -35,21 +35,21 @@ in_buffer number (Some v) n size b l h =
       long = h.1.0 ∙ sym (length-append (frame_for 0 (short (numbered number v))) (0 ∷ []) ∙ ap (λ i. i + 1) (length-map f (bit_xor 0)));
     }
 
-module _ (number size n k : ℕ) (spent : Bool) (writes : Option Tree) (b : List ℕ) (old new : LineState) (h : InBuffer number writes n (size - 1) b) (w : Wrote old new (take k (take n b))) where
+module _ (size n k : ℕ) (writes : Option Tree) (b : List ℕ) (old new : LogPlace) (h : InBuffer old.next writes n (size - 1) b) (w : Wrote old.line new.line (take k (take n b))) where
   -- all of it went out
-  pub went_out : n ≤ k → Appended (size - 1) spent number writes (Ok number) old new
+  pub went_out : n ≤ k → Appended (size - 1) writes (Ok old.next) old new
   went_out l = record {
-    send = completed (numbered number h.value);
+    send = completed (numbered old.next h.value);
     is_send = h.framed;
     is = (refl, (h.value, h.is, refl));
-    wrote = subst (λ x. Wrote old new x) (ap (take k) h.bytes ∙ take_all k (sent 0 true (numbered number h.value)) (omega (arith, l, h.long))) w;
+    wrote = subst (λ x. Wrote old.line new.line x) (ap (take k) h.bytes ∙ take_all k (sent 0 true (numbered old.next h.value)) (omega (arith, l, h.long))) w;
   }
 
   -- a beginning of it did
-  pub broke_off : k < n → Appended (size - 1) spent number writes (Err Line) old new
+  pub broke_off : k < n → Appended (size - 1) writes (Err Line) old new
   broke_off l = record {
-    send = broken (numbered number h.value) k;
+    send = broken (numbered old.next h.value) k;
     is_send = (h.framed, omega (arith, l, h.long));
     is = (h.value, k, h.is, refl);
-    wrote = subst (λ x. Wrote old new x) (ap (take k) h.bytes) w;
+    wrote = subst (λ x. Wrote old.line new.line x) (ap (take k) h.bytes) w;
   }

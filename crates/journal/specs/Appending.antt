@@ -5,12 +5,10 @@ use Rattle.line_io.specs.Device.{LineState, Wrote}
 use Rattle.postcard_tree.specs.Tree.{Tree, IsTree}
 use Rattle.postcard_tree.specs.declared.error.Error.TheVariants.{SerializeBufferFull}
 use Rattle.postcard.specs.Written.{UnlessRefused}
-use Rattle.link.specs.Judged.{Judging}
 use Rattle.link.specs.Run.{Send, completed, refused, broken, written, IsSend}
-use Rattle.link.specs.declared.receiver.Answer.{Answer}
 use Rattle.journal.specs.Store.{Settles}
 use Rattle.journal.specs.Records.{numbered, record_of}
-use Rattle.journal.specs.Reading.{IsHanded}
+use Rattle.journal.specs.Reading.{LogReading, Visited, IsHanded}
 use Rattle.journal.specs.declared.log.AppendError.{AppendError}
 use Rattle.journal.specs.declared.log.AppendError.TheVariants.{Refused, Line, Spent, Full}
 use Rattle.journal.specs.declared.log.OpenError.{OpenError}
@@ -35,17 +33,29 @@ abbrev pub spent_after : Bool → Result ℕ AppendError → Bool
 spent_after spent (Err Line) = true
 spent_after spent r = spent
 
--- an append to a store that held the first and now holds the second
-pub record Appended (limit : ℕ) (spent : Bool) (n : ℕ) (writes : Option Tree) (r : Result ℕ AppendError)
-    (old new : LineState) : Type 0 where
+-- where a log stands: its line, how many of the line's bytes no crash takes, the number of the next
+-- record, and whether an append or a sync failed
+pub record LogPlace : Type 0 where
+  -- the state of its store's line
+  pub line : LineState
+  -- how many of the line's bytes survive any crash
+  pub settled : ℕ
+  -- the number of the next record
+  pub next : ℕ
+  -- whether an append or a sync failed
+  pub spent : Bool
+
+-- An append of this value to a log that stood at the first place and stands at the second.
+pub record Appended (limit : ℕ) (writes : Option Tree) (r : Result ℕ AppendError)
+    (old new : LogPlace) : Type 0 where
   -- the append as a send
   pub send : Send
   -- it is one of a clean sender
   pub is_send : IsSend IsTree limit 0 true send
   -- which one, by the result
-  pub is : IsAppend limit spent n writes r send
+  pub is : IsAppend limit old.spent old.next writes r send
   -- the store has grown by exactly its bytes
-  pub wrote : Wrote old new (written 0 true send)
+  pub wrote : Wrote old.line new.line (written 0 true send)
 
 -- a fact if the store failed to take bytes
 abbrev pub OnStore : Result ℕ AppendError → Type 0 → Type 0
@@ -96,22 +106,9 @@ OnRead NoZero P = Unit {0}
 OnRead Sync P = Unit {0}
 OnRead (Read e) P = P
 
--- where a log stands: its line, how many of the line's bytes no crash takes, the number of the next
--- record, and whether an append or a sync failed
-pub record LogPlace : Type 0 where
-  -- the state of its store's line
-  pub line : LineState
-  -- how many of the line's bytes survive any crash
-  pub settled : ℕ
-  -- the number of the next record
-  pub next : ℕ
-  -- whether an append or a sync failed
-  pub spent : Bool
-
 -- A log was opened: a zero was put after what the store held; all of that survives any crash; and what is read of it was handed on.
-pub record IsOpened {S V : Type 0} (took : S → List (Answer (ℕ × V)) → S → Type 0)
-    (judging : Judging (ℕ × V)) (limit first : ℕ) (old : LineState) (log : LogPlace)
-    (visitor later : S) : Type 0 where
+pub record IsOpened {S V : Type 0} (reading : LogReading V) (visit : Visited S V)
+    (old : LineState) (log : LogPlace) : Type 0 where
   -- the store has grown by exactly a zero
   pub wrote : Wrote old log.line (0 ∷ [])
   -- no call of the store was a fault
@@ -119,8 +116,7 @@ pub record IsOpened {S V : Type 0} (took : S → List (Answer (ℕ × V)) → S 
   -- all that it holds survives any crash
   pub settles : Settles log.line.told log.settled
   -- the visitor was handed what is read of it, and the next number follows from that
-  pub read : IfSome log.line.told
-      (λ bytes. IsHanded took judging limit first visitor later log.next bytes)
+  pub read : IfSome log.line.told (λ bytes. IsHanded reading visit log.next bytes)
   -- the store was called at most once a byte, and three times more
   pub few : IfSome log.line.told
       (λ bytes. old.calls_left ≤ log.line.calls_left + (length bytes + 3))

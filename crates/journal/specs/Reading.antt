@@ -2,7 +2,6 @@
 use Rattle.std.specs.Prelude.{◌≡◌, ℕ, ◌+◌, ◌-◌, ◌*◌, ◌<◌, ◌≤◌, Bool, true, List, [], ◌∷◌, ◌++◌, length, take, Option, Some, None, Result, Ok, Err}
 use Rattle.cobs.specs.Frames.{Frame}
 use Rattle.line_io.specs.Device.{LineState}
-use Rattle.postcard_tree.specs.Tree.{Tree}
 use Rattle.link.specs.Stream.{kept}
 use Rattle.link.specs.Pushes.{IsBegun, Answered, IsStretchOf}
 use Rattle.link.specs.Listening.{HasGiven}
@@ -21,37 +20,65 @@ use Rattle.journal.specs.declared.log.OpenError.TheVariants.{Line, Sync, Read}
 use Rattle.journal.specs.Records.{past_all}
 use Rattle.journal.specs.Places.{Located, answers_in, IsLocatedIn, AreLocatedIn, Numbering, numbered_from, believed, numbered_behind, all_believed, numbered_after}
 
+-- How a log is read: which stretches are records, how long a stretch may be, and which number the first record has.
+pub record LogReading (V : Type 0) : Type 1 where
+  -- which trees a stretch holds, and what a record is read from
+  pub judging : Judging (ℕ × V)
+  -- the most bytes of a stretch
+  pub limit : ℕ
+  -- the number of the first record of an empty log
+  pub first : ℕ
+
+-- a log that is read so
+abbrev pub log_reading : {V : Type 0} → Judging (ℕ × V) → ℕ → ℕ → LogReading V
+log_reading judging limit first = record { judging = judging; limit = limit; first = first }
+
+-- A visitor before and after a reading, what it is that it was handed results, and when it may halt.
+pub record Visited (S V : Type 0) : Type 1 where
+  -- it was handed these results in turn: the visitor before, the results, the visitor after
+  pub took : S → List (Answer (ℕ × V)) → S → Type 0
+  -- it may halt
+  pub halts : S → Type 0
+  -- the visitor before the reading
+  pub old : S
+  -- the visitor after it
+  pub new : S
+
+-- a visitor before and after a reading, by what its type says of it
+abbrev pub visited : {S V : Type 0} → (S → List (Answer (ℕ × V)) → S → Type 0) → (S → Type 0) → S → S → Visited S V
+visited took halts old new = record { took = took; halts = halts; old = old; new = new }
+
 -- These are the results of a log's bytes as they are handed on, by which trees a stretch holds: those that are given of the bytes,
 -- but for records whose numbers are further ahead than the bytes before them can account for, which are damaged. The next number is
 -- the one after the greatest of those that are handed on, and at least the first; and at most as far after it as there are bytes.
-pub record IsRead {V : Type 0} (holds : List ℕ → Tree → Type 0) (reads : Tree → ℕ × V → Type 0) (limit first : ℕ) (answers : List (Answer (ℕ × V))) (next : ℕ) (bytes : List ℕ) : Type 0 where
+pub record IsRead {V : Type 0} (log : LogReading V) (answers : List (Answer (ℕ × V))) (next : ℕ) (bytes : List ℕ) : Type 0 where
   -- the results of the bytes with their positions
   pub located : List (Located V)
   -- they are all results of these bytes
-  pub given : HasGiven holds reads limit 0 (answers_in located) bytes
+  pub given : HasGiven log.judging.holds log.judging.reads log.limit 0 (answers_in located) bytes
   -- their positions are right
-  pub places : AreLocatedIn holds reads limit bytes [] located
+  pub places : AreLocatedIn log.judging.holds log.judging.reads log.limit bytes [] located
   -- the results handed on are these, each as it is believed
-  pub handed_on : answers ≡ all_believed (numbered_from first) located
+  pub handed_on : answers ≡ all_believed (numbered_from log.first) located
   -- the next number follows the greatest of them, and is at least the first
-  pub next_is : next ≡ past_all first answers
+  pub next_is : next ≡ past_all log.first answers
   -- it exceeds the first by at most the number of bytes
-  pub within : next ≤ first + length bytes
+  pub within : next ≤ log.first + length bytes
 
 -- the same, with the numbers after these bytes
-pub record IsReadTo {V : Type 0} (holds : List ℕ → Tree → Type 0) (reads : Tree → ℕ × V → Type 0) (limit first : ℕ) (answers : List (Answer (ℕ × V))) (c : Numbering) (bytes : List ℕ) : Type 0 where
+pub record IsReadTo {V : Type 0} (log : LogReading V) (answers : List (Answer (ℕ × V))) (c : Numbering) (bytes : List ℕ) : Type 0 where
   -- the results of the bytes with their positions
   pub located : List (Located V)
   -- they are all results of these bytes
-  pub given : HasGiven holds reads limit 0 (answers_in located) bytes
+  pub given : HasGiven log.judging.holds log.judging.reads log.limit 0 (answers_in located) bytes
   -- their positions are right
-  pub places : AreLocatedIn holds reads limit bytes [] located
+  pub places : AreLocatedIn log.judging.holds log.judging.reads log.limit bytes [] located
   -- the results handed on are these, each as it is believed
-  pub handed_on : answers ≡ all_believed (numbered_from first) located
+  pub handed_on : answers ≡ all_believed (numbered_from log.first) located
   -- the numbers afterwards
-  pub numbers : c ≡ numbered_after (numbered_from first) located
+  pub numbers : c ≡ numbered_after (numbered_from log.first) located
   -- the next number exceeds the first by at most the bytes that count
-  pub within : c.next ≤ first + c.through
+  pub within : c.next ≤ log.first + c.through
   -- these are bytes of the log
   pub so_far : c.through ≤ length bytes
 
@@ -60,38 +87,37 @@ abbrev pub numbering_of : Count → Numbering
 numbering_of count = record { next = count.next; through = count.through }
 
 -- the same, a receiver stands after these bytes, and so many they are
-pub record HearsLog {V : Type 0} {N : ℕ} (holds : List ℕ → Tree → Type 0) (reads : Tree → ℕ × V → Type 0) (first : ℕ) (receiver : Reception (ArrayBuffer N)) (answers : List (Answer (ℕ × V))) (count : Count) (stream : List ℕ) : Type 0 where
+pub record HearsLog {V : Type 0} {N : ℕ} (log : LogReading V) (receiver : Reception (ArrayBuffer N)) (answers : List (Answer (ℕ × V))) (count : Count) (stream : List ℕ) : Type 0 where
   -- the receiver was given these bytes
   pub after : IsBehind in_array N 0 receiver stream
   -- the results so far are those of these bytes
-  pub read : IsReadTo holds reads N first answers (numbering_of count) stream
+  pub read : IsReadTo log answers (numbering_of count) stream
   -- the count of bytes is right
   pub heard : count.heard ≡ length stream
 
 -- the result of a push, if it has one, was handed on as it is believed, and the numbers after it are told
-abbrev pub HandsOnBelieved : {S V : Type 0} → (S → List (Answer (ℕ × V)) → S → Type 0) → Result (Option (Answer (ℕ × V))) OutOfMemory → ℕ → ℕ → S → S → Numbering → Numbering → Type 0
-HandsOnBelieved took (Ok None) before through old new c later = took old [] new × (later ≡ c)
-HandsOnBelieved took (Ok (Some a)) before through old new c later = took old (believed c before a ∷ []) new × (later ≡ numbered_behind c through (believed c before a))
-HandsOnBelieved took (Err e) before through old new c later = ⊥
+abbrev pub HandsOnBelieved : {S V : Type 0} → Visited S V → Result (Option (Answer (ℕ × V))) OutOfMemory → ℕ → ℕ → Numbering → Numbering → Type 0
+HandsOnBelieved visit (Ok None) before through c later = visit.took visit.old [] visit.new × (later ≡ c)
+HandsOnBelieved visit (Ok (Some a)) before through c later = visit.took visit.old (believed c before a ∷ []) visit.new × (later ≡ numbered_behind c through (believed c before a))
+HandsOnBelieved visit (Err e) before through c later = ⊥
 
 -- more results were handed on, and with those before them they are what a receiver that stands after these bytes has brought about
-pub record HearsMore {S V : Type 0} {N : ℕ} (took : S → List (Answer (ℕ × V)) → S → Type 0) (holds : List ℕ → Tree → Type 0) (reads : Tree → ℕ × V → Type 0) (first : ℕ) (old new : S) (receiver : Reception (ArrayBuffer N)) (answers : List (Answer (ℕ × V))) (count : Count) (stream : List ℕ) : Type 0 where
+pub record HearsMore {S V : Type 0} {N : ℕ} (log : LogReading V) (visit : Visited S V) (receiver : Reception (ArrayBuffer N)) (answers : List (Answer (ℕ × V))) (count : Count) (stream : List ℕ) : Type 0 where
   -- the further results
   pub more : List (Answer (ℕ × V))
   -- they were handed on
-  pub handed : took old more new
+  pub handed : visit.took visit.old more visit.new
   -- with the earlier ones they are those of all bytes so far
-  pub hears : HearsLog holds reads first receiver (answers ++ more) count stream
+  pub hears : HearsLog log receiver (answers ++ more) count stream
 
--- what is read of a log was handed on
-pub record IsHanded {S V : Type 0} (took : S → List (Answer (ℕ × V)) → S → Type 0)
-    (judging : Judging (ℕ × V)) (limit first : ℕ) (old new : S) (next : ℕ) (bytes : List ℕ) : Type 0 where
+-- What is read of these bytes of a log was handed on, and this is the number of the next record.
+pub record IsHanded {S V : Type 0} (log : LogReading V) (visit : Visited S V) (next : ℕ) (bytes : List ℕ) : Type 0 where
   -- the results
   pub answers : List (Answer (ℕ × V))
   -- the visitor was handed them, in order
-  pub handed : took old answers new
+  pub handed : visit.took visit.old answers visit.new
   -- they are what is read of these bytes
-  pub read : IsRead judging.holds judging.reads limit first answers next bytes
+  pub read : IsRead log answers next bytes
 
 -- So many bytes of a log were read on between two states of its store: at least one by each call, but for so many of them, and at most
 -- 1024.
@@ -142,10 +168,9 @@ HandedUntil {S} handed halts new Fault = handed new
 HandedUntil {S} handed halts new NoMemory = handed new
 HandedUntil {S} handed halts new Halted = (mid : S) × handed mid × halts mid
 
--- Reading a log stopped after so many bytes, by this error: what is read of exactly these was handed on.
-pub record IsHandedTo {S V : Type 0} (took : S → List (Answer (ℕ × V)) → S → Type 0) (halts : S → Type 0)
-    (judging : Judging (ℕ × V)) (limit first : ℕ) (old new : S) (e : ReadError)
-    (calls : ℕ → Type 0) (bytes : List ℕ) : Type 0 where
+-- Reading a log stopped by this error, after so many of its bytes that these calls gave: what is read of exactly these was handed on.
+pub record IsHandedTo {S V : Type 0} (log : LogReading V) (visit : Visited S V) (calls : ℕ → Type 0) (e : ReadError)
+    (bytes : List ℕ) : Type 0 where
   -- how many bytes were read on
   pub count : ℕ
   -- they are bytes of the log
@@ -155,13 +180,13 @@ pub record IsHandedTo {S V : Type 0} (took : S → List (Answer (ℕ × V)) → 
   -- the results
   pub answers : List (Answer (ℕ × V))
   -- the visitor, or the one that halted, was handed them in order, and no others
-  pub handed : HandedUntil (took old answers) halts new e
+  pub handed : HandedUntil (visit.took visit.old answers) visit.halts visit.new e
   -- the numbers afterwards
   pub numbers : Numbering
   -- they are what is read of so many bytes
-  pub read : IsReadTo judging.holds judging.reads limit first answers numbers (take count bytes)
+  pub read : IsReadTo log answers numbers (take count bytes)
   -- why no more was
-  pub stops : StopsBefore judging limit (answers_in read.located) count bytes e
+  pub stops : StopsBefore log.judging log.limit (answers_in read.located) count bytes e
 
 -- the visitor when opening failed: as it was, or as reading left it
 abbrev pub OpenedUntil : {S : Type 0} → (ReadError → Type 0) → S → S → OpenError → Type 0
@@ -176,7 +201,7 @@ StoppedAt Halted (Ok (Some a)) = Unit {0}
 StoppedAt e r = ⊥
 
 -- Results of some of a chunk's bytes were handed on, and nothing else, since the next push had such a result.
-pub record HearsPart {S V : Type 0} (N : ℕ) (took : S → List (Answer (ℕ × V)) → S → Type 0) (halts : S → Type 0) (judging : Judging (ℕ × V)) (first : ℕ) (old new : S) (answers : List (Answer (ℕ × V))) (stream piece : List ℕ) (e : ReadError) : Type 0 where
+pub record HearsPart {S V : Type 0} (log : LogReading V) (visit : Visited S V) (answers : List (Answer (ℕ × V))) (stream piece : List ℕ) (e : ReadError) : Type 0 where
   -- these bytes
   pub done : List ℕ
   -- the others
@@ -184,15 +209,15 @@ pub record HearsPart {S V : Type 0} (N : ℕ) (took : S → List (Answer (ℕ ×
   -- together they are the chunk
   pub piece_is : piece ≡ done ++ rest
   -- a receiver that stands after them
-  pub receiver : Reception (ArrayBuffer N)
+  pub receiver : Reception (ArrayBuffer log.limit)
   -- the count then
   pub count : Count
   -- the further results
   pub more : List (Answer (ℕ × V))
   -- they were handed on
-  pub handed : HandedUntil (took old more) halts new e
+  pub handed : HandedUntil (visit.took visit.old more) visit.halts visit.new e
   -- with the earlier ones they are those of all bytes so far
-  pub hears : HearsLog judging.holds judging.reads first receiver (answers ++ more) count (stream ++ done)
+  pub hears : HearsLog log receiver (answers ++ more) count (stream ++ done)
   -- how many bytes the next push took
   pub used : ℕ
   -- at least one
@@ -202,7 +227,7 @@ pub record HearsPart {S V : Type 0} (N : ℕ) (took : S → List (Answer (ℕ ×
   -- its result
   pub result : Result (Option (Answer (ℕ × V))) OutOfMemory
   -- it is right
-  pub answered : Answered judging.holds judging.reads N 0 (stream ++ done) rest used result
+  pub answered : Answered log.judging.holds log.judging.reads log.limit 0 (stream ++ done) rest used result
   -- how many bytes of its stretch come before the last one that it took
   pub stretch : ℕ
   -- that is right

@@ -4,7 +4,7 @@ ghost use Rattle.line_io.specs.Device.{Wrote};
 ghost use Rattle.line_io.specs.Transfers.{Failed};
 ghost use Rattle.link.specs.Listening.{ReceiverFitsInMemory};
 ghost use Rattle.journal.specs.Store.{Settles};
-ghost use Rattle.journal.specs.Reading.{HaltsBehind, IsHandedTo, OpenCause, OpenedUntil, ReadByCalls};
+ghost use Rattle.journal.specs.Reading.{HaltsBehind, IsHandedTo, OpenCause, OpenedUntil, ReadByCalls, log_reading, visited};
 ghost use Rattle.journal.specs.Appending.{Appended, next_after, spent_after, OnNumbered, OnRead, OnStore, OnTried, Unless, UnlessSpent, IsOpened, put_before};
 
 use crate::framing::frame_record;
@@ -123,8 +123,9 @@ impl<S: Store, const N: usize> Journal<S, N> {
     ) -> Result<Journal<S, N>, Unopened<S>>
         requires some { 1 < N }
         requires fits { ReceiverFitsInMemory N.row }
-        ensures opened { IfOk result (λ j. IsOpened V.took (M.judging messages.now) N first
-            (S.line store) (log_place S.line S.settled j) visitor.old visitor.new) }
+        ensures opened { IfOk result (λ j. IsOpened (log_reading (M.judging messages.now) N first)
+            (visited V.took V.halts visitor.old visitor.new)
+            (S.line store) (log_place S.line S.settled j)) }
         ensures cause { IfErr result (λ e. OpenCause (Failed (S.line store) (S.line e.store))
             (M.judging messages.now).growing (HaltsBehind V.took V.halts visitor.old) e.cause) }
         ensures left { IfErr result
@@ -133,9 +134,10 @@ impl<S: Store, const N: usize> Journal<S, N> {
         ensures settled { IfErr result (λ e.
             OnRead e.cause (Settles (S.line e.store).told (S.settled e.store))) }
         ensures so_far { IfErr result (λ e. OpenedUntil (λ c.
-            IfSome (S.line e.store).told (λ bytes. IsHandedTo V.took V.halts
-            (M.judging messages.now) N first visitor.old visitor.new c
-            (ReadByCalls (S.line store) (S.line e.store) 3) bytes))
+            IfSome (S.line e.store).told (λ bytes.
+            IsHandedTo (log_reading (M.judging messages.now) N first)
+            (visited V.took V.halts visitor.old visitor.new)
+            (ReadByCalls (S.line store) (S.line e.store) 3) c bytes))
             visitor.old visitor.new e.cause) }
     {
         let mut store = store;
@@ -248,9 +250,8 @@ impl<S: Store, const N: usize> Journal<S, N> {
     /// }
     /// ```
     pub fn append<T: Serialize>(&mut self, value: &T) -> Result<u64, AppendError>
-        ensures appended { Appended (N - 1) (spent_of self.old) (next_of self.old)
-            (T.form.writes value.now) result (S.line (store_of self.old))
-            (S.line (store_of self.new)) }
+        ensures appended { Appended (N - 1) (T.form.writes value.now) result
+            (log_place S.line S.settled self.old) (log_place S.line S.settled self.new) }
         ensures next { next_of self.new ≡ next_after (next_of self.old) result }
         ensures spent { spent_of self.new ≡ spent_after (spent_of self.old) result }
         ensures ready { UnlessSpent result (spent_of self.old ≡ false) }

@@ -3,7 +3,7 @@ ghost use Rattle.std.specs.Prelude.{◌≡◌, ℕ, ◌+◌, ◌-◌, ◌^◌, �
 ghost use Rattle.line_io.specs.Transfers.{Failed};
 ghost use Rattle.link.specs.Listening.{ReceiverFitsInMemory};
 ghost use Rattle.link.specs.declared.receiver.Answer.{Answer};
-ghost use Rattle.journal.specs.Reading.{HandsOnBelieved, HearsLog, HearsMore, HasHanded, HaltsBehind, ReadCause, IsHanded, IsHandedTo, HearsPart, HandedUntil, ReadByCalls, StoppedAt, numbering_of};
+ghost use Rattle.journal.specs.Reading.{HandsOnBelieved, HearsLog, HearsMore, HasHanded, HaltsBehind, ReadCause, IsHanded, IsHandedTo, HearsPart, HandedUntil, ReadByCalls, StoppedAt, log_reading, numbering_of, visited};
 
 use crate::numbers::{Count, believe, count_on};
 use crate::stores::Store;
@@ -39,8 +39,8 @@ fn hand_on<T: Drop, V: Visitor<T>>(
     answer: Result<Option<Answer<(u64, T)>>, NoMemory>,
 ) -> Result<Count, ReadError>
     ensures on { IfOk result
-        (λ later. HandsOnBelieved V.took answer ((count.heard - 1) - stretch) count.heard
-        visitor.old visitor.new (numbering_of count) (numbering_of later)) }
+        (λ later. HandsOnBelieved (visited V.took V.halts visitor.old visitor.new) answer
+        ((count.heard - 1) - stretch) count.heard (numbering_of count) (numbering_of later)) }
     ensures heard { IfOk result (λ later. later.heard ≡ count.heard) }
     ensures cause { IfErr result (λ e. ReadCause ⊥ true (V.halts visitor.old) e) }
     ensures memory { result ≡ Err ReadError.NoMemory → IsErr answer }
@@ -88,18 +88,17 @@ fn hear<T: Drop, M: MessageReader<(u64, T)>, V: Visitor<T>, const N: usize>(
     requires { count.heard + length piece.now < 2 ^ 64 }
     ensures heard { IfOk result
         (λ later. (first : ℕ) (stream : List ℕ) (answers : List (Answer (ℕ × T)))
-        → HearsLog (M.judging messages.now).holds (M.judging messages.now).reads
-        first receiver.old answers count stream
-        → HearsMore V.took (M.judging messages.now).holds (M.judging messages.now).reads
-        first visitor.old visitor.new receiver.new answers later (stream ++ piece.now)) }
+        → HearsLog (log_reading (M.judging messages.now) N first) receiver.old answers count stream
+        → HearsMore (log_reading (M.judging messages.now) N first)
+        (visited V.took V.halts visitor.old visitor.new)
+        receiver.new answers later (stream ++ piece.now)) }
     ensures on { IfOk result (λ later. later.heard ≡ count.heard + length piece.now) }
     ensures handed { OnOk result (HasHanded V.took visitor.old visitor.new) }
     ensures so_far { IfErr result (λ e. (first : ℕ) (stream : List ℕ)
         (answers : List (Answer (ℕ × T)))
-        → HearsLog (M.judging messages.now).holds (M.judging messages.now).reads
-        first receiver.old answers count stream
-        → HearsPart N V.took V.halts (M.judging messages.now) first visitor.old visitor.new answers
-        stream piece.now e) }
+        → HearsLog (log_reading (M.judging messages.now) N first) receiver.old answers count stream
+        → HearsPart (log_reading (M.judging messages.now) N first)
+        (visited V.took V.halts visitor.old visitor.new) answers stream piece.now e) }
     ensures cause { IfErr result (λ e. ReadCause ⊥ (M.judging messages.now).growing
         (HaltsBehind V.took V.halts visitor.old) e) }
 {
@@ -152,10 +151,12 @@ pub fn read_all<T: Drop, M: MessageReader<(u64, T)>, S: Store, V: Visitor<T>, co
 ) -> Result<u64, ReadError>
     requires { ReceiverFitsInMemory N.row }
     ensures read { IfOk result (λ next. IfSome (S.line store.old).told (λ bytes.
-        IsHanded V.took (M.judging messages.now) N first visitor.old visitor.new next bytes)) }
+        IsHanded (log_reading (M.judging messages.now) N first)
+        (visited V.took V.halts visitor.old visitor.new) next bytes)) }
     ensures so_far { IfErr result (λ e. IfSome (S.line store.old).told (λ bytes.
-        IsHandedTo V.took V.halts (M.judging messages.now) N first visitor.old visitor.new e
-        (ReadByCalls (S.line store.old) (S.line store.new) 1) bytes)) }
+        IsHandedTo (log_reading (M.judging messages.now) N first)
+        (visited V.took V.halts visitor.old visitor.new)
+        (ReadByCalls (S.line store.old) (S.line store.new) 1) e bytes)) }
     ensures cause { IfErr result (λ e. ReadCause (Failed (S.line store.old) (S.line store.new))
         (M.judging messages.now).growing (HaltsBehind V.took V.halts visitor.old) e) }
     ensures few { IfSome (S.line store.old).told (λ bytes. (S.line store.old).calls_left

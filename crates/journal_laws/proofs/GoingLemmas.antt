@@ -1,14 +1,15 @@
 -- How a history goes on.
 use Rattle.std.proofs.Common.{◌≡◌, ℕ, ◌+◌, ◌-◌, ◌<◌, ◌^◌, min, true, false, List, [], ◌∷◌, ◌++◌, length, Option, Some, None, Ok, refl, sym, ap, ◌∙◌, subst, append_assoc, arith}
 use Rattle.std.proofs.lemmas.List.{append-nil, length-append}
-use Rattle.std.specs.Prelude.{Bool, IfSome}
-use Rattle.line_io.specs.Device.{LineState, Grew, Wrote}
+use Rattle.std.specs.Prelude.{IfSome}
+use Rattle.line_io.specs.Device.{Grew, Wrote}
 use Rattle.line_io.specs.Calls.{Wrote-none, Wrote-then}
 use Rattle.postcard_tree.specs.Tree.{Tree, IsTree}
+use Rattle.postcard_tree.specs.ReadingLaws.{WireForm}
 use Rattle.std.proofs.lemmas.Slice.Zip.{all_zipped_more, AllZip-long}
 use Rattle.link.specs.Run.{Send, completed, sent, written, session_line, line, IsSend, IsFramed, IsSession, IsRun}
 use Rattle.journal.specs.Records.{numbered, takes_record}
-use Rattle.journal.specs.Appending.{Appended}
+use Rattle.journal.specs.Appending.{Appended, LogPlace}
 use Rattle.journal_laws.specs.Numbers.{LogEvent, appended, appends, opened, after, history, IsHistory, HasBytes, read_of}
 use Rattle.journal_laws.specs.Sessions.{AppendsAll, HistoryGoesOn}
 use Rattle.link.specs.Lemmas.SendLaws.{runs_joined}
@@ -30,26 +31,28 @@ module _ (takes : Tree → Type 0) (limit : ℕ) where
   session_opened any n [] f h = ((f, frame_more 0 any), tt)
   session_opened any n (t ∷ ts) f h = h
 
-module _ {V : Type 0} (takes : Tree → Type 0) (writes : V → Option Tree) (limit n : ℕ) (old : LineState) where
-  pub none_appended : AppendsAll takes writes limit n n old old []
-  none_appended = record { trees = []; of = tt; are = tt; wrote = Wrote-none old; quiet = refl; next_is = omega arith }
+module _ {V : Type 0} (form : WireForm V) (limit : ℕ) (old : LogPlace) where
+  pub none_appended : AppendsAll form limit old old []
+  none_appended = record { trees = []; of = tt; are = tt; wrote = Wrote-none old.line; quiet = refl; next_is = omega arith }
 
   -- one more
-  pub one_appended : (now next m : ℕ) (mid new : LineState) (spent : Bool) (values : List V) (v : V)
-      → AppendsAll takes writes limit n now old mid values → Appended (limit - 1) spent now (writes v) (Ok m) mid new → new.faults ≡ mid.faults → next ≡ now + 1 → now < 2 ^ 64 - 1
-      → ((t : Tree) → writes v ≡ Some t → takes t) → AppendsAll takes writes limit n next old new (values ++ v ∷ [])
-  one_appended now next m mid new spent values v p q quiet e l taken =
+  pub one_appended : (m : ℕ) (mid new : LogPlace) (values : List V) (v : V)
+      → AppendsAll form limit old mid values → Appended (limit - 1) (form.writes v) (Ok m) mid new → new.line.faults ≡ mid.line.faults → new.next ≡ mid.next + 1 → mid.next < 2 ^ 64 - 1
+      → ((t : Tree) → form.writes v ≡ Some t → form.takes t) → AppendsAll form limit old new (values ++ v ∷ [])
+  one_appended m mid new values v p q quiet e l taken =
+      let n = old.next in
+      let now = mid.next in
       let t = q.is.1.0 in
       let done : q.send ≡ completed (numbered now t) = q.is.1.2 in
       let here : now ≡ n + length p.trees = p.next_is in
       let framed : IsFramed IsTree (limit - 1) (numbered now t) = subst (λ x. IsSend IsTree (limit - 1) 0 true x) done q.is_send in
-      let bytes : Wrote mid new (sent 0 true (numbered now t)) = subst (λ x. Wrote mid new (written 0 true x)) done q.wrote in
+      let bytes : Wrote mid.line new.line (sent 0 true (numbered now t)) = subst (λ x. Wrote mid.line new.line (written 0 true x)) done q.wrote in
       record {
         trees = p.trees ++ t ∷ [];
-        of = all_zipped_more (λ v t. writes v ≡ Some t) values p.trees v t p.of q.is.1.1;
-        are = session_more (takes_record takes) limit n p.trees t p.are (subst (λ m. IsFramed (takes_record takes) limit (numbered m t)) here
+        of = all_zipped_more (λ v t. form.writes v ≡ Some t) values p.trees v t p.of q.is.1.1;
+        are = session_more (takes_record form.takes) limit n p.trees t p.are (subst (λ m. IsFramed (takes_record form.takes) limit (numbered m t)) here
             (record { taken = ((refl, omega (arith, l)), (taken t q.is.1.1, tt)); within = omega (arith, framed.within) }));
-        wrote = subst (λ b. Wrote old new b) (ap (λ m. session_line 0 true (appends numbered n p.trees) ++ sent 0 true (numbered m t)) here ∙ line_more n p.trees t) (Wrote-then _ _ _ _ _ p.wrote bytes);
+        wrote = subst (λ b. Wrote old.line new.line b) (ap (λ m. session_line 0 true (appends numbered n p.trees) ++ sent 0 true (numbered m t)) here ∙ line_more n p.trees t) (Wrote-then _ _ _ _ _ p.wrote bytes);
         quiet = quiet ∙ p.quiet;
         next_is = omega (arith, e, here, length-append p.trees (t ∷ []));
       }
@@ -74,25 +77,26 @@ pub both_some : {A : Type 0} {P Q R : A → Type 0} (r : Option A) → IfSome r 
 both_some None p q f = tt
 both_some (Some x) p q f = f x p q
 
-module _ {V : Type 0} (takes : Tree → Type 0) (writes : V → Option Tree) (limit : ℕ) (has : HasBytes (takes_record takes) limit 0) where
-  pub goes_on : (any : Tree) (events : List LogEvent) (n next : ℕ) (old new : LineState) (values : List V)
-      → IsFramed (takes_record takes) limit any → IsHistory (takes_record takes) limit 0 numbered any [] events
-      → old.told ≡ Some (line 0 (history 0 numbered any [] events) ++ 0 ∷ []) → n ≡ min (length (read_of (history 0 numbered any [] events))) (2 ^ 64 - 1)
-      → AppendsAll takes writes limit n next old new values → (0 < length values → n < 2 ^ 64 - 1) → HistoryGoesOn takes writes limit any events new.told values
-  goes_on any events n next old new values f is held e p below =
+module _ {V : Type 0} (form : WireForm V) (limit : ℕ) (has : HasBytes (takes_record form.takes) limit 0) where
+  pub goes_on : (any : Tree) (events : List LogEvent) (old new : LogPlace) (values : List V)
+      → IsFramed (takes_record form.takes) limit any → IsHistory (takes_record form.takes) limit 0 numbered any events
+      → old.line.told ≡ Some (line 0 (history 0 numbered any [] events) ++ 0 ∷ []) → old.next ≡ min (length (read_of (history 0 numbered any [] events))) (2 ^ 64 - 1)
+      → AppendsAll form limit old new values → (0 < length values → old.next < 2 ^ 64 - 1) → HistoryGoesOn form limit any events new.line.told values
+  goes_on any events old new values f is held e p below =
+      let n = old.next in
       let run = history 0 numbered any [] events in
       let count = length (read_of run) in
-      let more = same_numbers n count p.trees e (λ l. below (omega (arith, l, AllZip-long (λ v t. writes v ≡ Some t) values p.trees p.of))) in
-      let are : IsSession (takes_record takes) limit 0 true (appends numbered count p.trees) = subst (λ x. IsSession (takes_record takes) limit 0 true x) more p.are in
-      let joined : IsRun (takes_record takes) limit 0 (after 0 numbered any run (appended p.trees)) =
-      runs_joined (takes_record takes) limit 0 run (opened any (appends numbered count p.trees) ∷ []) is (session_opened (takes_record takes) limit any count p.trees f are, tt) in
+      let more = same_numbers n count p.trees e (λ l. below (omega (arith, l, AllZip-long (λ v t. form.writes v ≡ Some t) values p.trees p.of))) in
+      let are : IsSession (takes_record form.takes) limit 0 true (appends numbered count p.trees) = subst (λ x. IsSession (takes_record form.takes) limit 0 true x) more p.are in
+      let joined : IsRun (takes_record form.takes) limit 0 (after 0 numbered any run (appended p.trees)) =
+      runs_joined (takes_record form.takes) limit 0 run (opened any (appends numbered count p.trees) ∷ []) is (session_opened (takes_record form.takes) limit any count p.trees f are, tt) in
       let behind = history_more any [] events (appended p.trees) in
-      let bytes : new.told ≡ Some ((line 0 run ++ 0 ∷ []) ++ session_line 0 true (appends numbered n p.trees)) =
-      told_on (line 0 run ++ 0 ∷ []) (session_line 0 true (appends numbered n p.trees)) new.told old.faults new.faults (subst (λ x. Grew x new.told old.faults new.faults (session_line 0 true (appends numbered n p.trees))) held p.wrote.grew) p.quiet in
+      let bytes : new.line.told ≡ Some ((line 0 run ++ 0 ∷ []) ++ session_line 0 true (appends numbered n p.trees)) =
+      told_on (line 0 run ++ 0 ∷ []) (session_line 0 true (appends numbered n p.trees)) new.line.told old.line.faults new.line.faults (subst (λ x. Grew x new.line.told old.line.faults new.line.faults (session_line 0 true (appends numbered n p.trees))) held p.wrote.grew) p.quiet in
       record {
         trees = p.trees;
         of = p.of;
-        is_history = subst (λ r. IsRun (takes_record takes) limit 0 r) (sym behind) joined;
+        is_history = subst (λ r. IsRun (takes_record form.takes) limit 0 r) (sym behind) joined;
         bytes = bytes ∙ ap (λ x. Some x) (append_assoc (line 0 run) (0 ∷ []) (session_line 0 true (appends numbered n p.trees)) ∙ ap (λ x. line 0 run ++ (0 ∷ session_line 0 true x)) more
             ∙ sym (has numbered any run (appended p.trees) is) ∙ ap (λ r. line 0 r) (sym behind));
       }

@@ -6,6 +6,7 @@ use Rattle.std.proofs.lemmas.List.{append-nil, length-append}
 use Rattle.std.proofs.Math.Seq.{take-append_seam}
 use Rattle.line_io.specs.Device.{LineState, Grew}
 use Rattle.postcard_tree.specs.Tree.{Tree}
+use Rattle.postcard_tree.specs.ReadingLaws.{WireForm}
 use Rattle.link.specs.Stream.{Verdict, ended, unfinished, IsAnswer, HoldsExactly, begun_answers, cut_answers, Answers}
 use Rattle.link.specs.Run.{line}
 use Rattle.link.specs.Pushes.{Matches}
@@ -18,7 +19,7 @@ use Rattle.link.specs.declared.receiver.Answer.TheVariants.{Value, Damaged, TooL
 use Rattle.journal.specs.Records.{numbered, takes_record, reads_record}
 use Rattle.journal.specs.Appending.{LogPlace}
 use Rattle.journal_scan.specs.Scanning.{IsStretchAt, with_zero}
-use Rattle.journal_scan.specs.Checks.{StandAt, AreStretches, IsRest, listed_rest, record_in, records_in, numbers_of}
+use Rattle.journal_scan.specs.Checks.{Watched, StandAt, AreStretches, IsRest, listed_rest, record_in, records_in, numbers_of}
 use Rattle.journal_scan.specs.Tallies.{IsTally, behind_greatest}
 use Rattle.journal_scan.specs.Opening.{IsOpenedBy}
 use Rattle.journal_scan.specs.declared.scanning.Stretch.{Stretch}
@@ -30,13 +31,13 @@ use Rattle.journal_laws.proofs.GoingLemmas.{told_on}
 use Rattle.journal_laws.proofs.OpenedLemmas.{most, number_is, told_of}
 
 -- what is said of each stretch of a log
-record Said {V : Type 0} (takes : Tree → Type 0) (reads : Tree → V → Type 0) (limit : ℕ) (ps : List (List ℕ)) (stretches : List (Stretch V)) : Type 0 where
+record Said {V : Type 0} (form : WireForm V) (limit : ℕ) (ps : List (List ℕ)) (stretches : List (Stretch V)) : Type 0 where
   verdicts : List Verdict
-  each : AllZip (IsAnswer (HoldsExactly (takes_record takes)) limit) ps verdicts
-  matching : AllZip (λ s v. Matches (reads_record reads) s.answer v) stretches verdicts
+  each : AllZip (IsAnswer (HoldsExactly (takes_record form.takes)) limit) ps verdicts
+  matching : AllZip (λ s v. Matches (reads_record form.reads) s.answer v) stretches verdicts
 
-module _ {V : Type 0} (takes : Tree → Type 0) (reads : Tree → V → Type 0) (limit : ℕ) (bytes : List ℕ) where
-  said : (ps : List (List ℕ)) (stretches : List (Stretch V)) → StandAt takes reads limit bytes ps stretches → Said takes reads limit ps stretches
+module _ {V : Type 0} (form : WireForm V) (limit : ℕ) (bytes : List ℕ) where
+  said : (ps : List (List ℕ)) (stretches : List (Stretch V)) → StandAt form limit bytes ps stretches → Said form limit ps stretches
   said [] [] h = record { verdicts = []; each = tt; matching = tt }
   said [] (s ∷ stretches) h = absurd h
   said (p ∷ ps) [] h = absurd h
@@ -44,8 +45,8 @@ module _ {V : Type 0} (takes : Tree → Type 0) (reads : Tree → V → Type 0) 
       let k = said ps stretches h.1 in
       record { verdicts = h.0.verdict ∷ k.verdicts; each = (h.0.is, k.each); matching = (h.0.says, k.matching) }
 
-  last_of : (ps : List (List ℕ)) (stretches : List (Stretch V)) (s : Stretch V) → StandAt takes reads limit bytes ps (stretches ++ s ∷ [])
-      → (p : List ℕ) × IsStretchAt (HoldsExactly (takes_record takes)) (reads_record reads) limit bytes p s.from s.to s.answer
+  last_of : (ps : List (List ℕ)) (stretches : List (Stretch V)) (s : Stretch V) → StandAt form limit bytes ps (stretches ++ s ∷ [])
+      → (p : List ℕ) × IsStretchAt form limit bytes p s
   last_of [] [] s h = absurd h
   last_of [] (u ∷ stretches) s h = absurd h
   last_of (p ∷ ps) [] s h = (p, h.0)
@@ -56,8 +57,8 @@ module _ (log : List ℕ) where
   held = log ++ 0 ∷ []
 
   -- no stretch stands at the end
-  none_at : {V : Type 0} {holds : List ℕ → Tree → Type 0} {reads : Tree → V → Type 0} {limit from to : ℕ} {p : List ℕ} {answer : Answer V}
-      → IsStretchAt holds reads limit (with_zero held) p from to answer → to ≡ length held → ⊥
+  none_at : {V : Type 0} {form : WireForm V} {limit : ℕ} {p : List ℕ} {s : Stretch V}
+      → IsStretchAt form limit (with_zero held) p s → s.to ≡ length held → ⊥
   none_at {p = p} h e =
       let whole : with_zero held ≡ (h.front ++ p) ++ (0 ∷ h.rest) = h.bytes_are ∙ sym (append_assoc h.front p (0 ∷ h.rest)) in
       let long : length held ≡ length (h.front ++ p) = omega (arith, e, h.from_is, h.to_is, length-append h.front p) in
@@ -68,15 +69,15 @@ module _ (log : List ℕ) where
       omega (arith, h.some, ap length none)
 
 -- so nothing is unfinished, and these are all stretches
-module _ {V : Type 0} (takes : Tree → Type 0) (reads : Tree → V → Type 0) (limit : ℕ) (log : List ℕ) (stretches : List (Stretch V)) where
-  all_ended : (o : Option (Stretch V)) → AreStretches takes reads limit (with_zero (held log)) (stretches ++ listed_rest o) → IsRest (held log) o → o ≡ None
+module _ {V : Type 0} (form : WireForm V) (limit : ℕ) (log : List ℕ) (stretches : List (Stretch V)) where
+  all_ended : (o : Option (Stretch V)) → AreStretches form limit (with_zero (held log)) (stretches ++ listed_rest o) → IsRest (held log) o → o ≡ None
   all_ended None h r = refl
-  all_ended (Some s) h r = absurd (none_at log (last_of takes reads limit (with_zero (held log)) (ended 0 (with_zero (held log))) stretches s h).1 r.0)
+  all_ended (Some s) h r = absurd (none_at log (last_of form limit (with_zero (held log)) (ended 0 (with_zero (held log))) stretches s h).1 r.0)
 
-  all_said : (o : Option (Stretch V)) → o ≡ None → AreStretches takes reads limit (with_zero (held log)) (stretches ++ listed_rest o) → Said takes reads limit (ended 0 (held log)) stretches
+  all_said : (o : Option (Stretch V)) → o ≡ None → AreStretches form limit (with_zero (held log)) (stretches ++ listed_rest o) → Said form limit (ended 0 (held log)) stretches
   all_said o e h =
-      let alone = subst (λ x. AreStretches takes reads limit (with_zero (held log)) x) (ap (λ x. stretches ++ listed_rest x) e ∙ append-nil stretches) h in
-      said takes reads limit (with_zero (held log)) (ended 0 (held log)) stretches (subst (λ ps. StandAt takes reads limit (with_zero (held log)) ps stretches) (ends_none (held log) (inr (log, refl))) alone)
+      let alone = subst (λ x. AreStretches form limit (with_zero (held log)) x) (ap (λ x. stretches ++ listed_rest x) e ∙ append-nil stretches) h in
+      said form limit (with_zero (held log)) (ended 0 (held log)) stretches (subst (λ ps. StandAt form limit (with_zero (held log)) ps stretches) (ends_none (held log) (inr (log, refl))) alone)
 
 -- the answers to a log that ends with a zero are those to its stretches
 answers_of : (holds : List ℕ → Tree → Type 0) (limit : ℕ) (log : List ℕ) (verdicts : List Verdict) → AllZip (IsAnswer holds limit) (ended 0 (held log)) verdicts → Answers holds limit 0 (held log) verdicts
@@ -118,23 +119,23 @@ behind_on : (n k : ℕ) → max (min n most) (behind_greatest (numbers_on n k)) 
 behind_on n zero = omega arith
 behind_on n (suc k) = let h = behind_on (n + 1) k in omega (arith, h)
 
-module _ {V W : Type 0} (told : W → List (Stretch V) → W → Type 0) (counts : ℕ → V → Bool) (takes : Tree → Type 0) (reads : Tree → V → Type 0) (limit : ℕ)
-    (on : CountsOn (takes_record takes) (HoldsExactly (takes_record takes)) limit 0) where
-  pub judges_history : (old : LineState) (place : LogPlace) (watcher later : W) (report : Report V)
-      → IsOpenedBy told counts takes reads limit old place watcher later report
-      → JudgesAnyHistory told counts takes reads limit old.told place.line.told watcher later report place.next
-  judges_history old place watcher later report o any events framed is count e =
+module _ {V W : Type 0} (form : WireForm V) (limit : ℕ) (watch : Watched W V)
+    (on : CountsOn (takes_record form.takes) (HoldsExactly (takes_record form.takes)) limit 0) where
+  pub judges_history : (old : LineState) (place : LogPlace) (report : Report V)
+      → IsOpenedBy form limit watch old place report
+      → JudgesAnyHistory form limit watch old.told place report
+  judges_history old place report o any events framed is count e =
       let new = place.line in
       let log = line 0 (history 0 numbered any [] events) in
       let bytes : new.told ≡ Some (held log) = told_on log (0 ∷ []) new.told old.faults new.faults (subst (λ x. Grew x new.told old.faults new.faults (0 ∷ [])) e o.wrote.grew) o.quiet in
       let c = o.checked in
-      let are = told_of new.told (held log) (λ x. AreStretches takes reads limit (with_zero x) (c.stretches ++ listed_rest report.unfinished)) bytes c.are in
+      let are = told_of new.told (held log) (λ x. AreStretches form limit (with_zero x) (c.stretches ++ listed_rest report.unfinished)) bytes c.are in
       let rest = told_of new.told (held log) (λ x. IsRest x report.unfinished) bytes c.rest in
-      let none = all_ended takes reads limit log c.stretches report.unfinished are rest in
-      let s = all_said takes reads limit log c.stretches report.unfinished none are in
-      let k = on numbered any events s.verdicts framed is (answers_of (HoldsExactly (takes_record takes)) limit log s.verdicts s.each) in
-      let numbers : numbers_of (records_in counts c.stretches) ≡ numbers_on 0 (length (values_of s.verdicts)) =
-      all_numbers reads counts 0 c.stretches s.verdicts s.matching k.counted (subst (AllCount reads counts) (sym k.are) count) in
+      let none = all_ended form limit log c.stretches report.unfinished are rest in
+      let s = all_said form limit log c.stretches report.unfinished none are in
+      let k = on numbered any events s.verdicts framed is (answers_of (HoldsExactly (takes_record form.takes)) limit log s.verdicts s.each) in
+      let numbers : numbers_of (records_in watch.counted c.stretches) ≡ numbers_on 0 (length (values_of s.verdicts)) =
+      all_numbers form.reads watch.counted 0 c.stretches s.verdicts s.matching k.counted (subst (AllCount form.reads watch.counted) (sym k.are) count) in
       let tallied = subst (λ ns. IsTally ns report.tally) (numbers ∙ ap (λ ts. numbers_on 0 (length ts)) k.are) c.tallied in
       let records = length (read_of (history 0 numbered any [] events)) in
       record {

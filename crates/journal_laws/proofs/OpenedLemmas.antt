@@ -6,6 +6,7 @@ use Rattle.std.proofs.lemmas.Bool.{le-ltb}
 use Rattle.std.proofs.lemmas.List.{append-nil}
 use Rattle.line_io.specs.Device.{LineState, Grew}
 use Rattle.postcard_tree.specs.Tree.{Tree}
+use Rattle.postcard_tree.specs.ReadingLaws.{WireForm}
 use Rattle.link.specs.Stream.{Verdict, Answers}
 use Rattle.link.specs.Judged.{Judging}
 use Rattle.link.specs.Run.{line}
@@ -17,7 +18,7 @@ use Rattle.link.specs.declared.receiver.Answer.{Answer}
 use Rattle.link.specs.declared.receiver.Answer.TheVariants.{Value, Damaged, TooLong, Cut}
 use Rattle.journal.specs.Records.{numbered, takes_record, reads_record, past, past_all}
 use Rattle.journal.specs.Places.{Located, answers_in, Numbering, numbered_from, furthest, believed, numbered_behind, all_believed}
-use Rattle.journal.specs.Reading.{IsHanded}
+use Rattle.journal.specs.Reading.{Visited, IsHanded, log_reading}
 use Rattle.journal.specs.Appending.{LogPlace, IsOpened}
 use Rattle.journal_laws.specs.Numbers.{Counted, history, CountsOn}
 use Rattle.journal_laws.specs.Together.{OpensHistory}
@@ -101,31 +102,31 @@ pub told_of : (held : Option (List ℕ)) (bytes : List ℕ) (P : List ℕ → Ty
 told_of None bytes P e h = cc
 told_of (Some x) bytes P e h = let same : x ≡ bytes = cc in subst P same h
 
-module _ {S V : Type 0} (took : S → List (Answer (ℕ × V)) → S → Type 0) (takes : Tree → Type 0) (reads : Tree → V → Type 0) (limit : ℕ) (judging : Judging (ℕ × V))
-    (counts : CountsOn (takes_record takes) judging.holds limit 0) (append : Appends judging.holds limit 0) (records : (t : Tree) (r : ℕ × V) → judging.reads t r → reads_record reads t r) where
-  pub opens_history : (old : LineState) (place : LogPlace) (visitor later : S)
-      → IsOpened took judging limit 0 old place visitor later
-      → OpensHistory took takes reads limit old.told place.line.told visitor later place.next
-  opens_history old place visitor later o any events framed is e =
+module _ {S V : Type 0} (form : WireForm V) (limit : ℕ) (visit : Visited S V) (judging : Judging (ℕ × V))
+    (counts : CountsOn (takes_record form.takes) judging.holds limit 0) (append : Appends judging.holds limit 0) (records : (t : Tree) (r : ℕ × V) → judging.reads t r → reads_record form.reads t r) where
+  pub opens_history : (old : LineState) (place : LogPlace)
+      → IsOpened (log_reading judging limit 0) visit old place
+      → OpensHistory form limit visit old.told place
+  opens_history old place o any events framed is e =
       let new = place.line in
       let log = line 0 (history 0 numbered any [] events) in
       let bytes : new.told ≡ Some (log ++ 0 ∷ []) = told_on log (0 ∷ []) new.told old.faults new.faults (subst (λ x. Grew x new.told old.faults new.faults (0 ∷ [])) e o.wrote.grew) o.quiet in
-      let told = told_of new.told (log ++ 0 ∷ []) (λ x. IsHanded took judging limit 0 visitor later place.next x) bytes o.read in
+      let told = told_of new.told (log ++ 0 ∷ []) (λ x. IsHanded (log_reading judging limit 0) visit place.next x) bytes o.read in
       let read = told.read in
       let vs = read.given.verdicts in
-      let matching = all_read judging.reads (reads_record reads) records (answers_in read.located) vs read.given.matching in
+      let matching = all_read judging.reads (reads_record form.reads) records (answers_in read.located) vs read.given.matching in
       let whole : Answers judging.holds limit 0 (log ++ 0 ∷ []) vs =
       subst (λ x. Answers judging.holds limit 0 x vs) (append-nil (log ++ 0 ∷ []))
       ((append (log ++ 0 ∷ []) [] vs (inr (log, refl))).1 (vs, [], read.given.given, record { done = []; each = tt; whole = sym (empty_ending limit) }, sym (append-nil vs))) in
       let c = counts numbered any events vs framed is whole in
-      let all = all_counted reads 0 (numbered_from 0) read.located vs matching c.counted refl in
+      let all = all_counted form.reads 0 (numbered_from 0) read.located vs matching c.counted refl in
       let same : told.answers ≡ answers_in read.located = read.handed_on ∙ all.0 in
       record {
         answers = told.answers;
         handed = told.handed;
         bytes = bytes;
         verdicts = vs;
-        matching = subst (λ x. AllZip (Matches (reads_record reads)) x vs) (sym same) matching;
+        matching = subst (λ x. AllZip (Matches (reads_record form.reads)) x vs) (sym same) matching;
         are = c.are;
         counted = c.counted;
         next_is =

@@ -11,20 +11,18 @@ use Rattle.journal.specs.Places.{least_record}
 
 -- What a crash leaves of a history is the line of what is left of its run; and what is read of that and of whatever sessions come
 -- later: each record that was left whole, in order, and none that wasn't appended.
-pub record SurvivesAt (takes : Tree → Type 0) (limit s : ℕ) (run later : List (List Send)) (k : ℕ) (answers : List Verdict) : Type 0 where
+pub record SurvivesAt (s : ℕ) (run later : List (List Send)) (k : ℕ) (answers : List Verdict) : Type 0 where
   -- what is left is the line of what is left of the run
   pub bytes : take k (line s run) ≡ line s (left s k run)
-  -- that is a run again
-  pub is_run : IsRun takes limit s (left s k run)
   -- each record that was left whole is read, in order
   pub between : LiesBetween (left s k run ++ later) (values_of answers)
   -- none is read that wasn't tried
   pub not_invented : Among (values_of answers) (tried run ++ tried later)
 
--- So it is at every place at which a crash cuts a run's line, whatever run comes later.
+-- So it is at every place at which a crash cuts a run's line, whatever run comes later; and what is left of the run is a run again.
 abbrev pub Survives : (Tree → Type 0) → (List ℕ → Tree → Type 0) → ℕ → ℕ → Type 0
 Survives takes holds limit s = (run later : List (List Send)) (k : ℕ) (answers : List Verdict) → IsRun takes limit s run → IsRun takes limit s later
-    → Answers holds limit s (take k (line s run) ++ line s later) answers → SurvivesAt takes limit s run later k answers
+    → Answers holds limit s (take k (line s run) ++ line s later) answers → IsRun takes limit s (left s k run) × SurvivesAt s run later k answers
 
 -- What was given of bytes with a sentinel after them is the beginning of what is received of them and anything later: other
 -- records, or whatever bytes a crash left there.

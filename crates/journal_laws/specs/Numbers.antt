@@ -86,8 +86,8 @@ history s numbered any run [] = run
 history s numbered any run (e ∷ events) = history s numbered any (after s numbered any run e) events
 
 -- what is appended has a frame within the limit, and what is interrupted leaves fewer bytes than the whole
-abbrev pub IsHistory : (Tree → Type 0) → ℕ → ℕ → (ℕ → Tree → Tree) → Tree → List (List Send) → List LogEvent → Type 0
-IsHistory takes limit s numbered any run events = IsRun takes limit s (history s numbered any run events)
+abbrev pub IsHistory : (Tree → Type 0) → ℕ → ℕ → (ℕ → Tree → Tree) → Tree → List LogEvent → Type 0
+IsHistory takes limit s numbered any events = IsRun takes limit s (history s numbered any [] events)
 
 -- Whatever crashes a log went through: what an opening reads carries the numbers from 0 on, none missing and none twice.
 pub record IsCountedAt (s : ℕ) (numbered : ℕ → Tree → Tree) (any : Tree) (events : List LogEvent) (answers : List Verdict) : Type 0 where
@@ -99,5 +99,5 @@ pub record IsCountedAt (s : ℕ) (numbered : ℕ → Tree → Tree) (any : Tree)
 -- So it is for every history, read after one more sentinel.
 abbrev pub CountsOn : (Tree → Type 0) → (List ℕ → Tree → Type 0) → ℕ → ℕ → Type 0
 CountsOn takes holds limit s = (numbered : ℕ → Tree → Tree) (any : Tree) (events : List LogEvent) (answers : List Verdict) → IsFramed takes limit any
-    → IsHistory takes limit s numbered any [] events → Answers holds limit s (line s (history s numbered any [] events) ++ (s ∷ [])) answers
+    → IsHistory takes limit s numbered any events → Answers holds limit s (line s (history s numbered any [] events) ++ (s ∷ [])) answers
     → IsCountedAt s numbered any events answers

@@ -3,7 +3,9 @@ ghost use Rattle.std.specs.Prelude.{◌≡◌, ℕ, ◌<◌, ◌-◌, ◌^◌, [
 ghost use Rattle.postcard_tree.specs.Tree.{Tree};
 ghost use Rattle.link.specs.Laws.{Appends};
 ghost use Rattle.link.specs.Listening.{ReceiverFitsInMemory};
-ghost use Rattle.journal.specs.Logs.{store_of, next_of};
+ghost use Rattle.journal.specs.Logs.{store_of, next_of, log_place};
+ghost use Rattle.journal.specs.Reading.{visited};
+ghost use Rattle.journal_scan.specs.Checks.{watched};
 ghost use Rattle.journal.specs.Records.{takes_record, reads_record};
 ghost use Rattle.journal_laws.specs.Numbers.{CountsOn};
 ghost use Rattle.journal_laws.specs.Together.{OpensHistory, JudgesAnyHistory, GoesOnCounted};
@@ -87,8 +89,9 @@ pub fn open_history<T: Readable + Drop, M: LogReader<T>, S: Store, V: Visitor<T>
 ) -> Result<Journal<S, N>, Unopened<S>>
     requires some { 1 < N }
     requires fits { ReceiverFitsInMemory N.row }
-    ensures { IfOk result (λ j. OpensHistory V.took T.form.takes T.form.reads N
-        (S.line store).told (S.line (store_of j)).told visitor.old visitor.new (next_of j)) }
+    ensures { IfOk result (λ j. OpensHistory T.form N
+        (visited V.took V.halts visitor.old visitor.new)
+        (S.line store).told (log_place S.line S.settled j)) }
 {
     messages.show_laws();
     match Journal::<S, N>::open::<T, M, V>(alloc, store, 0, messages, visitor) {
@@ -106,8 +109,8 @@ pub fn append_each<T: Lawful, S: Store, const N: usize>(
     values: &[T],
 ) -> Result<(), AppendError>
     ensures all { OnOk result
-        (AppendsAll T.form.takes T.form.writes N (next_of journal.old) (next_of journal.new)
-        (S.line (store_of journal.old)) (S.line (store_of journal.new)) values.now) }
+        (AppendsAll T.form N (log_place S.line S.settled journal.old)
+        (log_place S.line S.settled journal.new) values.now) }
     ensures numbers { OnOk result (0 < length values.now → next_of journal.old < 2 ^ 64 - 1) }
 {
     for value in values {
@@ -123,8 +126,8 @@ fn append_all<T: Lawful, S: Store + Drop, const N: usize>(
     values: &[T],
 ) -> Option<Journal<S, N>>
     ensures all { IfSome result
-        (λ j. AppendsAll T.form.takes T.form.writes N (next_of journal) (next_of j)
-        (S.line (store_of journal)) (S.line (store_of j)) values.now) }
+        (λ j. AppendsAll T.form N (log_place S.line S.settled journal)
+        (log_place S.line S.settled j) values.now) }
     ensures numbers { IfSome result (λ j. 0 < length values.now → next_of journal < 2 ^ 64 - 1) }
 {
     let mut journal = journal;
@@ -151,7 +154,7 @@ pub fn session<T: Lawful + Drop, M: LogReader<T>, S: Store + Drop, V: Visitor<T>
 ) -> Option<Journal<S, N>>
     requires some { 1 < N }
     requires fits { ReceiverFitsInMemory N.row }
-    ensures { IfSome result (λ j. GoesOnFrom T.form.takes T.form.writes N
+    ensures { IfSome result (λ j. GoesOnFrom T.form N
         (S.line store).told (S.line (store_of j)).told values.now) }
 {
     crate::laws::bytes::<(u64, T)>();
@@ -182,9 +185,9 @@ pub fn open_history_by<T: DeserializeOwned + Exact, S: Store, W: Watcher<T>, con
 ) -> Result<(Journal<S, N>, Report<T>), Unopened<S>>
     requires some { 1 < N }
     requires fits { ReceiverFitsInMemory N.row }
-    ensures { IfOk result (λ r. JudgesAnyHistory W.told W.counted T.form.takes T.form.reads N
-        (S.line store).told (S.line (store_of r.0)).told
-        watcher.old watcher.new r.1 (next_of r.0)) }
+    ensures { IfOk result (λ r. JudgesAnyHistory T.form N
+        (watched W.told W.halts W.counted watcher.old watcher.new)
+        (S.line store).told (log_place S.line S.settled r.0) r.1) }
 {
     crate::laws::counts_on::<(u64, T)>();
     match open_by::<T, S, W, N>(alloc, store, watcher) {
@@ -210,7 +213,7 @@ pub fn session_by<T: DeserializeOwned + Exact, S: Store + Drop, W: Watcher<T>, c
     requires some { 1 < N }
     requires fits { ReceiverFitsInMemory N.row }
     ensures { IfSome result
-        (λ j. GoesOnCounted W.counted T.form.takes T.form.reads T.form.writes N
+        (λ j. GoesOnCounted T.form W.counted N
         (S.line store).told (S.line (store_of j)).told values.now) }
 {
     crate::laws::bytes::<(u64, T)>();

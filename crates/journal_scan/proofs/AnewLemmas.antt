@@ -9,6 +9,7 @@ use Rattle.cobs.specs.Sentinel.{frame_for}
 use Rattle.line_io.specs.Device.{LineState, Grew, Wrote}
 use Rattle.line_io.specs.Calls.{Wrote-then, Wrote-none}
 use Rattle.postcard_tree.specs.Tree.{Tree, byte, number, character, sequence, group, part, end}
+use Rattle.postcard_tree.specs.ReadingLaws.{WireForm}
 use Rattle.postcard_tree.specs.Spelling.{short}
 use Rattle.postcard.specs.Written.{WrittenWhole, UnlessRefused}
 use Rattle.link.specs.Stream.{Verdict, ended, unfinished, IsAnswer, HoldsExactly, begun_answers, cut_answers, Answers}
@@ -47,9 +48,9 @@ pub record ReadsBehind (takes : Tree → Type 0) (limit : ℕ) (bytes : List ℕ
   pub closing : IsClosing limit bytes scan
   pub to : ReadsTo takes limit (with_zero bytes) (passed_by bytes scan) ts
 
-module _ {V : Type 0} (reads : Tree → V → Type 0) (writes : V → Option Tree) (back : (t : Tree) (v : V) → reads t v → writes v ≡ Some t) where
+module _ {V : Type 0} (form : WireForm V) (back : (t : Tree) (v : V) → form.reads t v → form.writes v ≡ Some t) where
   -- the tree that a record was read from is the one that it writes
-  tree_read : (r : ℕ × V) (t : Tree) → reads_record reads t r → IsTreeOf writes r t
+  tree_read : (r : ℕ × V) (t : Tree) → reads_record form.reads t r → IsTreeOf form.writes r t
   tree_read r (byte b) h = absurd h
   tree_read r (number bits n) h = absurd h
   tree_read r (character c) h = absurd h
@@ -67,11 +68,11 @@ module _ {V : Type 0} (reads : Tree → V → Type 0) (writes : V → Option Tre
     ap (λ w. group (part (number w n) (part v end))) h.0.0 ∙ ap (λ m. group (part (number 64 m) (part v end))) (sym h.0.1),
   )
 
-  one_tree : (r : ℕ × V) (t u : Tree) → IsTreeOf writes r t → IsTreeOf writes r u → t ≡ u
+  one_tree : (r : ℕ × V) (t u : Tree) → IsTreeOf form.writes r t → IsTreeOf form.writes r u → t ≡ u
   one_tree r t u h k = h.2 ∙ ap (numbered r.0) (let e : Some h.0 ≡ Some k.0 = sym h.1 ∙ k.1 in cc) ∙ sym k.2
 
   -- what is read of a stretch is the tree of the record that is appended anew, where it is one
-  values_read : (a : Answer (ℕ × V)) (v : Verdict) (us : List Tree) → Matches (reads_record reads) a v → AreTreesOf writes (record_read a) us → values_of (v ∷ []) ≡ us
+  values_read : (a : Answer (ℕ × V)) (v : Verdict) (us : List Tree) → Matches (reads_record form.reads) a v → AreTreesOf form.writes (record_read a) us → values_of (v ∷ []) ≡ us
   values_read (Value r) v [] h k = absurd k
   values_read (Value r) v (u ∷ []) (t, h, e) k = ap (λ x. values_of (x ∷ [])) e ∙ ap (λ x. x ∷ []) (one_tree r t u (tree_read r t h) k.0)
   values_read (Value r) v (u ∷ w ∷ us) h k = absurd k.1
@@ -82,25 +83,25 @@ module _ {V : Type 0} (reads : Tree → V → Type 0) (writes : V → Option Tre
   values_read Cut v [] h k = ap (λ x. values_of (x ∷ [])) h
   values_read Cut v (u ∷ us) h k = absurd k
 
-  module _ (takes : Tree → Type 0) (limit : ℕ) (bytes : List ℕ) where
-    pub one_more : (old new : ℕ) (ts us : List Tree) (s : Stretch V) → ReadsTo takes limit bytes old ts
-        → Found takes reads limit bytes old new (Some s) → AreTreesOf writes (record_read s.answer) us → ReadsTo takes limit bytes new (ts ++ us)
+  module _ (limit : ℕ) (bytes : List ℕ) where
+    pub one_more : (old new : ℕ) (ts us : List Tree) (s : Stretch V) → ReadsTo form.takes limit bytes old ts
+        → Found form limit bytes old new (Some s) → AreTreesOf form.writes (record_read s.answer) us → ReadsTo form.takes limit bytes new (ts ++ us)
     one_more old new ts us s h f o = record {
       answers = h.answers ++ f.is.verdict ∷ [];
       each =
-          subst (λ ps. AllZip (IsAnswer (HoldsExactly (takes_record takes)) limit) ps (h.answers ++ f.is.verdict ∷ [])) (sym f.next)
+          subst (λ ps. AllZip (IsAnswer (HoldsExactly (takes_record form.takes)) limit) ps (h.answers ++ f.is.verdict ∷ [])) (sym f.next)
           (zip_joined _ (ended 0 (take old bytes)) (f.stretch ∷ []) h.answers (f.is.verdict ∷ []) h.each (f.is.is, tt));
       are = values_joined h.answers (f.is.verdict ∷ []) ∙ ap (λ x. x ++ values_of (f.is.verdict ∷ [])) h.are ∙ ap (λ x. ts ++ x) (values_read s.answer f.is.verdict us f.is.says o);
     }
 
     -- a record that was read within the limit isn't refused for its length
     never_refused : (old new : ℕ) (s : Stretch V) (held now : LineState) (most : ℕ) (x : _) → limit < most + 1
-        → FoundAll takes reads limit bytes old new (Some s) → StopsAnew writes most s.answer held now (Refused x) → ⊥
+        → FoundAll form limit bytes old new (Some s) → StopsAnew form.writes most s.answer held now (Refused x) → ⊥
     never_refused old new s held now most x l f h = go s.answer f.is.verdict f.is.says f.is.is h
       where
-        go : (a : Answer (ℕ × V)) (v : Verdict) → Matches (reads_record reads) a v → IsAnswer (HoldsExactly (takes_record takes)) limit f.stretch v → StopsAnew writes most a held now (Refused x) → ⊥
+        go : (a : Answer (ℕ × V)) (v : Verdict) → Matches (reads_record form.reads) a v → IsAnswer (HoldsExactly (takes_record form.takes)) limit f.stretch v → StopsAnew form.writes most a held now (Refused x) → ⊥
         go (Value r) v (t, m, e) is k =
-            let here = subst (IsAnswer (HoldsExactly (takes_record takes)) limit f.stretch) e is in
+            let here = subst (IsAnswer (HoldsExactly (takes_record form.takes)) limit f.stretch) e is in
             let d = tree_read r t m in
             let more = subst (λ o. UnlessRefused (record_of r.0 o) (λ b. most < length (shortest_frame b))) d.1 k.1 in
             let short_enough : length f.stretch ≤ limit = here.0 in
@@ -169,9 +170,9 @@ on_any (Ok x) P p = tt
 on_any (Err e) P p = p
 
 -- no buffer was made
-pub unread_none : {T : Type 0} (r : Result T RepairError) (takes : Tree → Type 0) (growing : Bool) (limit : ℕ) (held : Option (List ℕ)) (old : LineState) → IfErr r (λ e. e ≡ Read NoMemory) → IfErr r (λ e. StopsWhole takes growing limit held old old e)
-unread_none (Ok x) takes growing limit held old h = tt
-unread_none (Err e) takes growing limit held old h = subst (StopsWhole takes growing limit held old old) (sym h) (inl (Wrote-none old))
+pub unread_none : {T V : Type 0} (r : Result T RepairError) (form : WireForm V) (limit : ℕ) (held : Option (List ℕ)) (old : LineState) → IfErr r (λ e. e ≡ Read NoMemory) → IfErr r (λ e. StopsWhole form limit held old old e)
+unread_none (Ok x) form limit held old h = tt
+unread_none (Err e) form limit held old h = subst (StopsWhole form limit held old old) (sym h) (inl (Wrote-none old))
 
 -- an append doesn't sync
 pub if_stopped : {V : Type 0} (writes : V → Option Tree) (most : ℕ) (a : Answer (ℕ × V)) (old new : LineState) (e : RepairError) (P : Type 0) → StopsAnew writes most a old new e → IfUnsynced e P
@@ -195,20 +196,20 @@ none_if None h = refl
 none_if (Some bytes) h = absurd (h bytes refl)
 
 -- what was found, of the bytes that were told at first
-pub found_told : {V : Type 0} (takes : Tree → Type 0) (reads : Tree → V → Type 0) (limit : ℕ) (now held : Option (List ℕ)) (scan later : ClosedScan) (o x : Option (Stretch V)) → now ≡ held → o ≡ x
-    → ((limit : ℕ) (bytes : List ℕ) → now ≡ Some bytes → IsClosing limit bytes scan → FoundClosed takes reads limit bytes scan later o)
-    → (bytes : List ℕ) → held ≡ Some bytes → IsClosing limit bytes scan → FoundClosed takes reads limit bytes scan later x
-found_told takes reads limit now held scan later o x e f found bytes h k = subst (FoundClosed takes reads limit bytes scan later) f (found limit bytes (e ∙ h) k)
+pub found_told : {V : Type 0} (form : WireForm V) (limit : ℕ) (now held : Option (List ℕ)) (scan later : ClosedScan) (o x : Option (Stretch V)) → now ≡ held → o ≡ x
+    → ((limit : ℕ) (bytes : List ℕ) → now ≡ Some bytes → IsClosing limit bytes scan → FoundClosed form limit bytes scan later o)
+    → (bytes : List ℕ) → held ≡ Some bytes → IsClosing limit bytes scan → FoundClosed form limit bytes scan later x
+found_told form limit now held scan later o x e f found bytes h k = subst (FoundClosed form limit bytes scan later) f (found limit bytes (e ∙ h) k)
 
 -- The records behind which a scan stands were appended anew, and are counted.
-pub record RepairedSoFar {V : Type 0} (takes : Tree → Type 0) (writes : V → Option Tree) (limit : ℕ) (held : Option (List ℕ)) (old now : LineState) (repaired : Repaired) (scan : ClosedScan) : Type 0 where
+pub record RepairedSoFar {V : Type 0} (form : WireForm V) (limit : ℕ) (held : Option (List ℕ)) (old now : LineState) (repaired : Repaired) (scan : ClosedScan) : Type 0 where
   pub records : List (ℕ × V)
   pub trees : List Tree
-  pub of : AreTreesOf writes records trees
+  pub of : AreTreesOf form.writes records trees
   pub wrote : Wrote old now (rewritten trees)
   pub records_are : repaired.records ≡ min (length records) (2 ^ 64 - 1)
   pub next_is : repaired.next ≡ behind_greatest (numbers_of records)
-  pub behind : (bytes : List ℕ) → held ≡ Some bytes → ReadsBehind takes limit bytes scan trees
+  pub behind : (bytes : List ℕ) → held ≡ Some bytes → ReadsBehind form.takes limit bytes scan trees
 
 -- a record whose frame stands in front of a buffer went out
 pub went_anew : (m : ℕ) (writes : Option Tree) (n k : ℕ) (b : List ℕ) (old new : LineState) → WrittenWhole (record_of m writes) (λ bytes. (n ≡ length (shortest_frame bytes) + 1) × (take n b ≡ frame_for 0 bytes ++ 0 ∷ []))
@@ -229,9 +230,9 @@ module _ {V : Type 0} (writes : V → Option Tree) (old new : LineState) (repair
   }
 
 -- the steps of a repair
-module _ {V : Type 0} (reads : Tree → V → Type 0) (writes : V → Option Tree) (back : (t : Tree) (v : V) → reads t v → writes v ≡ Some t) (takes : Tree → Type 0) (limit : ℕ) (held : Option (List ℕ)) (old : LineState) where
+module _ {V : Type 0} (form : WireForm V) (back : (t : Tree) (v : V) → form.reads t v → form.writes v ≡ Some t) (limit : ℕ) (held : Option (List ℕ)) (old : LineState) where
   pub repair_begins : (now : LineState) (repaired : Repaired) (scan : ClosedScan) → Wrote old now (0 ∷ []) → repaired.records ≡ 0 → repaired.next ≡ 0
-      → ((bytes : List ℕ) → HasPassedNone limit bytes scan) → RepairedSoFar takes writes limit held old now repaired scan
+      → ((bytes : List ℕ) → HasPassedNone limit bytes scan) → RepairedSoFar form limit held old now repaired scan
   repair_begins now repaired scan w e f begins = record {
     records = [];
     trees = [];
@@ -241,71 +242,71 @@ module _ {V : Type 0} (reads : Tree → V → Type 0) (writes : V → Option Tre
     next_is = f;
     behind = λ bytes h. record {
       closing = (begins bytes).0;
-      to = subst (λ n. ReadsTo takes limit (with_zero bytes) n []) (sym (begins bytes).1) record { answers = []; each = tt; are = refl };
+      to = subst (λ n. ReadsTo form.takes limit (with_zero bytes) n []) (sym (begins bytes).1) record { answers = []; each = tt; are = refl };
     };
   }
 
-  module _ {now : LineState} {repaired : Repaired} {scan : ClosedScan} (h : RepairedSoFar takes writes limit held old now repaired scan) where
-    so_far : IfSome (told_with_zero held) (λ bytes. AreReadFirst takes limit bytes h.trees)
-    so_far = if_with_zero held (λ bytes. AreReadFirst takes limit bytes h.trees) (λ bytes x. some_read takes limit (with_zero bytes) (passed_by bytes scan) h.trees (h.behind bytes x).to)
+  module _ {now : LineState} {repaired : Repaired} {scan : ClosedScan} (h : RepairedSoFar form limit held old now repaired scan) where
+    so_far : IfSome (told_with_zero held) (λ bytes. AreReadFirst form.takes limit bytes h.trees)
+    so_far = if_with_zero held (λ bytes. AreReadFirst form.takes limit bytes h.trees) (λ bytes x. some_read form.takes limit (with_zero bytes) (passed_by bytes scan) h.trees (h.behind bytes x).to)
 
     -- it was broken off between two stretches
-    pub repair_stops : (new : LineState) → new.told ≡ now.told → now.faults ≤ new.faults → IsPartlyRepaired takes limit (told_with_zero held) old new
+    pub repair_stops : (new : LineState) → new.told ≡ now.told → now.faults ≤ new.faults → IsPartlyRepaired form.takes limit (told_with_zero held) old new
     repair_stops new e l = record { trees = h.trees; count = length (rewritten h.trees); read = so_far; wrote = wrote_still old now new _ (all_anew old now now h.trees h.wrote) e l }
 
     -- what was appended is whole
-    whole_to : (new : LineState) → Wrote now new [] → (goes_on : List ℕ → ℕ → Type 0) → ((bytes : List ℕ) → held ≡ Some bytes → goes_on (with_zero bytes) (passed_by bytes scan)) → IsRepairedTo takes limit (told_with_zero held) old new goes_on
+    whole_to : (new : LineState) → Wrote now new [] → (goes_on : List ℕ → ℕ → Type 0) → ((bytes : List ℕ) → held ≡ Some bytes → goes_on (with_zero bytes) (passed_by bytes scan)) → IsRepairedTo form.takes limit (told_with_zero held) old new goes_on
     whole_to new w goes_on f = record {
       trees = h.trees;
-      read = if_with_zero held (λ bytes. (first : AreReadFirst takes limit bytes h.trees) × goes_on bytes first.count) (λ bytes x. (some_read takes limit (with_zero bytes) (passed_by bytes scan) h.trees (h.behind bytes x).to, f bytes x));
+      read = if_with_zero held (λ bytes. (first : AreReadFirst form.takes limit bytes h.trees) × goes_on bytes first.count) (λ bytes x. (some_read form.takes limit (with_zero bytes) (passed_by bytes scan) h.trees (h.behind bytes x).to, f bytes x));
       wrote = subst (Wrote old new) (append-nil (rewritten h.trees)) (Wrote-then _ _ _ _ _ h.wrote w);
     }
 
     -- so it is where the next stretch wasn't read
-    pub repair_unread : (growing : Bool) (later : ClosedScan) (e : ScanError) → (e ≡ NoMemory → growing ≡ true) → (e ≡ NoMemory → (bytes : List ℕ) → held ≡ Some bytes → IsClosing limit bytes scan → LostClosed limit bytes scan later)
-        → StopsWhole takes growing limit (told_with_zero held) old now (Read e)
-    repair_unread growing later Fault grows lost = whole_to now (Wrote-none now) (λ _ _. Unit {0}) (λ _ _. tt)
-    repair_unread growing later NoMemory grows lost = inr (grows refl, whole_to now (Wrote-none now) (LosesNext limit) (λ bytes x. (passed_by bytes later, (lost refl bytes x (h.behind bytes x).closing).1)))
+    pub repair_unread : (later : ClosedScan) (e : ScanError) → (e ≡ NoMemory → form.growing ≡ true) → (e ≡ NoMemory → (bytes : List ℕ) → held ≡ Some bytes → IsClosing limit bytes scan → LostClosed limit bytes scan later)
+        → StopsWhole form limit (told_with_zero held) old now (Read e)
+    repair_unread later Fault grows lost = whole_to now (Wrote-none now) (λ _ _. Unit {0}) (λ _ _. tt)
+    repair_unread later NoMemory grows lost = inr (grows refl, whole_to now (Wrote-none now) (LosesNext limit) (λ bytes x. (passed_by bytes later, (lost refl bytes x (h.behind bytes x).closing).1)))
 
     -- and where a record was refused
-    pub repair_whole : (growing : Bool) (new : LineState) (most : ℕ) (a : Answer (ℕ × V)) (e : RepairError) → StopsAnew writes most a now new e → StopsWhole takes growing limit (told_with_zero held) old new e
-    repair_whole growing new most (Value r) (Refused x) st = whole_to new st.0 (λ _ _. Unit {0}) (λ _ _. tt)
-    repair_whole growing new most (Value r) Line st = tt
-    repair_whole growing new most (Value r) Sync st = tt
-    repair_whole growing new most (Value r) (Read x) st = absurd st
-    repair_whole growing new most Damaged e st = absurd st
-    repair_whole growing new most TooLong e st = absurd st
-    repair_whole growing new most Cut e st = absurd st
+    pub repair_whole : (new : LineState) (most : ℕ) (a : Answer (ℕ × V)) (e : RepairError) → StopsAnew form.writes most a now new e → StopsWhole form limit (told_with_zero held) old new e
+    repair_whole new most (Value r) (Refused x) st = whole_to new st.0 (λ _ _. Unit {0}) (λ _ _. tt)
+    repair_whole new most (Value r) Line st = tt
+    repair_whole new most (Value r) Sync st = tt
+    repair_whole new most (Value r) (Read x) st = absurd st
+    repair_whole new most Damaged e st = absurd st
+    repair_whole new most TooLong e st = absurd st
+    repair_whole new most Cut e st = absurd st
 
     -- all of it was appended
-    pub repair_ends : (later : ClosedScan) (new : LineState) → ((bytes : List ℕ) → held ≡ Some bytes → IsClosing limit bytes scan → FoundClosed {V = V} takes reads limit bytes scan later None) → new.told ≡ now.told → now.faults ≤ new.faults
-        → IsRepaired takes writes limit (told_with_zero held) old new repaired
+    pub repair_ends : (later : ClosedScan) (new : LineState) → ((bytes : List ℕ) → held ≡ Some bytes → IsClosing limit bytes scan → FoundClosed {V = V} form limit bytes scan later None) → new.told ≡ now.told → now.faults ≤ new.faults
+        → IsRepaired form limit (told_with_zero held) old new repaired
     repair_ends later new found e l = record {
       records = h.records;
       trees = h.trees;
       of = h.of;
-      read = if_with_zero held (λ bytes. AreReadIn takes limit bytes h.trees) (λ bytes x. let k = h.behind bytes x in all_read takes limit (with_zero bytes) (passed_by bytes scan) h.trees k.to (found bytes x k.closing).1.1);
+      read = if_with_zero held (λ bytes. AreReadIn form.takes limit bytes h.trees) (λ bytes x. let k = h.behind bytes x in all_read form.takes limit (with_zero bytes) (passed_by bytes scan) h.trees k.to (found bytes x k.closing).1.1);
       wrote = wrote_still old now new (rewritten h.trees) h.wrote e l;
       records_are = h.records_are;
       next_is = h.next_is;
     }
 
     -- one stretch more
-    module _ (later : ClosedScan) (s : Stretch V) (found : (bytes : List ℕ) → held ≡ Some bytes → IsClosing limit bytes scan → FoundClosed takes reads limit bytes scan later (Some s)) where
-      reads_on : (us : List Tree) → AreTreesOf writes (record_read s.answer) us → (bytes : List ℕ) → held ≡ Some bytes → ReadsBehind takes limit bytes later (h.trees ++ us)
+    module _ (later : ClosedScan) (s : Stretch V) (found : (bytes : List ℕ) → held ≡ Some bytes → IsClosing limit bytes scan → FoundClosed form limit bytes scan later (Some s)) where
+      reads_on : (us : List Tree) → AreTreesOf form.writes (record_read s.answer) us → (bytes : List ℕ) → held ≡ Some bytes → ReadsBehind form.takes limit bytes later (h.trees ++ us)
       reads_on us o bytes x =
           let k = h.behind bytes x in
           let f = found bytes x k.closing in
-          record { closing = f.0; to = one_more reads writes back takes limit (with_zero bytes) (passed_by bytes scan) (passed_by bytes later) h.trees us s k.to f.1 o }
+          record { closing = f.0; to = one_more form back limit (with_zero bytes) (passed_by bytes scan) (passed_by bytes later) h.trees us s k.to f.1 o }
 
-      pub repair_goes : (new : LineState) (next : Repaired) → GoesAnew writes s.answer now new repaired next → RepairedSoFar takes writes limit held old new next later
+      pub repair_goes : (new : LineState) (next : Repaired) → GoesAnew form.writes s.answer now new repaired next → RepairedSoFar form limit held old new next later
       repair_goes new next goes =
-          let sizes : length (record_read s.answer) ≡ length goes.trees = sym (AllZip-long (IsTreeOf writes) (record_read s.answer) goes.trees goes.of) in
+          let sizes : length (record_read s.answer) ≡ length goes.trees = sym (AllZip-long (IsTreeOf form.writes) (record_read s.answer) goes.trees goes.of) in
           let all : length (h.records ++ record_read s.answer) ≡ length h.records + length goes.trees = length-append h.records (record_read s.answer) ∙ ap (λ n. length h.records + n) sizes in
           record {
             records = h.records ++ record_read s.answer;
             trees = h.trees ++ goes.trees;
-            of = zip_joined (IsTreeOf writes) h.records (record_read s.answer) h.trees goes.trees h.of goes.of;
+            of = zip_joined (IsTreeOf form.writes) h.records (record_read s.answer) h.trees goes.trees h.of goes.of;
             wrote = more_anew old now new h.trees goes.trees h.wrote goes.wrote;
             records_are = omega (arith, h.records_are, goes.records_are, all);
             next_is = goes.next_is (numbers_of h.records) h.next_is ∙ ap behind_greatest (sym (numbers_joined h.records (record_read s.answer)));
@@ -313,17 +314,17 @@ module _ {V : Type 0} (reads : Tree → V → Type 0) (writes : V → Option Tre
           }
 
       -- it was broken off inside a record, or at one that was refused
-      pub repair_breaks : (new : LineState) (most : ℕ) (e : RepairError) → StopsAnew writes most s.answer now new e → IsPartlyRepaired takes limit (told_with_zero held) old new
+      pub repair_breaks : (new : LineState) (most : ℕ) (e : RepairError) → StopsAnew form.writes most s.answer now new e → IsPartlyRepaired form.takes limit (told_with_zero held) old new
       repair_breaks new most e st = go s.answer refl e st
         where
-          go : (a : Answer (ℕ × V)) → a ≡ s.answer → (e : RepairError) → StopsAnew writes most a now new e → IsPartlyRepaired takes limit (told_with_zero held) old new
+          go : (a : Answer (ℕ × V)) → a ≡ s.answer → (e : RepairError) → StopsAnew form.writes most a now new e → IsPartlyRepaired form.takes limit (told_with_zero held) old new
           go (Value r) q Line st =
               let ts = h.trees ++ numbered r.0 st.value ∷ [] in
               record {
                 trees = ts;
                 count = length (rewritten h.trees) + st.count;
-                read = if_with_zero held (λ bytes. AreReadFirst takes limit bytes ts)
-                    (λ bytes x. some_read takes limit (with_zero bytes) (passed_by bytes later) ts (reads_on (numbered r.0 st.value ∷ []) (subst (λ b. AreTreesOf writes (record_read b) (numbered r.0 st.value ∷ [])) q ((st.value, st.is, refl), tt)) bytes x).to);
+                read = if_with_zero held (λ bytes. AreReadFirst form.takes limit bytes ts)
+                    (λ bytes x. some_read form.takes limit (with_zero bytes) (passed_by bytes later) ts (reads_on (numbered r.0 st.value ∷ []) (subst (λ b. AreTreesOf form.writes (record_read b) (numbered r.0 st.value ∷ [])) q ((st.value, st.is, refl), tt)) bytes x).to);
                 wrote = front_anew old now new h.trees (numbered r.0 st.value) st.count h.wrote st.wrote;
               }
           go (Value r) q (Refused x) st = record {
@@ -339,9 +340,9 @@ module _ {V : Type 0} (reads : Tree → V → Type 0) (writes : V → Option Tre
           go Cut q e st = absurd st
 
       -- no record is refused that was read of bytes that are told
-      pub repair_fits : (new : LineState) (most : ℕ) (e : RepairError) → limit < most + 1 → StopsAnew writes most s.answer now new e → IfRefused e (held ≡ None)
+      pub repair_fits : (new : LineState) (most : ℕ) (e : RepairError) → limit < most + 1 → StopsAnew form.writes most s.answer now new e → IfRefused e (held ≡ None)
       repair_fits new most (Read x) l st = tt
       repair_fits new most (Refused x) l st =
-          none_if held (λ bytes y. never_refused reads writes back takes limit (with_zero bytes) (passed_by bytes scan) (passed_by bytes later) s now new most x l (found bytes y (h.behind bytes y).closing).1 st)
+          none_if held (λ bytes y. never_refused form back limit (with_zero bytes) (passed_by bytes scan) (passed_by bytes later) s now new most x l (found bytes y (h.behind bytes y).closing).1 st)
       repair_fits new most Line l st = tt
       repair_fits new most Sync l st = tt

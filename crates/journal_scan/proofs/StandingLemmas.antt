@@ -7,6 +7,7 @@ use Rattle.std.proofs.Math.Seq.{take-add}
 use Rattle.cobs.specs.Frames.{NoZero, Frame}
 use Rattle.link.specs.declared.decoding.OwnedBuffer.{OwnedBuffer}
 use Rattle.postcard_tree.specs.Tree.{Tree}
+use Rattle.postcard_tree.specs.ReadingLaws.{WireForm}
 use Rattle.link.specs.Stream.{Verdict, value, too_long, Begun, kept, over, begun, ended, unfinished, IsAnswer, HoldsExactly}
 use Rattle.link.specs.Laws.{EndsBetween}
 use Rattle.link.specs.Lemmas.Pieces.{none_unfinished, ended_skip}
@@ -81,11 +82,11 @@ next_begin from at None = from
 next_begin from at (Some s) = at
 
 -- what a push of the bytes that were read says, which leaves these of them
-abbrev pub StandsPushed : {V : Type 0} → (Tree → Type 0) → (Tree → V → Type 0) → ℕ → ℕ → ℕ → ℕ → Reception OwnedBuffer → List ℕ → List ℕ → Result (Option (Answer (ℕ × V))) NoMemory → Type 0
-StandsPushed takes reads limit at from used now left bytes (Ok o) =
+abbrev pub StandsPushed : {V : Type 0} → WireForm V → ℕ → ℕ → ℕ → ℕ → Reception OwnedBuffer → List ℕ → List ℕ → Result (Option (Answer (ℕ × V))) NoMemory → Type 0
+StandsPushed form limit at from used now left bytes (Ok o) =
     ScanStands limit now (at + used) (next_begin from (at + used) (ended_stretch from (at + (used - 1)) o)) (is_past o) left bytes
-    × Found takes reads limit bytes at (at + used) (ended_stretch from (at + (used - 1)) o)
-StandsPushed takes reads limit at from used now left bytes (Err e) = ScanStands limit now (at + used) (at + used) false left bytes × IsLostStretch limit bytes at (at + used)
+    × Found form limit bytes at (at + used) (ended_stretch from (at + (used - 1)) o)
+StandsPushed form limit at from used now left bytes (Err e) = ScanStands limit now (at + used) (at + used) false left bytes × IsLostStretch limit bytes at (at + used)
 
 module _ {limit at from : ℕ} {r : Reception OwnedBuffer} {past : Bool} {unread bytes : List ℕ} (s : ScanStands limit r at from past unread bytes) where
   abbrev stream : List ℕ
@@ -95,9 +96,9 @@ module _ {limit at from : ℕ} {r : Reception OwnedBuffer} {past : Bool} {unread
   u = unfinished 0 (take at bytes)
 
   -- the place of a stretch that a zero ends
-  pub found : {V : Type 0} (holds : List ℕ → Tree → Type 0) (reads : Tree → V → Type 0) (later : List ℕ) (used : ℕ) (answer : Answer V) (v : Verdict) → Matches reads answer v → 0 < used → used ≤ length unread → take used unread ≡ later ++ 0 ∷ []
-      → NoZero (u ++ later) → 0 < length (u ++ later) → IsAnswer holds limit (u ++ later) v → IsNextStretch holds reads limit bytes at (at + used) from (at + (used - 1)) answer
-  found holds reads later used answer v says some l are z more is =
+  pub found : {V : Type 0} (form : WireForm V) (later : List ℕ) (used : ℕ) (answer : Answer (ℕ × V)) (v : Verdict) → Matches (reads_record form.reads) answer v → 0 < used → used ≤ length unread → take used unread ≡ later ++ 0 ∷ []
+      → NoZero (u ++ later) → 0 < length (u ++ later) → IsAnswer (HoldsExactly (takes_record form.takes)) limit (u ++ later) v → IsNextStretch form limit bytes at (at + used) (record { from = from; to = at + (used - 1); answer = answer })
+  found form later used answer v says some l are z more is =
       let m = moved at used unread s.rest bytes s.within s.unread_is l in
       let k = behind_of stream (take used unread) in
       let all : u ++ take used unread ≡ (u ++ later) ++ 0 ∷ [] = ap (λ x. u ++ x) are ∙ sym (append_assoc u later (0 ∷ [])) in
@@ -210,10 +211,10 @@ module _ {limit at from : ℕ} {r : Reception OwnedBuffer} {past : Bool} {unread
   own = same_behind limit r stream u (ap (begun_by limit) (sym (alone_unfinished u nonzero))) s.behind
 
   -- what a push of the bytes that were read says
-  module _ {V : Type 0} (takes : Tree → Type 0) (reads : Tree → V → Type 0) (used : ℕ) (now : Reception OwnedBuffer) (fresh : past ≡ false) (first : from ≡ at → (later : List ℕ) → unread ≡ 0 ∷ later → ⊥)
+  module _ {V : Type 0} (form : WireForm V) (used : ℕ) (now : Reception OwnedBuffer) (fresh : past ≡ false) (first : from ≡ at → (later : List ℕ) → unread ≡ 0 ∷ later → ⊥)
       (some : 0 < used) (l : used ≤ length unread) (stands : (stream : List ℕ) → IsBehind in_owner limit 0 r stream → IsBehind in_owner limit 0 now (stream ++ take used unread)) where
     abbrev holds : List ℕ → Tree → Type 0
-    holds = HoldsExactly (takes_record takes)
+    holds = HoldsExactly (takes_record form.takes)
 
     fits : nat_lt limit (length u) ≡ false
     fits = sym s.past_is ∙ fresh
@@ -224,23 +225,23 @@ module _ {limit at from : ℕ} {r : Reception OwnedBuffer} {past : Bool} {unread
     later_behind : IsBehind in_owner limit 0 now (take (at + used) bytes)
     later_behind = subst (IsBehind in_owner limit 0 now) (sym (moved at used unread s.rest bytes s.within s.unread_is l).taken) (stands stream s.behind)
 
-    pushed_none : Answered {V = ℕ × V} holds (reads_record reads) limit 0 u unread used (Ok None) → ScanStands limit now (at + used) from false (drop used unread) bytes × (ended 0 (take (at + used) bytes) ≡ ended 0 (take at bytes))
+    pushed_none : Answered {V = ℕ × V} holds (reads_record form.reads) limit 0 u unread used (Ok None) → ScanStands limit now (at + used) from false (drop used unread) bytes × (ended 0 (take (at + used) bytes) ≡ ended 0 (take at bytes))
     pushed_none (a, e, p) =
         let k = push_quiet holds limit u unread used nonzero fits first_byte (subst (IsPush holds limit 0 u unread used) e p) in
         stands_on used now false l k.0 k.1 later_behind
 
-    pushed_over : Answered {V = ℕ × V} holds (reads_record reads) limit 0 u unread used (Ok (Some TooLong)) → ScanStands limit now (at + used) from true (drop used unread) bytes × (ended 0 (take (at + used) bytes) ≡ ended 0 (take at bytes))
+    pushed_over : Answered {V = ℕ × V} holds (reads_record form.reads) limit 0 u unread used (Ok (Some TooLong)) → ScanStands limit now (at + used) from true (drop used unread) bytes × (ended 0 (take (at + used) bytes) ≡ ended 0 (take at bytes))
     pushed_over (a, says, p) = elim (push_answer holds limit u unread used nonzero fits first_byte says.0 some l (subst (IsPush holds limit 0 u unread used) says.2 p)) [
       | inl e ↦ absurd (omega (arith, ltb-false limit (length (u ++ take (used - 1) unread)) e.fits, subst (IsAnswer holds limit (u ++ take (used - 1) unread)) says.1 e.is))
       | inr e ↦ stands_on used now true l e.nonzero e.long later_behind
     ]
 
-    pushed_found : (x : Answer (ℕ × V)) → ((y : Verdict) → Matches (reads_record reads) x y → y ≡ too_long → ⊥) → Answered holds (reads_record reads) limit 0 u unread used (Ok (Some x))
-        → ScanStands limit now (at + used) (at + used) false (drop used unread) bytes × IsNextStretch holds (reads_record reads) limit bytes at (at + used) from (at + (used - 1)) x
+    pushed_found : (x : Answer (ℕ × V)) → ((y : Verdict) → Matches (reads_record form.reads) x y → y ≡ too_long → ⊥) → Answered holds (reads_record form.reads) limit 0 u unread used (Ok (Some x))
+        → ScanStands limit now (at + used) (at + used) false (drop used unread) bytes × IsNextStretch form limit bytes at (at + used) (record { from = from; to = at + (used - 1); answer = x })
     pushed_found x other (a, says, p) = elim (push_answer holds limit u unread used nonzero fits first_byte says.0 some l (subst (IsPush holds limit 0 u unread used) says.2 p)) [
       | inl e ↦ (
         stands_found (take (used - 1) unread) used now l e.are e.nonzero (λ _. later_behind),
-        found holds (reads_record reads) (take (used - 1) unread) used x says.0 says.1 some l e.are e.nonzero e.some e.is,
+        found form (take (used - 1) unread) used x says.0 says.1 some l e.are e.nonzero e.some e.is,
       )
       | inr e ↦ absurd (other says.0 says.1 e.is)
     ]
@@ -258,8 +259,8 @@ module _ {limit at from : ℕ} {r : Reception OwnedBuffer} {past : Bool} {unread
         )
 
     -- all of it
-    pub pushed : (result : Result (Option (Answer (ℕ × V))) NoMemory) → ((stream : List ℕ) → IsBehind in_owner limit 0 r stream → Answered holds (reads_record reads) limit 0 stream unread used result)
-        → StandsPushed takes reads limit at from used now (drop used unread) bytes result
+    pub pushed : (result : Result (Option (Answer (ℕ × V))) NoMemory) → ((stream : List ℕ) → IsBehind in_owner limit 0 r stream → Answered holds (reads_record form.reads) limit 0 stream unread used result)
+        → StandsPushed form limit at from used now (drop used unread) bytes result
     pushed (Ok None) h = pushed_none (h u own)
     pushed (Ok (Some TooLong)) h = pushed_over (h u own)
     pushed (Ok (Some (Value v))) h = pushed_found (Value v) (λ y m e. let same : value m.0 ≡ too_long = sym m.2 ∙ e in cc) (h u own)
@@ -283,8 +284,8 @@ module _ {limit at from : ℕ} {r : Reception OwnedBuffer} {past : Bool} {unread
       (subst (λ x. ScanStands limit r (at + 1) from past x bytes) (ap (drop 1) z) (subst (λ c. ScanStands limit r (at + 1) from c (drop 1 unread) bytes) (sym e) t.0), t.1)
 
   -- the place of a stretch that is too long
-  pub passed_found : {V : Type 0} (rule : List ℕ → Tree → Type 0) (reads : Tree → V → Type 0) (later : List ℕ) → past ≡ true → unread ≡ 0 ∷ later → IsNextStretch rule reads limit bytes at (at + 1) from at TooLong
-  passed_found rule reads later e z =
+  pub passed_found : {V : Type 0} (form : WireForm V) (later : List ℕ) → past ≡ true → unread ≡ 0 ∷ later → IsNextStretch form limit bytes at (at + 1) (record { from = from; to = at; answer = TooLong })
+  passed_found form later e z =
       let zero_more : at + (1 - 1) ≡ at = omega arith in
       let k = behind_of stream [] in
       let within : 1 ≤ length unread = omega (arith, ap length z) in
@@ -292,45 +293,45 @@ module _ {limit at from : ℕ} {r : Reception OwnedBuffer} {past : Bool} {unread
       let are : take 1 unread ≡ [] ++ 0 ∷ [] = ap (take 1) z in
       let n : NoZero (u ++ []) = subst NoZero (sym (append-nil u)) k.nonzero in
       let size : length (u ++ []) ≡ length u = ap length (append-nil u) in
-      let f = found rule reads [] 1 TooLong too_long refl (omega arith) within are n (omega (arith, size, long)) (omega (arith, size, long)) in
-      subst (λ to. IsNextStretch rule reads limit bytes at (at + 1) from to TooLong) zero_more f
+      let f = found form [] 1 TooLong too_long refl (omega arith) within are n (omega (arith, size, long)) (omega (arith, size, long)) in
+      subst (λ to. IsNextStretch form limit bytes at (at + 1) (record { from = from; to = to; answer = TooLong })) zero_more f
 
   -- and the zero that ends it
-  pub stands_passed : {V : Type 0} (rule : List ℕ → Tree → Type 0) (reads : Tree → V → Type 0) (now : Reception OwnedBuffer) (later : List ℕ) → past ≡ true → unread ≡ 0 ∷ later → IsBehind in_owner limit 0 now []
-      → ScanStands limit now (at + 1) (at + 1) false later bytes × IsNextStretch rule reads limit bytes at (at + 1) from at TooLong
-  stands_passed rule reads now later e z h =
+  pub stands_passed : {V : Type 0} (form : WireForm V) (now : Reception OwnedBuffer) (later : List ℕ) → past ≡ true → unread ≡ 0 ∷ later → IsBehind in_owner limit 0 now []
+      → ScanStands limit now (at + 1) (at + 1) false later bytes × IsNextStretch form limit bytes at (at + 1) (record { from = from; to = at; answer = TooLong })
+  stands_passed form now later e z h =
       let n : NoZero (u ++ []) = subst NoZero (sym (append-nil u)) (behind_of stream []).nonzero in
       let t = stands_found [] 1 now (omega (arith, ap length z)) (ap (take 1) z) n (λ g. same_behind limit now [] (take (at + 1) bytes) (ap (λ c. if c then over else kept []) (lt_zero limit) ∙ sym g) h) in
-      (subst (λ x. ScanStands limit now (at + 1) (at + 1) false x bytes) (ap (drop 1) z) t, passed_found rule reads later e z)
+      (subst (λ x. ScanStands limit now (at + 1) (at + 1) false x bytes) (ap (drop 1) z) t, passed_found form later e z)
 
 -- of a piece that is what was read; what is left of it stands behind the bytes that were used
-pub stands_later : {V : Type 0} (takes : Tree → Type 0) (reads : Tree → V → Type 0) (room : List ℕ) (start used : ℕ) (now : Reception OwnedBuffer) {limit at from : ℕ} {past : Bool} {bytes : List ℕ} {r : Reception OwnedBuffer} → ScanStands limit r at from past (drop start room) bytes → past ≡ false
+pub stands_later : {V : Type 0} (form : WireForm V) (room : List ℕ) (start used : ℕ) (now : Reception OwnedBuffer) {limit at from : ℕ} {past : Bool} {bytes : List ℕ} {r : Reception OwnedBuffer} → ScanStands limit r at from past (drop start room) bytes → past ≡ false
     → (from ≡ at → (later : List ℕ) → drop start room ≡ 0 ∷ later → ⊥) → (piece : List ℕ) → piece ≡ drop start room → 0 < used → used ≤ length piece
     → ((stream : List ℕ) → IsBehind in_owner limit 0 r stream → IsBehind in_owner limit 0 now (stream ++ take used piece))
-    → (result : Result (Option (Answer (ℕ × V))) NoMemory) → ((stream : List ℕ) → IsBehind in_owner limit 0 r stream → Answered (HoldsExactly (takes_record takes)) (reads_record reads) limit 0 stream piece used result)
-    → (outcome : Result (Option (Answer (ℕ × V))) NoMemory) → result ≡ outcome → StandsPushed takes reads limit at from used now (drop (start + used) room) bytes outcome
-stands_later takes reads room start used now {limit} {at} {from} {past} {bytes} {r} s fresh first piece same some l stands result answers outcome e =
+    → (result : Result (Option (Answer (ℕ × V))) NoMemory) → ((stream : List ℕ) → IsBehind in_owner limit 0 r stream → Answered (HoldsExactly (takes_record form.takes)) (reads_record form.reads) limit 0 stream piece used result)
+    → (outcome : Result (Option (Answer (ℕ × V))) NoMemory) → result ≡ outcome → StandsPushed form limit at from used now (drop (start + used) room) bytes outcome
+stands_later form room start used now {limit} {at} {from} {past} {bytes} {r} s fresh first piece same some l stands result answers outcome e =
     let here = subst (λ p. ScanStands limit r at from past p bytes) (sym same) s in
     let begins = subst (λ p. from ≡ at → (later : List ℕ) → p ≡ 0 ∷ later → ⊥) (sym same) first in
-    subst (StandsPushed takes reads limit at from used now (drop (start + used) room) bytes) e
-    (subst (λ left. StandsPushed takes reads limit at from used now left bytes result) (ap (drop used) same ∙ drop-drop used start room) (pushed here takes reads used now fresh begins some l stands result answers))
+    subst (StandsPushed form limit at from used now (drop (start + used) room) bytes) e
+    (subst (λ left. StandsPushed form limit at from used now left bytes result) (ap (drop used) same ∙ drop-drop used start room) (pushed here form used now fresh begins some l stands result answers))
 
 -- the same by what was found, and whether the stretch is too long
-pub stands_by : {V : Type 0} (takes : Tree → Type 0) (reads : Tree → V → Type 0) (limit at from used : ℕ) (now : Reception OwnedBuffer) (left bytes : List ℕ) (o : Option (Answer (ℕ × V))) (past : Bool) (x : Option (Stretch V)) → past ≡ is_past o → ended_stretch from (at + (used - 1)) o ≡ x
-    → StandsPushed takes reads limit at from used now left bytes (Ok o) → ScanStands limit now (at + used) (next_begin from (at + used) x) past left bytes × Found takes reads limit bytes at (at + used) x
-stands_by takes reads limit at from used now left bytes o past x e f h =
-    subst (λ y. ScanStands limit now (at + used) (next_begin from (at + used) y) past left bytes × Found takes reads limit bytes at (at + used) y) f
-    (subst (λ b. ScanStands limit now (at + used) (next_begin from (at + used) (ended_stretch from (at + (used - 1)) o)) b left bytes × Found takes reads limit bytes at (at + used) (ended_stretch from (at + (used - 1)) o)) (sym e) h)
+pub stands_by : {V : Type 0} (form : WireForm V) (limit at from used : ℕ) (now : Reception OwnedBuffer) (left bytes : List ℕ) (o : Option (Answer (ℕ × V))) (past : Bool) (x : Option (Stretch V)) → past ≡ is_past o → ended_stretch from (at + (used - 1)) o ≡ x
+    → StandsPushed form limit at from used now left bytes (Ok o) → ScanStands limit now (at + used) (next_begin from (at + used) x) past left bytes × Found form limit bytes at (at + used) x
+stands_by form limit at from used now left bytes o past x e f h =
+    subst (λ y. ScanStands limit now (at + used) (next_begin from (at + used) y) past left bytes × Found form limit bytes at (at + used) y) f
+    (subst (λ b. ScanStands limit now (at + used) (next_begin from (at + used) (ended_stretch from (at + (used - 1)) o)) b left bytes × Found form limit bytes at (at + used) (ended_stretch from (at + (used - 1)) o)) (sym e) h)
 
 -- from an offset before which no more stretch ends
-pub next_from : {V : Type 0} {holds : List ℕ → Tree → Type 0} {reads : Tree → V → Type 0} {limit first old new from to : ℕ} {bytes : List ℕ} {answer : Answer V} → ended 0 (take old bytes) ≡ ended 0 (take first bytes)
-    → IsNextStretch holds reads limit bytes old new from to answer → IsNextStretch holds reads limit bytes first new from to answer
+pub next_from : {V : Type 0} {form : WireForm V} {limit first old new : ℕ} {bytes : List ℕ} {s : Stretch V} → ended 0 (take old bytes) ≡ ended 0 (take first bytes)
+    → IsNextStretch form limit bytes old new s → IsNextStretch form limit bytes first new s
 next_from e n = record { stretch = n.stretch; is = n.is; behind = n.behind; next = n.next ∙ ap (λ x. x ++ n.stretch ∷ []) e }
 
-module _ {V : Type 0} (takes : Tree → Type 0) (reads : Tree → V → Type 0) (limit : ℕ) (bytes : List ℕ) (first old new : ℕ) where
-  pub found_from : (o x : Option (Stretch V)) → o ≡ x → ended 0 (take old bytes) ≡ ended 0 (take first bytes) → Found takes reads limit bytes old new o → Found takes reads limit bytes first new x
-  found_from o None is e f = subst (Found takes reads limit bytes old new) is f ∙ e
-  found_from o (Some s) is e f = next_from e (subst (Found takes reads limit bytes old new) is f)
+module _ {V : Type 0} (form : WireForm V) (limit : ℕ) (bytes : List ℕ) (first old new : ℕ) where
+  pub found_from : (o x : Option (Stretch V)) → o ≡ x → ended 0 (take old bytes) ≡ ended 0 (take first bytes) → Found form limit bytes old new o → Found form limit bytes first new x
+  found_from o None is e f = subst (Found form limit bytes old new) is f ∙ e
+  found_from o (Some s) is e f = next_from e (subst (Found form limit bytes old new) is f)
 
 -- the same of a stretch whose value was lost
 pub lost_from : {limit first old new : ℕ} {bytes : List ℕ} → ended 0 (take old bytes) ≡ ended 0 (take first bytes) → IsLostStretch limit bytes old new → IsLostStretch limit bytes first new
@@ -355,38 +356,38 @@ stands_before_zero {at = at} {bytes = bytes} s end =
     stands_read (0 ∷ []) [] (stands_longer bytes (0 ∷ []) s) (drop-append-le at bytes (0 ∷ []) s.within ∙ ap (λ x. x ++ 0 ∷ []) (drop_all at bytes (omega (arith, end))))
 
 -- what a zero behind a log says of what a scan at its end stands in
-module _ {V : Type 0} (takes : Tree → Type 0) (reads : Tree → V → Type 0) {limit at from : ℕ} {r : Reception OwnedBuffer} {past : Bool} {unread bytes : List ℕ} (s : ScanStands limit r at from past unread bytes) (end : at ≡ length bytes) where
+module _ {V : Type 0} (form : WireForm V) {limit at from : ℕ} {r : Reception OwnedBuffer} {past : Bool} {unread bytes : List ℕ} (s : ScanStands limit r at from past unread bytes) (end : at ≡ length bytes) where
   abbrev holds_at_end : List ℕ → Tree → Type 0
-  holds_at_end = HoldsExactly (takes_record takes)
+  holds_at_end = HoldsExactly (takes_record form.takes)
 
-  last_is : (o : Option (Stretch V)) → Found takes reads limit (with_zero bytes) at (at + 1) o → FoundLast takes reads limit bytes o
-  last_is o f = subst (λ n. Found takes reads limit (with_zero bytes) n (n + 1) o) end f
+  last_is : (o : Option (Stretch V)) → Found form limit (with_zero bytes) at (at + 1) o → FoundLast form limit bytes o
+  last_is o f = subst (λ n. Found form limit (with_zero bytes) n (n + 1) o) end f
 
   -- no stretch is begun there
-  pub last_none : from ≡ at → FoundLast takes reads limit bytes None
+  pub last_none : from ≡ at → FoundLast form limit bytes None
   last_none e = last_is None (stands_zero (stands_before_zero s end) [] e refl).1
 
   -- one is that is too long
-  pub last_over : past ≡ true → FoundLast takes reads limit bytes (Some (record { from = from; to = at; answer = TooLong }))
-  last_over e = last_is (Some (record { from = from; to = at; answer = TooLong })) (passed_found (stands_before_zero s end) holds_at_end (reads_record reads) [] e refl)
+  pub last_over : past ≡ true → FoundLast form limit bytes (Some (record { from = from; to = at; answer = TooLong }))
+  last_over e = last_is (Some (record { from = from; to = at; answer = TooLong })) (passed_found (stands_before_zero s end) form [] e refl)
 
   -- one is that the receiver answers
   pub pushed_last : (used : ℕ) (now : Reception OwnedBuffer) → past ≡ false → (from ≡ at → ⊥) → 0 < used → used ≤ 1 → ((stream : List ℕ) → IsBehind in_owner limit 0 r stream → IsBehind in_owner limit 0 now (stream ++ take used (0 ∷ [])))
-      → (result : Result (Option (Answer (ℕ × V))) NoMemory) → ((stream : List ℕ) → IsBehind in_owner limit 0 r stream → Answered holds_at_end (reads_record reads) limit 0 stream (0 ∷ []) used result) → (o : Option (Answer (ℕ × V))) → result ≡ Ok o
-      → FoundLast takes reads limit bytes (ended_stretch from at o)
+      → (result : Result (Option (Answer (ℕ × V))) NoMemory) → ((stream : List ℕ) → IsBehind in_owner limit 0 r stream → Answered holds_at_end (reads_record form.reads) limit 0 stream (0 ∷ []) used result) → (o : Option (Answer (ℕ × V))) → result ≡ Ok o
+      → FoundLast form limit bytes (ended_stretch from at o)
   pushed_last used now fresh begun_there some l stands result answers o e =
-      let h = pushed (stands_before_zero s end) takes reads used now fresh (λ e later same. begun_there e) some l stands result answers in
-      let found = (subst (StandsPushed takes reads limit at from used now (drop used (0 ∷ [])) (with_zero bytes)) e h).1 in
+      let h = pushed (stands_before_zero s end) form used now fresh (λ e later same. begun_there e) some l stands result answers in
+      let found = (subst (StandsPushed form limit at from used now (drop used (0 ∷ [])) (with_zero bytes)) e h).1 in
       let one : used ≡ 1 = omega (arith, some, l) in
       let back : at + (1 - 1) ≡ at = omega arith in
-      last_is (ended_stretch from at o) (subst (λ to. Found takes reads limit (with_zero bytes) at (at + 1) (ended_stretch from to o)) back (subst (λ n. Found takes reads limit (with_zero bytes) at (at + n) (ended_stretch from (at + (n - 1)) o)) one found))
+      last_is (ended_stretch from at o) (subst (λ to. Found form limit (with_zero bytes) at (at + 1) (ended_stretch from to o)) back (subst (λ n. Found form limit (with_zero bytes) at (at + n) (ended_stretch from (at + (n - 1)) o)) one found))
 
   -- one is whose value was lost
   pub lost_last : (used : ℕ) (now : Reception OwnedBuffer) → past ≡ false → (from ≡ at → ⊥) → 0 < used → used ≤ 1 → ((stream : List ℕ) → IsBehind in_owner limit 0 r stream → IsBehind in_owner limit 0 now (stream ++ take used (0 ∷ [])))
-      → (result : Result (Option (Answer (ℕ × V))) NoMemory) → ((stream : List ℕ) → IsBehind in_owner limit 0 r stream → Answered holds_at_end (reads_record reads) limit 0 stream (0 ∷ []) used result) → (e : NoMemory) → result ≡ Err e
+      → (result : Result (Option (Answer (ℕ × V))) NoMemory) → ((stream : List ℕ) → IsBehind in_owner limit 0 r stream → Answered holds_at_end (reads_record form.reads) limit 0 stream (0 ∷ []) used result) → (e : NoMemory) → result ≡ Err e
       → IsLostLast limit bytes
   lost_last used now fresh begun_there some l stands result answers e is =
-      let h = pushed (stands_before_zero s end) takes reads used now fresh (λ e later same. begun_there e) some l stands result answers in
-      let lost = (subst (StandsPushed takes reads limit at from used now (drop used (0 ∷ [])) (with_zero bytes)) is h).1 in
+      let h = pushed (stands_before_zero s end) form used now fresh (λ e later same. begun_there e) some l stands result answers in
+      let lost = (subst (StandsPushed form limit at from used now (drop used (0 ∷ [])) (with_zero bytes)) is h).1 in
       let one : used ≡ 1 = omega (arith, some, l) in
       subst (λ n. IsLostStretch limit (with_zero bytes) n (n + 1)) end (subst (λ n. IsLostStretch limit (with_zero bytes) at (at + n)) one lost)

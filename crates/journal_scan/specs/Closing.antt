@@ -1,7 +1,7 @@
 -- Where a scan of a log with a zero after it stands, and what it finds.
 use Rattle.std.specs.Prelude.{◌≡◌, ℕ, ◌+◌, ◌-◌, ◌^◌, Bool, true, false, List, length, Option}
 use Rattle.std.specs.Prelude.{if◌then◌else◌}
-use Rattle.postcard_tree.specs.Tree.{Tree}
+use Rattle.postcard_tree.specs.ReadingLaws.{WireForm}
 use Rattle.journal_scan.specs.declared.scanning.Stretch.{Stretch}
 use Rattle.journal_scan.specs.declared.closing.ClosedScan.{ClosedScan}
 use Rattle.journal_scan.specs.Scanning.{IsScanning, FoundAll, IsLostStretch, offset_of, with_zero}
@@ -24,10 +24,10 @@ abbrev pub HasPassedNone : ℕ → List ℕ → ClosedScan → Type 0
 HasPassedNone limit bytes scan = IsClosing limit bytes scan × (passed_by bytes scan ≡ 0)
 
 -- what is next in a log with a zero after it: a stretch, or no further one ends
-abbrev pub FoundClosed : {V : Type 0} → (Tree → Type 0) → (Tree → V → Type 0) → ℕ → List ℕ
+abbrev pub FoundClosed : {V : Type 0} → WireForm V → ℕ → List ℕ
     → ClosedScan → ClosedScan → Option (Stretch V) → Type 0
-FoundClosed takes reads limit bytes old new o = IsClosing limit bytes new
-    × FoundAll takes reads limit (with_zero bytes) (passed_by bytes old) (passed_by bytes new) o
+FoundClosed form limit bytes old new o = IsClosing limit bytes new
+    × FoundAll form limit (with_zero bytes) (passed_by bytes old) (passed_by bytes new) o
 
 -- one stretch was passed in a log with a zero after it, whose value was lost
 abbrev pub LostClosed : ℕ → List ℕ → ClosedScan → ClosedScan → Type 0

@@ -1,11 +1,10 @@
 -- What opening a log by the records that count is.
-use Rattle.std.specs.Prelude.{◌≡◌, ℕ, Bool, false, List, [], ◌∷◌}
+use Rattle.std.specs.Prelude.{◌≡◌, ℕ, false, List, [], ◌∷◌}
 use Rattle.line_io.specs.Device.{LineState, Wrote}
-use Rattle.postcard_tree.specs.Tree.{Tree}
+use Rattle.postcard_tree.specs.ReadingLaws.{WireForm}
 use Rattle.journal.specs.Store.{Settles}
-use Rattle.journal_scan.specs.Checks.{IsChecked}
+use Rattle.journal_scan.specs.Checks.{Watched, IsChecked}
 use Rattle.journal_scan.specs.Tallies.{IsTally, behind_greatest}
-use Rattle.journal_scan.specs.declared.scanning.Stretch.{Stretch}
 use Rattle.journal_scan.specs.declared.checking.Report.{Report}
 use Rattle.journal.specs.Appending.{LogPlace}
 use Rattle.journal.specs.declared.reading.ReadError.{ReadError}
@@ -16,10 +15,8 @@ use Rattle.journal_scan.specs.declared.checking.CheckError.TheVariants.{Read, Ha
 
 -- A log was opened: a zero was put after what the store held; all of that survives any crash; the watcher received all its stretches;
 -- and the next number is the one after the greatest of the records that count.
-pub record IsOpenedBy {V W : Type 0}
-    (told : W → List (Stretch V) → W → Type 0) (counted : ℕ → V → Bool)
-    (takes : Tree → Type 0) (reads : Tree → V → Type 0) (limit : ℕ)
-    (old : LineState) (log : LogPlace) (watcher later : W) (report : Report V) : Type 0 where
+pub record IsOpenedBy {V W : Type 0} (form : WireForm V) (limit : ℕ) (watch : Watched W V)
+    (old : LineState) (log : LogPlace) (report : Report V) : Type 0 where
   -- the store has grown by exactly a zero
   pub wrote : Wrote old log.line (0 ∷ [])
   -- no call of the store was a fault
@@ -27,8 +24,7 @@ pub record IsOpenedBy {V W : Type 0}
   -- all that it holds survives any crash
   pub settles : Settles log.line.told log.settled
   -- the log was checked
-  pub checked : IsChecked told counted takes reads limit log.line.told watcher later
-      report.tally report.unfinished
+  pub checked : IsChecked form limit watch log.line.told report
   -- the next number follows the greatest of the records that count
   pub next_is : (numbers : List ℕ) → IsTally numbers report.tally
       → log.next ≡ behind_greatest numbers

@@ -5,6 +5,7 @@ use Rattle.std.specs.List.{AllZip}
 use Rattle.cobs.specs.Frames.{shortest_frame}
 use Rattle.line_io.specs.Device.{LineState, Wrote}
 use Rattle.postcard_tree.specs.Tree.{Tree}
+use Rattle.postcard_tree.specs.ReadingLaws.{WireForm}
 use Rattle.postcard.specs.Written.{UnlessRefused}
 use Rattle.link.specs.Stream.{Verdict, HoldsExactly, Given, Answers}
 use Rattle.link.specs.Run.{completed, sent, session_line}
@@ -68,17 +69,16 @@ pub record AreReadFirst (takes : Tree → Type 0) (limit : ℕ) (bytes : List �
 
 -- A log was repaired: all records that are read of it were appended anew, after a zero; so many they are, and this is the number
 -- after the greatest of theirs.
-pub record IsRepaired {V : Type 0} (takes : Tree → Type 0) (writes : V → Option Tree)
-    (limit : ℕ) (held : Option (List ℕ)) (old new : LineState)
+pub record IsRepaired {V : Type 0} (form : WireForm V) (limit : ℕ) (held : Option (List ℕ)) (old new : LineState)
     (repaired : Repaired) : Type 0 where
   -- the records that were appended
   pub records : List (ℕ × V)
   -- their trees
   pub trees : List Tree
   -- each record has its tree
-  pub of : AreTreesOf writes records trees
+  pub of : AreTreesOf form.writes records trees
   -- they are all records that are read of the log
-  pub read : IfSome held (λ bytes. AreReadIn takes limit bytes trees)
+  pub read : IfSome held (λ bytes. AreReadIn form.takes limit bytes trees)
   -- the destination has grown by exactly a zero and these records
   pub wrote : Wrote old new (rewritten trees)
   -- how many they are, at most 2^64 - 1
@@ -111,16 +111,16 @@ pub record IsRepairedTo (takes : Tree → Type 0) (limit : ℕ)
 
 -- What was appended before reading the log, or a record, stopped a repair: whole records. If a value was lost, they are all that are
 -- read before it; if a buffer could not be allocated, nothing was appended.
-abbrev pub StopsWhole : (Tree → Type 0) → Bool → ℕ → Option (List ℕ)
+abbrev pub StopsWhole : {V : Type 0} → WireForm V → ℕ → Option (List ℕ)
     → LineState → LineState → RepairError → Type 0
-StopsWhole takes growing limit held old new (Read Fault) =
-    IsRepairedTo takes limit held old new (λ _ _. Unit {0})
-StopsWhole takes growing limit held old new (Read NoMemory) = Wrote old new []
-    ⊎ ((growing ≡ true) × IsRepairedTo takes limit held old new (LosesNext limit))
-StopsWhole takes growing limit held old new (Refused e) =
-    IsRepairedTo takes limit held old new (λ _ _. Unit {0})
-StopsWhole takes growing limit held old new Line = Unit {0}
-StopsWhole takes growing limit held old new Sync = Unit {0}
+StopsWhole form limit held old new (Read Fault) =
+    IsRepairedTo form.takes limit held old new (λ _ _. Unit {0})
+StopsWhole form limit held old new (Read NoMemory) = Wrote old new []
+    ⊎ ((form.growing ≡ true) × IsRepairedTo form.takes limit held old new (LosesNext limit))
+StopsWhole form limit held old new (Refused e) =
+    IsRepairedTo form.takes limit held old new (λ _ _. Unit {0})
+StopsWhole form limit held old new Line = Unit {0}
+StopsWhole form limit held old new Sync = Unit {0}
 
 -- the record that a result is, if it is one
 abbrev pub record_read : {V : Type 0} → Answer (ℕ × V) → List (ℕ × V)

@@ -3,6 +3,7 @@ use Rattle.std.specs.Prelude.{◌≡◌, ℕ, ◌+◌, ◌<◌, ◌≤◌, nat_l
 use Rattle.cobs.specs.Frames.{NoZero, Frame}
 use Rattle.link.specs.declared.decoding.OwnedBuffer.{OwnedBuffer}
 use Rattle.postcard_tree.specs.Tree.{Tree}
+use Rattle.postcard_tree.specs.ReadingLaws.{WireForm}
 use Rattle.link.specs.Stream.{Verdict, ended, unfinished, IsAnswer, HoldsExactly}
 use Rattle.link.specs.Laws.{EndsBetween}
 use Rattle.link.specs.Pushes.{Matches}
@@ -16,9 +17,9 @@ use Rattle.journal_scan.specs.declared.scanning.Scan.{Scan}
 use Rattle.journal_scan.specs.declared.scanning.ScanError.{ScanError}
 use Rattle.journal_scan.specs.declared.scanning.Stretch.{Stretch}
 
--- The bytes from..to of a log are this stretch; it stands after a zero or at the front, a zero stands after it, and this is the
--- answer to it.
-pub record IsStretchAt {V : Type 0} (holds : List ℕ → Tree → Type 0) (reads : Tree → V → Type 0) (limit : ℕ) (bytes stretch : List ℕ) (from to : ℕ) (answer : Answer V) : Type 0 where
+-- These bytes of a log are this stretch, from..to; it stands after a zero or at the front, a zero stands after it, and its result is
+-- right, strictly.
+pub record IsStretchAt {V : Type 0} (form : WireForm V) (limit : ℕ) (bytes stretch : List ℕ) (s : Stretch V) : Type 0 where
   -- the bytes before the stretch
   pub front : List ℕ
   -- the bytes after its zero
@@ -26,9 +27,9 @@ pub record IsStretchAt {V : Type 0} (holds : List ℕ → Tree → Type 0) (read
   -- the log is these, with the stretch and its zero between
   pub bytes_are : bytes ≡ front ++ (stretch ++ (0 ∷ rest))
   -- where the stretch begins
-  pub from_is : length front ≡ from
+  pub from_is : length front ≡ s.from
   -- where it ends
-  pub to_is : from + length stretch ≡ to
+  pub to_is : s.from + length stretch ≡ s.to
   -- a zero precedes it, or the start of the log
   pub between : EndsBetween 0 front
   -- no byte of it is a zero
@@ -38,18 +39,18 @@ pub record IsStretchAt {V : Type 0} (holds : List ℕ → Tree → Type 0) (read
   -- its result as a tree
   pub verdict : Verdict
   -- the result is read from that tree
-  pub says : Matches reads answer verdict
+  pub says : Matches (reads_record form.reads) s.answer verdict
   -- that is the result of the stretch
-  pub is : IsAnswer holds limit stretch verdict
+  pub is : IsAnswer (HoldsExactly (takes_record form.takes)) limit stretch verdict
 
 -- Between an offset and a later one the stretches that end are this one alone.
-pub record IsNextStretch {V : Type 0} (holds : List ℕ → Tree → Type 0) (reads : Tree → V → Type 0) (limit : ℕ) (bytes : List ℕ) (old new from to : ℕ) (answer : Answer V) : Type 0 where
+pub record IsNextStretch {V : Type 0} (form : WireForm V) (limit : ℕ) (bytes : List ℕ) (old new : ℕ) (s : Stretch V) : Type 0 where
   -- its bytes
   pub stretch : List ℕ
   -- they are this stretch of the log
-  pub is : IsStretchAt holds reads limit bytes stretch from to answer
+  pub is : IsStretchAt form limit bytes stretch s
   -- the scan is after its zero
-  pub behind : new ≡ to + 1
+  pub behind : new ≡ s.to + 1
   -- no other stretch ends between the two positions
   pub next : ended 0 (take new bytes) ≡ ended 0 (take old bytes) ++ (stretch ∷ [])
 
@@ -98,19 +99,19 @@ abbrev pub offset_of : Scan → ℕ
 offset_of scan = scan.at
 
 -- what a scan found between two offsets, strictly: no stretch ends there, or this one does
-abbrev pub Found : {V : Type 0} → (Tree → Type 0) → (Tree → V → Type 0) → ℕ → List ℕ → ℕ → ℕ → Option (Stretch V) → Type 0
-Found takes reads limit bytes old new None = ended 0 (take new bytes) ≡ ended 0 (take old bytes)
-Found takes reads limit bytes old new (Some s) = IsNextStretch (HoldsExactly (takes_record takes)) (reads_record reads) limit bytes old new s.from s.to s.answer
+abbrev pub Found : {V : Type 0} → WireForm V → ℕ → List ℕ → ℕ → ℕ → Option (Stretch V) → Type 0
+Found form limit bytes old new None = ended 0 (take new bytes) ≡ ended 0 (take old bytes)
+Found form limit bytes old new (Some s) = IsNextStretch form limit bytes old new s
 
 -- what a scan found of these bytes; at an error it passed exactly one stretch, whose value was lost
-abbrev pub Goes : {V : Type 0} → (Tree → Type 0) → (Tree → V → Type 0) → ℕ → List ℕ → Scan → Scan → Result (Option (Stretch V)) ScanError → Type 0
-Goes takes reads limit bytes old new (Ok o) = IsScanning limit bytes new × Found takes reads limit bytes old.at new.at o
-Goes takes reads limit bytes old new (Err e) = IsScanning limit bytes new × IsLostStretch limit bytes old.at new.at
+abbrev pub Goes : {V : Type 0} → WireForm V → ℕ → List ℕ → Scan → Scan → Result (Option (Stretch V)) ScanError → Type 0
+Goes form limit bytes old new (Ok o) = IsScanning limit bytes new × Found form limit bytes old.at new.at o
+Goes form limit bytes old new (Err e) = IsScanning limit bytes new × IsLostStretch limit bytes old.at new.at
 
 -- what is next in a log: a stretch; or no further stretch ends in it, and the scan is after its last byte
-abbrev pub FoundAll : {V : Type 0} → (Tree → Type 0) → (Tree → V → Type 0) → ℕ → List ℕ → ℕ → ℕ → Option (Stretch V) → Type 0
-FoundAll takes reads limit bytes old new None = (new ≡ length bytes) × (ended 0 bytes ≡ ended 0 (take old bytes))
-FoundAll takes reads limit bytes old new (Some s) = Found takes reads limit bytes old new (Some s)
+abbrev pub FoundAll : {V : Type 0} → WireForm V → ℕ → List ℕ → ℕ → ℕ → Option (Stretch V) → Type 0
+FoundAll form limit bytes old new None = (new ≡ length bytes) × (ended 0 bytes ≡ ended 0 (take old bytes))
+FoundAll form limit bytes old new (Some s) = Found form limit bytes old new (Some s)
 
 -- a log with a zero after it, as opening it puts one there
 abbrev pub with_zero : List ℕ → List ℕ
@@ -122,8 +123,8 @@ told_with_zero None = None
 told_with_zero (Some bytes) = Some (with_zero bytes)
 
 -- what a zero after a log ends: a stretch, or nothing
-abbrev pub FoundLast : {V : Type 0} → (Tree → Type 0) → (Tree → V → Type 0) → ℕ → List ℕ → Option (Stretch V) → Type 0
-FoundLast takes reads limit bytes o = Found takes reads limit (with_zero bytes) (length bytes) (length bytes + 1) o
+abbrev pub FoundLast : {V : Type 0} → WireForm V → ℕ → List ℕ → Option (Stretch V) → Type 0
+FoundLast form limit bytes o = Found form limit (with_zero bytes) (length bytes) (length bytes + 1) o
 
 -- after so many bytes of a log the next stretch is one whose value was lost
 abbrev pub LosesNext : ℕ → List ℕ → ℕ → Type 0

@@ -2,7 +2,7 @@
 ghost use Rattle.std.specs.Prelude.{◌≡◌, ◌↔◌, ℕ, ◌≤◌, true, List, ◌++◌, OnOk, OnErr, IfOk, IfErr};
 ghost use Rattle.line_io.specs.Transfers.{Failed};
 ghost use Rattle.journal.specs.Reading.{HaltsBehind};
-ghost use Rattle.journal_scan.specs.Checks.{IsChecked, IsNoRecord, CheckCause, StopsAfter, UnlessFault, IsAgain, OneNeedsRange, record_in, numbers_of};
+ghost use Rattle.journal_scan.specs.Checks.{IsChecked, IsNoRecord, CheckCause, StopsAfter, UnlessFault, IsAgain, OneNeedsRange, record_in, numbers_of, watched};
 ghost use Rattle.journal_scan.specs.Tallies.{IsTally};
 
 use crate::closing::ClosedScan;
@@ -113,15 +113,15 @@ pub fn check<T: DeserializeOwned + Exact, S: Store, W: Watcher<T>>(
     watcher: &mut W,
 ) -> Result<Report<T>, CheckError>
     ensures checked { IfOk result
-        (λ r. IsChecked W.told W.counted T.form.takes T.form.reads limit (S.line store.old).told
-        watcher.old watcher.new r.tally r.unfinished) }
+        (λ r. IsChecked T.form limit (watched W.told W.halts W.counted watcher.old watcher.new)
+        (S.line store.old).told r) }
     ensures held { (S.line store.new).told ≡ (S.line store.old).told }
     ensures settled { S.settled store.new ≡ S.settled store.old }
     ensures quiet { OnOk result ((S.line store.new).faults ≡ (S.line store.old).faults) }
     ensures cause { IfErr result (λ e. CheckCause (Failed (S.line store.old) (S.line store.new))
         (HaltsBehind W.told W.halts watcher.old) e) }
-    ensures so_far { IfErr result (λ e. StopsAfter W.told W.halts W.counted T.form.takes
-        T.form.reads T.form.growing limit (S.line store.old).told watcher.old watcher.new e) }
+    ensures so_far { IfErr result (λ e. StopsAfter T.form limit
+        (watched W.told W.halts W.counted watcher.old watcher.new) (S.line store.old).told e) }
     ensures calm { IfErr result
         (λ e. UnlessFault e ((S.line store.new).faults ≡ (S.line store.old).faults)) }
     ensures more { (S.line store.old).faults ≤ (S.line store.new).faults }

@@ -40,7 +40,7 @@ impl ClosedScan {
     ) -> Result<Option<Stretch<T>>, ScanError>
         ensures found { IfOk result (λ o. (limit : ℕ) (bytes : List ℕ)
             → (S.line store.old).told ≡ Some bytes → IsClosing limit bytes self.old
-            → FoundClosed T.form.takes T.form.reads limit bytes self.old self.new o) }
+            → FoundClosed T.form limit bytes self.old self.new o) }
         ensures on { IfOk result (λ o. IfSome o (λ _. left_of self.new < left_of self.old)) }
         ensures held { (S.line store.new).told ≡ (S.line store.old).told }
         ensures settled { S.settled store.new ≡ S.settled store.old }

@@ -7,7 +7,7 @@ ghost use Rattle.journal.specs.Appending.{OnRead, put_before};
 ghost use Rattle.journal.specs.Logs.{log_place};
 ghost use Rattle.journal.specs.Reading.{HaltsBehind, OpenCause, OpenedUntil};
 ghost use Rattle.journal.specs.Store.{Settles};
-ghost use Rattle.journal_scan.specs.Checks.{StopsAfter};
+ghost use Rattle.journal_scan.specs.Checks.{StopsAfter, watched};
 ghost use Rattle.journal_scan.specs.declared.checking.CheckError.{CheckError};
 ghost use Rattle.journal_scan.specs.Opening.{IsOpenedBy, IsReadErrorOf};
 
@@ -52,8 +52,9 @@ pub fn open_by<T: DeserializeOwned + Exact, S: Store, W: Watcher<T>, const N: us
 ) -> Result<(Journal<S, N>, Report<T>), Unopened<S>>
     requires some { 1 < N }
     requires fits { ReceiverFitsInMemory N.row }
-    ensures opened { IfOk result (λ r. IsOpenedBy W.told W.counted T.form.takes T.form.reads N
-        (S.line store) (log_place S.line S.settled r.0) watcher.old watcher.new r.1) }
+    ensures opened { IfOk result (λ r. IsOpenedBy T.form N
+        (watched W.told W.halts W.counted watcher.old watcher.new)
+        (S.line store) (log_place S.line S.settled r.0) r.1) }
     ensures cause { IfErr result (λ e. OpenCause (Failed (S.line store) (S.line e.store)) true
         (HaltsBehind W.told W.halts watcher.old) e.cause) }
     ensures left { IfErr result
@@ -62,8 +63,9 @@ pub fn open_by<T: DeserializeOwned + Exact, S: Store, W: Watcher<T>, const N: us
     ensures settled { IfErr result (λ e.
         OnRead e.cause (Settles (S.line e.store).told (S.settled e.store))) }
     ensures so_far { IfErr result (λ e. OpenedUntil (λ c. (cause : CheckError)
-        × IsReadErrorOf cause c × StopsAfter W.told W.halts W.counted T.form.takes T.form.reads
-        T.form.growing N (S.line e.store).told watcher.old watcher.new cause)
+        × IsReadErrorOf cause c
+        × StopsAfter T.form N (watched W.told W.halts W.counted watcher.old watcher.new)
+        (S.line e.store).told cause)
         watcher.old watcher.new e.cause) }
 {
     let mut store = store;

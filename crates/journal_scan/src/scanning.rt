@@ -208,7 +208,7 @@ impl Scan {
             → drop self.old.start (take self.old.end self.old.room.items) ≡ 0 ∷ rest → ⊥ }
         requires within { self.old.past ≡ false }
         ensures goes { (limit : ℕ) (bytes : List ℕ) → IsScanning limit bytes self.old
-            → Goes T.form.takes T.form.reads limit bytes self.old self.new result }
+            → Goes T.form limit bytes self.old self.new result }
         ensures memory { IfErr result (λ e. (e ≡ ScanError.NoMemory) × (T.form.growing ≡ true)) }
         ensures back { self.old.at ≤ self.new.at }
         ensures on { IfOk result (λ o. IfSome o (λ _. self.old.at < self.new.at)) }
@@ -247,7 +247,7 @@ impl Scan {
         ensures on { IfSome result (λ _. self.old.at < self.new.at) }
         ensures stands { (limit : ℕ) (bytes : List ℕ) → IsScanning limit bytes self.old
             → IsScanning limit bytes self.new
-            × Found T.form.takes T.form.reads limit bytes self.old.at self.new.at result }
+            × Found T.form limit bytes self.old.at self.new.at result }
     {
         while self.start < self.end {
             let byte = self.room[self.start];
@@ -291,7 +291,7 @@ impl Scan {
         alloc: Global,
     ) -> Result<Option<Stretch<T>>, ScanError>
         ensures goes { (limit : ℕ) (bytes : List ℕ) → IsScanning limit bytes self.old
-            → Goes T.form.takes T.form.reads limit bytes self.old self.new result }
+            → Goes T.form limit bytes self.old self.new result }
         ensures memory { IfErr result (λ e. (e ≡ ScanError.NoMemory) × (T.form.growing ≡ true)) }
         ensures back { self.old.at ≤ self.new.at }
         ensures on { IfOk result (λ o. IfSome o (λ _. self.old.at < self.new.at)) }
@@ -341,7 +341,7 @@ impl Scan {
             → IsScanning limit bytes self.old → IsScanning limit bytes self.new }
         ensures found { IfOk result (λ o. (limit : ℕ) (bytes : List ℕ)
             → (S.line store.old).told ≡ Some bytes → IsScanning limit bytes self.old
-            → FoundAll T.form.takes T.form.reads limit bytes (offset_of self.old)
+            → FoundAll T.form limit bytes (offset_of self.old)
             (offset_of self.new) o) }
         ensures on { IfOk result (λ o. IfSome o (λ _. offset_of self.old < offset_of self.new)) }
         ensures held { (S.line store.new).told ≡ (S.line store.old).told }
@@ -351,7 +351,7 @@ impl Scan {
             → Failed (S.line store.old) (S.line store.new) }
         ensures lost_none { result ≡ Err ScanError.Fault → (limit : ℕ) (bytes : List ℕ)
             → (S.line store.old).told ≡ Some bytes → IsScanning limit bytes self.old
-            → Found T.form.takes T.form.reads limit bytes (offset_of self.old)
+            → Found T.form limit bytes (offset_of self.old)
             (offset_of self.new) None }
         ensures memory { result ≡ Err ScanError.NoMemory → T.form.growing ≡ true }
         ensures lost_one { result ≡ Err ScanError.NoMemory → (limit : ℕ) (bytes : List ℕ)
@@ -379,7 +379,7 @@ impl Scan {
     ) -> Result<Option<Stretch<T>>, ScanError>
         ensures found { IfOk result (λ o. (limit : ℕ) (bytes : List ℕ)
             → IsScanning limit bytes self.old → offset_of self.old ≡ length bytes
-            → FoundLast T.form.takes T.form.reads limit bytes o) }
+            → FoundLast T.form limit bytes o) }
         ensures memory { IfErr result (λ e. (e ≡ ScanError.NoMemory) × (T.form.growing ≡ true)) }
         ensures lost { OnErr result ((limit : ℕ) (bytes : List ℕ) → IsScanning limit bytes self.old
             → offset_of self.old ≡ length bytes → IsLostLast limit bytes) }
@@ -413,7 +413,7 @@ impl Scan {
         alloc: Global,
     ) -> Result<Option<Stretch<T>>, ScanError>
         ensures found { IfOk result (λ o. (limit : ℕ) (bytes : List ℕ) → IsScanning limit bytes self
-            → offset_of self ≡ length bytes → FoundLast T.form.takes T.form.reads limit bytes o) }
+            → offset_of self ≡ length bytes → FoundLast T.form limit bytes o) }
         ensures memory { IfErr result (λ e. (e ≡ ScanError.NoMemory) × (T.form.growing ≡ true)) }
         ensures lost { OnErr result ((limit : ℕ) (bytes : List ℕ) → IsScanning limit bytes self
             → offset_of self ≡ length bytes → IsLostLast limit bytes) }

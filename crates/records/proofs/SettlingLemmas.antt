@@ -5,7 +5,7 @@ use Rattle.line_io.specs.Calls.{Wrote-then}
 use Rattle.postcard_tree.specs.Tree.{Tree, IsTree}
 use Rattle.link.specs.Run.{Send, IsSend, sent, written, completed}
 use Rattle.journal.specs.Records.{numbered}
-use Rattle.journal.specs.Appending.{Appended, IsAppend}
+use Rattle.journal.specs.Appending.{LogPlace, Appended, IsAppend}
 use Rattle.journal.specs.declared.log.AppendError.{AppendError}
 use Rattle.journal.specs.declared.log.AppendError.TheVariants.{Refused, Line, Spent, Full}
 use Rattle.records.specs.Settling.{records_from, HasGrown, IsTorn}
@@ -22,18 +22,19 @@ pub record GrewOn (writes : Option Tree) (start new : LineState) (first behind :
   pub is : writes ≡ Some value
   pub grown : HasGrown start new first behind (values ++ value ∷ []) []
 
-pub grows : (limit : ℕ) (spent : Bool) (writes : Option Tree) (n m first behind : ℕ) (start old new : LineState) (values : List Tree)
-    → Appended limit spent n writes (Ok m) old new → behind ≡ n → HasGrown start old first behind values [] → GrewOn writes start new first (m + 1) values
-grows limit spent writes n m first behind start old new values a e h =
+pub grows : (limit : ℕ) (writes : Option Tree) (m first behind : ℕ) (start : LineState) (old new : LogPlace) (values : List Tree)
+    → Appended limit writes (Ok m) old new → behind ≡ old.next → HasGrown start old.line first behind values [] → GrewOn writes start new.line first (m + 1) values
+grows limit writes m first behind start old new values a e h =
+    let n = old.next in
     let v = a.is.1.0 in
     let done : a.send ≡ completed (numbered n v) = a.is.1.2 in
     let here : n ≡ first + length values = sym e ∙ h.numbers in
-    let bytes : Wrote old new (sent 0 true (numbered n v)) = subst (λ x. Wrote old new (written 0 true x)) done a.wrote in
+    let bytes : Wrote old.line new.line (sent 0 true (numbered n v)) = subst (λ x. Wrote old.line new.line (written 0 true x)) done a.wrote in
     record {
       value = v;
       is = a.is.1.1;
       grown = record {
-        wrote = subst (λ b. Wrote start new b)
+        wrote = subst (λ b. Wrote start new.line b)
             (ap (λ b. b ++ sent 0 true (numbered n v)) (append-nil (records_from first values)) ∙ ap (λ m. records_from first values ++ sent 0 true (numbered m v)) here ∙ records_more first values v ∙ sym (append-nil (records_from first (values ++ v ∷ []))))
             (Wrote-then _ _ _ _ _ h.wrote bytes);
         numbers = omega (arith, a.is.0, here, length-append values (v ∷ []));
@@ -58,14 +59,14 @@ torn limit spent writes n Spent send s i = ap (λ x. written 0 true x) i.0
 torn limit spent writes n Full send s i = ap (λ x. written 0 true x) i.0
 
 -- what one that failed leaves: the same records, and what went out of it
-pub grew_by : (limit : ℕ) (spent : Bool) (writes : Option Tree) (n first behind : ℕ) (e : AppendError) (start old new : LineState) (values : List Tree)
-    → Appended limit spent n writes (Err e) old new → HasGrown start old first behind values []
-    → (rest : List ℕ) × IsTorn n writes (Err e) rest × HasGrown start new first behind values rest
-grew_by limit spent writes n first behind e start old new values a h = (
+pub grew_by : (limit : ℕ) (writes : Option Tree) (first behind : ℕ) (e : AppendError) (start : LineState) (old new : LogPlace) (values : List Tree)
+    → Appended limit writes (Err e) old new → HasGrown start old.line first behind values []
+    → (rest : List ℕ) × IsTorn old.next writes (Err e) rest × HasGrown start new.line first behind values rest
+grew_by limit writes first behind e start old new values a h = (
   written 0 true a.send,
-  torn limit spent writes n e a.send a.is_send a.is,
+  torn limit old.spent writes old.next e a.send a.is_send a.is,
   record {
-    wrote = subst (λ b. Wrote start new b) (ap (λ b. b ++ written 0 true a.send) (append-nil (records_from first values))) (Wrote-then _ _ _ _ _ h.wrote a.wrote);
+    wrote = subst (λ b. Wrote start new.line b) (ap (λ b. b ++ written 0 true a.send) (append-nil (records_from first values))) (Wrote-then _ _ _ _ _ h.wrote a.wrote);
     numbers = h.numbers;
   },
 )

@@ -4,8 +4,8 @@ ghost use Rattle.line_io.specs.Device.{LineState};
 ghost use Rattle.line_io.specs.Transfers.{Failed};
 ghost use Rattle.postcard_tree.specs.Tree.{Tree};
 ghost use Rattle.journal.specs.Store.{Settles};
-ghost use Rattle.journal.specs.Logs.{store_of, next_of, spent_of};
-ghost use Rattle.journal.specs.Appending.{Appended, next_after, spent_after, UnlessSpent};
+ghost use Rattle.journal.specs.Logs.{store_of, next_of, spent_of, log_place};
+ghost use Rattle.journal.specs.Appending.{Appended, next_after, spent_after, Unless, UnlessSpent};
 
 use journal::stores::{Store, SyncFault};
 use journal::{AppendError, Journal};
@@ -67,9 +67,9 @@ impl Group {
         journal: &mut Journal<S, N>,
         entry: &T,
     ) -> Result<(), AppendError>
-        ensures appended { Appended (N - 1) (spent_of journal.old) (next_of journal.old)
-            (T.form.writes entry.now) (numbered_by (next_of journal.old) result)
-            (S.line (store_of journal.old)) (S.line (store_of journal.new)) }
+        ensures appended { Appended (N - 1) (T.form.writes entry.now)
+            (numbered_by (next_of journal.old) result)
+            (log_place S.line S.settled journal.old) (log_place S.line S.settled journal.new) }
         ensures grown { OnOk result ((start : LineState) (values : List Tree)
             → behind_of self.old ≡ next_of journal.old
             → HasGrown start (S.line (store_of journal.old)) (first_of self.old)
@@ -85,6 +85,8 @@ impl Group {
             × HasGrown start (S.line (store_of journal.new)) (first_of self.new)
             (behind_of self.new) values rest) }
         ensures kept { OnErr result (self.new ≡ self.old) }
+        ensures untouched { Unless (numbered_by (next_of journal.old) result)
+            (store_of journal.new ≡ store_of journal.old) }
         ensures first { first_of self.new ≡ first_of self.old }
         ensures next { next_of journal.new
             ≡ next_after (next_of journal.old) (numbered_by (next_of journal.old) result) }

@@ -3,12 +3,12 @@ use Rattle.std.proofs.lemmas.List.{append-nil, nil_from_length, length-append, l
 use Rattle.link.specs.Decoding.{in_array}
 use Rattle.link.specs.Lemmas.Lengths.{parts_on}
 use Rattle.link.specs.Receivers.{IsBehind}
-use Rattle.journal.specs.Reading.{numbering_of, IsReadTo}
+use Rattle.journal.specs.Reading.{numbering_of, log_reading, IsReadTo}
 use Rattle.journal.proofs.HearingLemmas.{read_on, heard_none, handed_more, if_passed, so_far_here}
 use Rattle.journal.proofs.reading.hear.Goals as goal
 
 pub loop-rest-init : goal.loop-rest-init
-loop-rest-init g c = record { heard = λ first stream answers h. ([], refl, heard_none g.met.V.Visitor.laws first _ _ answers _ stream h); so_far = ([], g.met.V.Visitor.laws.nothing _); on = refl }
+loop-rest-init g c = record { heard = λ first stream answers h. ([], refl, heard_none g.V.Visitor.halts g.met.V.Visitor.laws (log_reading (g.M.MessageReader.judging c.args.messages.now) g.row.N first) _ _ answers _ stream h); so_far = ([], g.met.V.Visitor.laws.nothing _); on = refl }
 
 pub loop-rest-preserved : goal.loop-rest-preserved
 loop-rest-preserved g c =
@@ -23,8 +23,8 @@ loop-rest-preserved g c =
       heard = λ first stream answers h. (
           let k = c.loop-rest.invariant.heard first stream answers h in
           let step =
-          read_on (g.M.MessageReader.judging c.args.messages.now).holds (g.M.MessageReader.judging c.args.messages.now).reads g.row.N first (stream ++ k.0) rest used g.met.V.Visitor.laws answers k.2.more (numbering_of c.hear_on.result) (numbering_of later) c.push_with-used.result.stretch c.hear_on.result.heard
-          c.push_with-used.result.answer _ _ _ k.2.handed (subst (λ n. IsReadTo (g.M.MessageReader.judging c.args.messages.now).holds (g.M.MessageReader.judging c.args.messages.now).reads g.row.N first (answers ++ k.2.more) n (stream ++ k.0)) (sym c.hear_on.ensures.numbers) k.2.hears.read)
+          read_on (log_reading (g.M.MessageReader.judging c.args.messages.now) g.row.N first) (stream ++ k.0) rest used g.V.Visitor.halts g.met.V.Visitor.laws answers k.2.more (numbering_of c.hear_on.result) (numbering_of later) c.push_with-used.result.stretch c.hear_on.result.heard
+          c.push_with-used.result.answer _ _ _ k.2.handed (subst (λ n. IsReadTo (log_reading (g.M.MessageReader.judging c.args.messages.now) g.row.N first) (answers ++ k.2.more) n (stream ++ k.0)) (sym c.hear_on.ensures.numbers) k.2.hears.read)
           (c.push_with-used.ensures.answers _ 0 (stream ++ k.0) k.2.hears.after) (c.push_with-used.ensures.stretch _ 0 (stream ++ k.0) k.2.hears.after) some fits (c.hear_on.ensures.heard ∙ ap (λ n. n + used) k.2.hears.heard)
           c.in_ok-count.ensures.on in (
             k.0 ++ take used rest,
@@ -45,7 +45,7 @@ loop-rest-preserved g c =
           ));
       so_far =
           let so_far = c.loop-rest.invariant.so_far in
-          handed_more g.met.V.Visitor.laws c.push_with-used.result.answer _ _ _ _ _ _ _ so_far.0 so_far.1 c.in_ok-count.ensures.on;
+          handed_more g.V.Visitor.halts g.met.V.Visitor.laws c.push_with-used.result.answer _ _ _ _ _ _ _ so_far.0 so_far.1 c.in_ok-count.ensures.on;
       on = omega (arith, heard_is, left, c.loop-rest.invariant.on);
     }
 

@@ -2,7 +2,7 @@ use Rattle.std.proofs.Common.{◌≡◌, ℕ, ◌+◌, ◌-◌, ◌*◌, ◌<◌
 use Rattle.std.specs.Prelude.{IfSome}
 use Rattle.std.proofs.lemmas.List.{length-take}
 use Rattle.line_io.specs.Calls.{Failed-later, read_quiet, read_failed}
-use Rattle.journal.specs.Reading.{HearsMore, IsHanded, ReadByCalls, numbering_of}
+use Rattle.journal.specs.Reading.{HearsMore, IsHanded, ReadByCalls, log_reading, numbering_of, visited}
 use Rattle.journal.proofs.HearingLemmas.{read_whole, reads_on, reads_all, reads_none, heard_first, then_more, handed_to, calls_failed, calls_partly, few_calls, cause_on, if_passed, so_far_read}
 use Rattle.journal.proofs.reading.read_all.Goals as goal
 
@@ -25,8 +25,8 @@ loop-n-init g c = record {
   so_far = ([], g.met.V.Visitor.laws.nothing _);
   quiet = refl;
   heard = reads_none (g.S.Store.line c.args.store.now).told
-      (λ stream. HearsMore g.V.Visitor.took (g.M.MessageReader.judging c.args.messages.now).holds (g.M.MessageReader.judging c.args.messages.now).reads c.args.first c.args.visitor.now c.args.visitor.now c.new-receiver.result [] (record { next = c.args.first; through = 0; heard = 0 }) stream)
-      (heard_first (g.M.MessageReader.judging c.args.messages.now).holds (g.M.MessageReader.judging c.args.messages.now).reads g.met.V.Visitor.laws c.args.first c.args.visitor.now c.new-receiver.result c.new-receiver.ensures.after);
+      (λ stream. HearsMore (log_reading (g.M.MessageReader.judging c.args.messages.now) g.row.N c.args.first) (visited g.V.Visitor.took g.V.Visitor.halts c.args.visitor.now c.args.visitor.now) c.new-receiver.result [] (record { next = c.args.first; through = 0; heard = 0 }) stream)
+      (heard_first g.V.Visitor.halts g.met.V.Visitor.laws (log_reading (g.M.MessageReader.judging c.args.messages.now) g.row.N c.args.first) c.args.visitor.now c.new-receiver.result c.new-receiver.ensures.after);
 }
 
 pub loop-n-preserved : goal.loop-n-preserved
@@ -51,9 +51,8 @@ loop-n-preserved g c = record {
       (before.0 ++ more.0, g.met.V.Visitor.laws.more _ _ _ _ _ before.1 more.1);
   quiet = read_quiet _ _ _ _ _ c.in-Some.ensures.faults c.loop-n.invariant.quiet;
   heard =
-      let took = g.V.Visitor.took in
-      let P : List ℕ → Type 0 = λ stream. HearsMore took (g.M.MessageReader.judging c.args.messages.now).holds (g.M.MessageReader.judging c.args.messages.now).reads c.args.first c.args.visitor.now c.loop-n.visitor c.loop-n.receiver [] c.loop-n.count stream in
-      let Q : List ℕ → Type 0 = λ stream. HearsMore took (g.M.MessageReader.judging c.args.messages.now).holds (g.M.MessageReader.judging c.args.messages.now).reads c.args.first c.args.visitor.now c.hear.new.visitor c.hear.new.receiver [] c.in_ok-count-in-Some.count stream in
+      let P : List ℕ → Type 0 = λ stream. HearsMore (log_reading (g.M.MessageReader.judging c.args.messages.now) g.row.N c.args.first) (visited g.V.Visitor.took g.V.Visitor.halts c.args.visitor.now c.loop-n.visitor) c.loop-n.receiver [] c.loop-n.count stream in
+      let Q : List ℕ → Type 0 = λ stream. HearsMore (log_reading (g.M.MessageReader.judging c.args.messages.now) g.row.N c.args.first) (visited g.V.Visitor.took g.V.Visitor.halts c.args.visitor.now c.hear.new.visitor) c.hear.new.receiver [] c.in_ok-count-in-Some.count stream in
       let at = c.loop-n.count.heard in
       let n = c.in-Some.n in
       let room = c.read_at.new.room in
@@ -61,7 +60,7 @@ loop-n-preserved g c = record {
       let on : c.in_ok-count-in-Some.count.heard ≡ at + n = c.in_ok-count-in-Some.ensures.on ∙ ap (λ x. at + x) part in
       subst (λ m. IfSome (g.S.Store.line c.args.store.now).told (λ bytes. Q (take m bytes))) (sym on)
       (reads_on (g.S.Store.line c.args.store.now).told c.read_at.new.room c.loop-n.count.heard c.in-Some.n P Q (c.in-Some.ensures.bound) (rw c.loop-n.invariant.held at c.in-Some.ensures.bytes) c.loop-n.invariant.heard
-      (λ stream h. then_more g.met.V.Visitor.laws c.args.first _ _ _ _ [] h.more _ (stream ++ take c.in-Some.n c.read_at.new.room) h.handed (c.in_ok-count-in-Some.ensures.heard c.args.first stream h.more h.hears)));
+      (λ stream h. then_more g.V.Visitor.halts g.met.V.Visitor.laws (log_reading (g.M.MessageReader.judging c.args.messages.now) g.row.N c.args.first) _ _ _ _ [] h.more _ (stream ++ take c.in-Some.n c.read_at.new.room) h.handed (c.in_ok-count-in-Some.ensures.heard c.args.first stream h.more h.hears)));
 }
 
 pub returns-in-None-clause-cause : goal.returns-in-None-clause-cause
@@ -69,13 +68,12 @@ returns-in-None-clause-cause g c = Failed-later (g.S.Store.line c.args.store.now
 
 pub returns-in-Some-eq0-clause-read : goal.returns-in-Some-eq0-clause-read
 returns-in-Some-eq0-clause-read g c =
-    let took = g.V.Visitor.took in
-    let P : List ℕ → Type 0 = λ stream. HearsMore took (g.M.MessageReader.judging c.args.messages.now).holds (g.M.MessageReader.judging c.args.messages.now).reads c.args.first c.args.visitor.now c.loop-n.visitor c.loop-n.receiver [] c.loop-n.count stream in
-    let Q : List ℕ → Type 0 = λ bytes. IsHanded took (g.M.MessageReader.judging c.args.messages.now) g.row.N c.args.first c.args.visitor.now c.loop-n.visitor c.loop-n.count.next bytes in
+    let P : List ℕ → Type 0 = λ stream. HearsMore (log_reading (g.M.MessageReader.judging c.args.messages.now) g.row.N c.args.first) (visited g.V.Visitor.took g.V.Visitor.halts c.args.visitor.now c.loop-n.visitor) c.loop-n.receiver [] c.loop-n.count stream in
+    let Q : List ℕ → Type 0 = λ bytes. IsHanded (log_reading (g.M.MessageReader.judging c.args.messages.now) g.row.N c.args.first) (visited g.V.Visitor.took g.V.Visitor.halts c.args.visitor.now c.loop-n.visitor) c.loop-n.count.next bytes in
     let room : 0 < length c.read_at.new.room = search rules in
     let nothing : Some c.in-Some-eq0.field-0 ≡ Some 0 = cc in
     reads_all (g.S.Store.line c.args.store.now).told c.loop-n.count.heard P Q (rw c.loop-n.invariant.held at (c.in-Some-eq0.ensures.end nothing room)) c.loop-n.invariant.heard
-    (λ stream h. record { answers = h.more; handed = h.handed; read = read_whole (g.M.MessageReader.judging c.args.messages.now).holds (g.M.MessageReader.judging c.args.messages.now).reads g.row.N c.args.first h.more (numbering_of c.loop-n.count) stream h.hears.read })
+    (λ stream h. record { answers = h.more; handed = h.handed; read = read_whole (log_reading (g.M.MessageReader.judging c.args.messages.now) g.row.N c.args.first) h.more (numbering_of c.loop-n.count) stream h.hears.read })
 
 pub loop-n-smaller : goal.loop-n-smaller
 loop-n-smaller g c = fewer _ _ _ _ c.read_at.ensures.calls c.read_at.ensures.spent c.in-Some.is
@@ -85,17 +83,17 @@ returns-in-None-clause-so_far g c =
     let before = g.S.Store.line c.args.store.now in
     let mid = g.S.Store.line c.loop-n.store in
     let after = g.S.Store.line c.read_at.new.self in
-    handed_to g.V.Visitor.took g.V.Visitor.halts (g.M.MessageReader.judging c.args.messages.now) c.args.first c.args.visitor.now c.loop-n.visitor c.loop-n.receiver c.loop-n.count (ReadByCalls before after 1) _
+    handed_to (log_reading (g.M.MessageReader.judging c.args.messages.now) g.row.N c.args.first) (visited g.V.Visitor.took g.V.Visitor.halts c.args.visitor.now c.loop-n.visitor) c.loop-n.receiver c.loop-n.count (ReadByCalls before after 1) _
     (calls_failed before mid after c.loop-n.count.heard c.loop-n.invariant.few c.loop-n.invariant.calls c.loop-n.invariant.most c.in-None.ensures.calls) c.loop-n.invariant.heard
 
 pub returns-in-None-clause-few : goal.returns-in-None-clause-few
 returns-in-None-clause-few g c =
-    few_calls g.V.Visitor.took (g.M.MessageReader.judging c.args.messages.now) c.args.first c.args.visitor.now c.loop-n.visitor c.loop-n.receiver c.loop-n.count _ _ _ c.loop-n.invariant.heard
+    few_calls (log_reading (g.M.MessageReader.judging c.args.messages.now) g.row.N c.args.first) (visited g.V.Visitor.took g.V.Visitor.halts c.args.visitor.now c.loop-n.visitor) c.loop-n.receiver c.loop-n.count _ _ _ c.loop-n.invariant.heard
     (omega (arith, c.loop-n.invariant.few, c.in-None.ensures.calls))
 
 pub returns-in-Some-eq0-clause-few : goal.returns-in-Some-eq0-clause-few
 returns-in-Some-eq0-clause-few g c =
-    few_calls g.V.Visitor.took (g.M.MessageReader.judging c.args.messages.now) c.args.first c.args.visitor.now c.loop-n.visitor c.loop-n.receiver c.loop-n.count _ _ _ c.loop-n.invariant.heard
+    few_calls (log_reading (g.M.MessageReader.judging c.args.messages.now) g.row.N c.args.first) (visited g.V.Visitor.took g.V.Visitor.halts c.args.visitor.now c.loop-n.visitor) c.loop-n.receiver c.loop-n.count _ _ _ c.loop-n.invariant.heard
     (omega (arith, c.loop-n.invariant.few, c.in-Some-eq0.ensures.calls))
 
 pub returns-in_err-count-in-Some-clause-cause : goal.returns-in_err-count-in-Some-clause-cause
@@ -111,7 +109,7 @@ returns-in_err-count-in-Some-clause-so_far g c =
     let after = g.S.Store.line c.read_at.new.self in
     let size : length c.read_at.new.room ≡ 1024 = search rules in
     if_passed c.from_residual.result c.in_err-count-in-Some.field-0.0 _ c.from_residual.ensures.1
-    (so_far_read g.met.V.Visitor.laws g.V.Visitor.halts (g.M.MessageReader.judging c.args.messages.now) c.args.first c.args.visitor.now c.loop-n.visitor _ c.in_err-count-in-Some.field-0.0 (ReadByCalls before after 1) c.loop-n.receiver c.loop-n.count _ c.read_at.new.room c.in-Some.n
+    (so_far_read g.met.V.Visitor.laws g.V.Visitor.halts (log_reading (g.M.MessageReader.judging c.args.messages.now) g.row.N c.args.first) c.args.visitor.now c.loop-n.visitor _ c.in_err-count-in-Some.field-0.0 (ReadByCalls before after 1) c.loop-n.receiver c.loop-n.count _ c.read_at.new.room c.in-Some.n
     (rw c.loop-n.invariant.held at c.in-Some.ensures.bytes) c.loop-n.invariant.heard
     (calls_partly before mid after c.loop-n.count.heard c.in-Some.n c.loop-n.invariant.few c.loop-n.invariant.calls c.loop-n.invariant.most c.read_at.ensures.calls (fewer _ _ _ _ c.read_at.ensures.calls c.read_at.ensures.spent c.in-Some.is) (omega (arith, size, c.in-Some.ensures.bound)))
     (c.in_err-count-in-Some.ensures.so_far c.args.first))

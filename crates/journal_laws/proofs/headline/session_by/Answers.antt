@@ -6,4 +6,4 @@ returns-in-Ok g c =
     both_some c.append_all.result c.append_all.ensures.all c.append_all.ensures.numbers
     (λ j all numbers any events framed is count e. (
     let o = c.in-Ok.ensures any events framed is count e in
-    goes_on g.T.Readable.form.takes g.T.Readable.form.writes g.row.N (c.bytes.ensures g.row.N 0) any events _ _ _ _ _ framed is o.bytes o.next_is all numbers))
+    goes_on g.T.Readable.form g.row.N (c.bytes.ensures g.row.N 0) any events _ _ _ framed is o.bytes o.next_is all numbers))

@@ -15,7 +15,7 @@ invariant-loop-stretch g l = record {
   stretches : List (Stretch g.row.T.Denot);
   handed : g.W.Watcher.told l.fn.watcher stretches l.watcher;
   tallied : IsTally (numbers_of (records_in g.W.Judge.counted stretches)) l.tally;
-  behind : (bytes : List ℕ) → (g.S.Store.line l.fn.store).told ≡ Some bytes → StandsBehind g.T.Readable.form.takes g.T.Readable.form.reads l.fn.limit bytes l.scan stretches;
+  behind : (bytes : List ℕ) → (g.S.Store.line l.fn.store).told ≡ Some bytes → StandsBehind g.T.Readable.form l.fn.limit bytes l.scan stretches;
 }
 
 abbrev pub decreases-loop-stretch : goal.decreases-loop-stretch

@@ -2,7 +2,7 @@ use Rattle.std.proofs.Common.{◌≡◌, [], ◌∷◌, take, ap, sym, ◌∙◌
 use Rattle.line_io.specs.Device.{Wrote}
 use Rattle.journal.specs.Store.{Settles}
 use Rattle.journal.specs.Logs.{store_of}
-use Rattle.journal_scan.specs.Checks.{IsChecked}
+use Rattle.journal_scan.specs.Checks.{IsChecked, watched}
 use Rattle.journal_scan.proofs.AnewLemmas.{wrote_still}
 use Rattle.journal_scan.proofs.opening.open_by.Goals as goal
 
@@ -22,7 +22,7 @@ returns-in-Ok-clause-opened g c =
       wrote = wrote_still (L c.args.store) (L c.put.new.store) (L (store_of c.resume.result)) (0 ∷ []) w (held ∙ c.sync.ensures.held) (omega (arith, faults, quiet));
       quiet = faults ∙ quiet ∙ c.put.ensures.quiet (omega (arith, one));
       settles = subst (λ h. Settles h (T (store_of c.resume.result))) (sym held) (subst (λ t. Settles (L c.sync.new.self).told t) (sym settled) safe);
-      checked = subst (λ h. IsChecked g.W.Watcher.told g.W.Judge.counted g.T.Readable.form.takes g.T.Readable.form.reads g.row.N h c.args.watcher.now c.check.new.watcher c.in-Ok.report.tally c.in-Ok.report.unfinished) (sym held) c.in-Ok.ensures.checked;
+      checked = subst (λ h. IsChecked g.T.Readable.form g.row.N (watched g.W.Watcher.told g.W.Watcher.halts g.W.Judge.counted c.args.watcher.now c.check.new.watcher) h c.in-Ok.report) (sym held) c.in-Ok.ensures.checked;
       next_is = λ numbers t. c.resume.ensures.next ∙ c.next-next.ensures numbers t;
       ready = c.resume.ensures.ready;
     }

@@ -1,7 +1,5 @@
 use Rattle.std.proofs.Common.{◌≡◌, ◌+◌, ◌<◌, ◌∷◌, length, take, drop, get_or, sym, ap, ◌∙◌, arith, rules}
 use Rattle.std.proofs.lemmas.List.{drop_more, get_or-take}
-use Rattle.link.specs.Stream.{HoldsExactly}
-use Rattle.journal.specs.Records.{takes_record, reads_record}
 use Rattle.journal_scan.proofs.StandingLemmas.{stands_past, stands_passed, next_from}
 use Rattle.journal_scan.proofs.scanning.Scan.pass.Goals as goal
 
@@ -32,6 +30,6 @@ returns-then-byte-eq0 g c = record {
       let inside : me.start < length room = search rules in
       let b = c.index-byte.result.now in
       let byte : get_or room me.start b ≡ 0 = get_or-take me.end me.room.items me.start b (omega arith) ∙ sym c.index-byte.ensures ∙ c.if-byte-eq0.true in
-      let next = stands_passed old.0 (HoldsExactly (takes_record g.T.Readable.form.takes)) (reads_record g.T.Readable.form.reads) c.restart.new.self (drop (me.start + 1) room) c.loop-self.invariant.past (drop_more room me.start b inside ∙ ap (λ x. x ∷ drop (me.start + 1) room) byte) (c.restart.ensures.anew limit 0 (take me.at bytes) old.0.behind) in
+      let next = stands_passed old.0 g.T.Readable.form c.restart.new.self (drop (me.start + 1) room) c.loop-self.invariant.past (drop_more room me.start b inside ∙ ap (λ x. x ∷ drop (me.start + 1) room) byte) (c.restart.ensures.anew limit 0 (take me.at bytes) old.0.behind) in
       (next.0, next_from old.1 next.1);
 }

@@ -11,7 +11,7 @@ returns-in-Err-clause-goes g c limit bytes s =
     let same : piece ≡ drop me.start room = search rules in
     let some : 0 < length piece = search rules in
     let p = c.push_strict-used in
-    let h = stands_later g.T.Readable.form.takes g.T.Readable.form.reads room me.start p.result.used p.new.self s c.requires.within c.requires.first piece same (p.ensures.forward some) p.ensures.within
+    let h = stands_later g.T.Readable.form room me.start p.result.used p.new.self s c.requires.within c.requires.first piece same (p.ensures.forward some) p.ensures.within
     (λ stream k. p.ensures.stands limit 0 stream k) p.result.answer (λ stream k. p.ensures.answers limit 0 stream k) _ c.in-Err.is in
     (subst (λ b. ScanStands limit p.new.self (me.at + p.result.used) (me.at + p.result.used) b (drop (me.start + p.result.used) room) bytes) (sym c.requires.within) h.0, h.1)
 
@@ -23,9 +23,9 @@ returns-in-Some-clause-goes g c limit bytes s =
     let same : piece ≡ drop me.start room = search rules in
     let some : 0 < length piece = search rules in
     let p = c.push_strict-used in
-    let h = stands_later g.T.Readable.form.takes g.T.Readable.form.reads room me.start p.result.used p.new.self s c.requires.within c.requires.first piece same (p.ensures.forward some) p.ensures.within
+    let h = stands_later g.T.Readable.form room me.start p.result.used p.new.self s c.requires.within c.requires.first piece same (p.ensures.forward some) p.ensures.within
     (λ stream k. p.ensures.stands limit 0 stream k) p.result.answer (λ stream k. p.ensures.answers limit 0 stream k) _ c.in-Ok.is in
-    stands_by g.T.Readable.form.takes g.T.Readable.form.reads limit me.at me.from p.result.used p.new.self (drop (me.start + p.result.used) room) bytes c.in-Ok.answer c.is_too_long-self.result _ c.is_too_long-self.ensures
+    stands_by g.T.Readable.form limit me.at me.from p.result.used p.new.self (drop (me.start + p.result.used) room) bytes c.in-Ok.answer c.is_too_long-self.result _ c.is_too_long-self.ensures
     (sym c.stretch_of.ensures ∙ c.in-Some.is) h
 
 pub returns-in-None-clause-goes : goal.returns-in-None-clause-goes
@@ -36,7 +36,7 @@ returns-in-None-clause-goes g c limit bytes s =
     let same : piece ≡ drop me.start room = search rules in
     let some : 0 < length piece = search rules in
     let p = c.push_strict-used in
-    let h = stands_later g.T.Readable.form.takes g.T.Readable.form.reads room me.start p.result.used p.new.self s c.requires.within c.requires.first piece same (p.ensures.forward some) p.ensures.within
+    let h = stands_later g.T.Readable.form room me.start p.result.used p.new.self s c.requires.within c.requires.first piece same (p.ensures.forward some) p.ensures.within
     (λ stream k. p.ensures.stands limit 0 stream k) p.result.answer (λ stream k. p.ensures.answers limit 0 stream k) _ c.in-Ok.is in
-    stands_by g.T.Readable.form.takes g.T.Readable.form.reads limit me.at me.from p.result.used p.new.self (drop (me.start + p.result.used) room) bytes c.in-Ok.answer c.is_too_long-self.result _ c.is_too_long-self.ensures
+    stands_by g.T.Readable.form limit me.at me.from p.result.used p.new.self (drop (me.start + p.result.used) room) bytes c.in-Ok.answer c.is_too_long-self.result _ c.is_too_long-self.ensures
     (sym c.stretch_of.ensures ∙ c.in-None.is) h
