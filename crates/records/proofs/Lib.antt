@@ -1,1 +1,2 @@
 pub mod SettlingLemmas
+pub mod CheckingLemmas

@@ -8,7 +8,12 @@ use Rattle.link.specs.declared.receiver.Answer.{Answer}
 use Rattle.link.specs.declared.receiver.Answer.TheVariants.{Value, Damaged, TooLong, Cut}
 use Rattle.sealed.specs.declared.value.Sealed.{Sealed}
 use Rattle.journal.specs.Visits.{VisitorLaws}
+use Rattle.postcard_tree.specs.ReadingLaws.{WireForm}
 use Rattle.journal_scan.specs.declared.scanning.Stretch.{Stretch}
+use Rattle.journal_scan.specs.Scanning.{with_zero}
+use Rattle.journal_scan.specs.Tallies.{IsTally, AreMissing}
+use Rattle.journal_scan.specs.declared.tallies.Tally.{Tally}
+use Rattle.journal_scan.specs.Checks.{AreStretches, records_in, numbers_of}
 use Rattle.records.specs.declared.checking.Printer.{Printer}
 
 -- a line of text, sealed with a number
@@ -55,6 +60,27 @@ is_sound p = p.sound
 -- the greatest number that it was told of a sealed record
 abbrev pub greatest_told : Printer → Option ℕ
 greatest_told p = p.greatest
+
+-- whether a record has the sealed number
+abbrev pub is_sealed_with : ℕ → SealedLine → Bool
+is_sealed_with n v = n == v.0.0
+
+-- Of the numbers that were counted none is missing below the greatest.
+pub record MissesNone (tally : Tally) : Type 0 where
+  -- whichever numbers these are
+  pub none : (numbers : List ℕ) → IsTally numbers tally → AreMissing numbers []
+
+-- All stretches of a log, with a zero after it, are records that are sealed with their own numbers, and of these numbers none is
+-- missing below the greatest.
+pub record IsSoundLog (form : WireForm SealedLine) (limit : ℕ) (bytes : List ℕ) : Type 0 where
+  -- the stretches
+  pub stretches : List (Stretch SealedLine)
+  -- they are all of the log's
+  pub are : AreStretches form limit (with_zero bytes) stretches
+  -- each is a sealed record
+  pub sealed : list_all is_sealed_record stretches ≡ true
+  -- no number is missing
+  pub none_missing : AreMissing (numbers_of (records_in is_sealed_with stretches)) []
 
 -- What a printer keeps of these stretches, which it was told in turn.
 pub record HasKeptStretches (old : Printer) (stretches : List (Stretch SealedLine)) (new : Printer) : Type 0 where

@@ -1,2 +1,4 @@
 pub mod Settling
 pub mod Checking
+pub mod Statuses
+pub mod Lines

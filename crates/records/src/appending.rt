@@ -1,4 +1,11 @@
 //! Appending lines to a log.
+ghost use Rattle.std.specs.Prelude.{◌≡◌, ◌⊎◌, ◌<◌, ◌≤◌, [], ◌∷◌, if◌then◌else◌, false, IfOk, IfErr};
+ghost use Rattle.line_io.specs.Device.{Wrote};
+ghost use Rattle.journal.specs.Store.{Settles};
+ghost use Rattle.journal.specs.Logs.{store_of, next_of, spent_of, log_place};
+ghost use Rattle.records.specs.Lines.{AppendsRecord, AppendsNone, OnAppended, OnLeftOut, IfStops};
+ghost use Rattle.records.specs.Settling.{first_of, behind_of};
+ghost use Rattle.records.specs.Statuses.{IsFaultStatus};
 
 use crate::checking::Printer;
 use crate::entries::{
@@ -7,7 +14,7 @@ use crate::entries::{
 };
 use crate::naming::{Identity, MOVED};
 use crate::settling::{Group, Settled};
-use journal::stores::Stored;
+use journal::stores::{Store, Stored};
 use journal::{AppendError, Journal, OpenError, ReadError, Unopened};
 use journal_scan::open_by;
 use memchr::memchr;
@@ -16,16 +23,20 @@ use std::alloc::Global;
 use std::fs::{File, TryLockError};
 use std::io::{self, BufRead, BufReader, BufWriter, ErrorKind, Write};
 
-type Log = Stored<File>;
-
 // How many bytes are asked for in one read of the input: lines that arrive in one read share a sync.
 const ROOM: usize = 65536;
 
 // Opens the log of this store to append, or returns the status. The next number is the one after the greatest of a sealed record, also
 // if numbers are missing and the bytes that accounted for them are gone.
-fn open_log(rt: &HostRuntime, path: &str, store: Log) -> Result<Journal<Log, MOST>, u8> {
+fn open_log<S: Store + Drop>(rt: &HostRuntime, path: &str, store: S) -> Result<Journal<S, MOST>, u8>
+    ensures wrote { IfOk result (λ j. Wrote (S.line store) (S.line (store_of j)) (0 ∷ [])) }
+    ensures settled { IfOk result
+        (λ j. Settles (S.line (store_of j)).told (S.settled (store_of j))) }
+    ensures ready { IfOk result (λ j. spent_of j ≡ false) }
+    ensures failed { IfErr result (λ status. IsFaultStatus status) }
+{
     let mut silent = Printer::silent();
-    match open_by::<Entry, Log, Printer<'_>, MOST>(rt.alloc(), store, &mut silent) {
+    match open_by::<Entry, S, Printer<'_>, MOST>(rt.alloc(), store, &mut silent) {
         Ok((journal, _)) => Ok(journal),
         Err(Unopened { cause, store: _ }) => match cause {
             OpenError::Read(ReadError::NoMemory) => Err(say_no_memory(rt, path)),
@@ -35,7 +46,9 @@ fn open_log(rt: &HostRuntime, path: &str, store: Log) -> Result<Journal<Log, MOS
 }
 
 // Prints the numbers of records that survive any crash. Returns the status.
-fn print_numbers(rt: &HostRuntime, settled: &Settled) -> io::Result<u8> {
+fn print_numbers(rt: &HostRuntime, settled: &Settled) -> io::Result<u8>
+    ensures { IfOk result (λ status. 0 < status → status ≡ 4) }
+{
     let Ok(mut printed) = BufWriter::new(rt.alloc(), io::writer(rt)) else {
         return Ok(say_no_memory(rt, OUTPUT));
     };
@@ -60,7 +73,9 @@ struct Target<'a> {
 }
 
 // Prints the numbers of settled records, if the log's name still leads to it. Returns the status.
-fn tell(to: Target<'_>, settled: &Settled) -> io::Result<u8> {
+fn tell(to: Target<'_>, settled: &Settled) -> io::Result<u8>
+    ensures { IfOk result (λ status. 0 < status → IsFaultStatus status) }
+{
     match to.identity.has_moved(to.rt, to.path) {
         Ok(false) => print_numbers(to.rt, settled),
         Ok(true) => Ok(say_failed(to.rt, to.path, &MOVED)),
@@ -69,7 +84,14 @@ fn tell(to: Target<'_>, settled: &Settled) -> io::Result<u8> {
 }
 
 // Syncs what was appended, and prints its numbers. Returns the status.
-fn settle(to: Target<'_>, journal: &mut Journal<Log, MOST>, group: Group) -> io::Result<u8> {
+fn settle<S: Store>(to: Target<'_>, journal: &mut Journal<S, MOST>, group: Group) -> io::Result<u8>
+    ensures failed { IfOk result (λ status. 0 < status → IsFaultStatus status) }
+    ensures settled { IfOk result (λ status. status ≡ 0 → (first_of group ≡ behind_of group)
+        ⊎ Settles (S.line (store_of journal.new)).told (S.settled (store_of journal.new))) }
+    ensures held { (S.line (store_of journal.new)).told ≡ (S.line (store_of journal.old)).told }
+    ensures no_less { S.settled (store_of journal.old) ≤ S.settled (store_of journal.new) }
+    ensures next { next_of journal.new ≡ next_of journal.old }
+{
     if group.is_empty() {
         return Ok(0);
     }
@@ -80,12 +102,14 @@ fn settle(to: Target<'_>, journal: &mut Journal<Log, MOST>, group: Group) -> io:
 }
 
 // The same at the end of appending, with its status. If an append failed the journal is spent, so the store itself is synced.
-fn settle_last(
+fn settle_last<S: Store + Drop>(
     to: Target<'_>,
-    journal: Journal<Log, MOST>,
+    journal: Journal<S, MOST>,
     group: Group,
     status: u8,
-) -> io::Result<u8> {
+) -> io::Result<u8>
+    ensures { IfOk result (λ last. (last ≡ status) ⊎ IsFaultStatus last) }
+{
     if group.is_empty() {
         return Ok(status);
     }
@@ -157,7 +181,9 @@ fn next_text<R: BufRead>(
     rt: &HostRuntime,
     input: &mut R,
     number: u64,
-) -> Result<Option<Option<String>>, u8> {
+) -> Result<Option<Option<String>>, u8>
+    ensures { IfErr result (λ status. IsFaultStatus status) }
+{
     match read_line(rt.alloc(), input) {
         Ok(Some(Line::Read(line))) => match String::from_utf8(line) {
             Ok(text) => Ok(Some(Some(text))),
@@ -187,13 +213,24 @@ enum Next {
 }
 
 // Appends a line, without a sync.
-fn append_text(
+fn append_text<S: Store>(
     to: Target<'_>,
-    journal: &mut Journal<Log, MOST>,
+    journal: &mut Journal<S, MOST>,
     group: &mut Group,
     text: String,
     line: u64,
-) -> Next {
+) -> Next
+    ensures appended { OnAppended result (AppendsRecord group.old
+        (log_place S.line S.settled journal.old) group.new
+        (log_place S.line S.settled journal.new)) }
+    ensures left_out { OnLeftOut result ((group.new ≡ group.old)
+        × (store_of journal.new ≡ store_of journal.old)) }
+    ensures none { IfStops result (λ _. AppendsNone group.old
+        (log_place S.line S.settled journal.old) group.new
+        (log_place S.line S.settled journal.new)) }
+    ensures failed { IfStops result (λ status. IsFaultStatus status) }
+    ensures settled { S.settled (store_of journal.new) ≡ S.settled (store_of journal.old) }
+{
     let entry = Sealed((journal.next(), text));
     match group.append(journal, &entry) {
         Ok(()) => Next::Appended,
@@ -206,13 +243,24 @@ fn append_text(
 }
 
 // Appends the next line of the input, which has this number.
-fn append_next<R: BufRead>(
+fn append_next<R: BufRead, S: Store>(
     to: Target<'_>,
     input: &mut R,
-    journal: &mut Journal<Log, MOST>,
+    journal: &mut Journal<S, MOST>,
     group: &mut Group,
     line: u64,
-) -> Next {
+) -> Next
+    ensures appended { OnAppended result (AppendsRecord group.old
+        (log_place S.line S.settled journal.old) group.new
+        (log_place S.line S.settled journal.new)) }
+    ensures left_out { OnLeftOut result ((group.new ≡ group.old)
+        × (store_of journal.new ≡ store_of journal.old)) }
+    ensures none { IfStops result (λ _. AppendsNone group.old
+        (log_place S.line S.settled journal.old) group.new
+        (log_place S.line S.settled journal.new)) }
+    ensures failed { IfStops result (λ status. IsFaultStatus status) }
+    ensures settled { S.settled (store_of journal.new) ≡ S.settled (store_of journal.old) }
+{
     match next_text(to.rt, input, line) {
         Ok(Some(Some(text))) => append_text(to, journal, group, text, line),
         Ok(Some(None)) => {
@@ -224,22 +272,31 @@ fn append_next<R: BufRead>(
     }
 }
 
+// The status at the end of the input: whether a line was left out.
+fn status_by(left_out: bool) -> u8
+    ensures { result ≡ (if left_out then 1 else 0) }
+{
+    if left_out { 1 } else { 0 }
+}
+
 // Appends each line of standard input but those that are too long. The log is synced, and the numbers are printed, before a read that
 // may wait: so lines that are there already share a sync.
-fn append_lines(to: Target<'_>, journal: Journal<Log, MOST>) -> io::Result<u8> {
+fn append_lines<S: Store + Drop>(to: Target<'_>, journal: Journal<S, MOST>) -> io::Result<u8>
+    ensures { IfOk result (λ status. status < 2 ⊎ IsFaultStatus status) }
+{
     let Ok(mut input) = BufReader::with_capacity(to.rt.alloc(), ROOM, to.rt.reader()) else {
         return Ok(say_no_memory(to.rt, INPUT));
     };
     let mut journal = journal;
     let mut group = Group::new(&journal);
-    let mut status = 0u8;
+    let mut left_out = false;
     let mut line = 0u64;
     for _ in 0..u64::MAX {
         line = line.saturating_add(1);
         match append_next(to, &mut input, &mut journal, &mut group, line) {
             Next::Appended => {}
-            Next::LeftOut => status = 1,
-            Next::Ended => return settle_last(to, journal, group, status),
+            Next::LeftOut => left_out = true,
+            Next::Ended => return settle_last(to, journal, group, status_by(left_out)),
             Next::Failed(failed) => return settle_last(to, journal, group, failed),
         }
         if memchr(b'\n', input.buffer()).is_none() {
@@ -249,11 +306,13 @@ fn append_lines(to: Target<'_>, journal: Journal<Log, MOST>) -> io::Result<u8> {
             }
         }
     }
-    Ok(status)
+    Ok(status_by(left_out))
 }
 
 // Takes the lock of a log's file, or writes why that failed. Returns the status.
-fn lock(rt: &HostRuntime, path: &str, file: &File) -> u8 {
+fn lock(rt: &HostRuntime, path: &str, file: &File) -> u8
+    ensures { 0 < result → IsFaultStatus result }
+{
     match file.try_lock() {
         Ok(()) => 0,
         Err(TryLockError::WouldBlock) => say_failed(rt, path, &"in use"),
@@ -263,7 +322,9 @@ fn lock(rt: &HostRuntime, path: &str, file: &File) -> u8 {
 
 /// Appends each line of standard input to a log that nobody else appends to, and prints its number once it is synced and the log's name
 /// still leads to it. Returns the status.
-pub fn append(rt: &HostRuntime, path: &str) -> io::Result<u8> {
+pub fn append(rt: &HostRuntime, path: &str) -> io::Result<u8>
+    ensures { IfOk result (λ status. status < 2 ⊎ IsFaultStatus status) }
+{
     let file = match open_file(rt, path, true) {
         Ok(file) => file,
         Err(status) => return Ok(status),

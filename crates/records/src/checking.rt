@@ -1,6 +1,7 @@
 //! Checking a log, and repairing one.
-ghost use Rattle.std.specs.Prelude.{◌≡◌, ◌↔◌, ◌==◌, ◌&&◌, not, is_some, true, false, None, [], ◌∷◌, IfSome, OnOk, OnErr};
-ghost use Rattle.records.specs.Checking.{HasKeptStretches, keeps_laws, sealed_number, fault_word, greater_number, does_print, is_sound, greatest_told, is_sealed_record};
+ghost use Rattle.std.specs.Prelude.{◌≡◌, ◌↔◌, ◌⊎◌, ◌<◌, ◌==◌, ◌&&◌, not, is_some, true, false, None, [], ◌∷◌, IfOk, IfSome, OnOk, OnErr};
+ghost use Rattle.records.specs.Checking.{HasKeptStretches, keeps_laws, sealed_number, fault_word, greater_number, does_print, is_sound, greatest_told, is_sealed_record, MissesNone, IsSoundLog};
+ghost use Rattle.records.specs.Statuses.{IsFaultStatus, check_status};
 
 use crate::entries::{
     Entry, INPUT, MOST, OUTPUT, open_file, read_input, say_failed, say_no_memory, status_of,
@@ -11,6 +12,7 @@ use journal::stores::{MemoryStore, Store, Stored};
 use journal_scan::{CheckError, Judge, RepairError, Report, Stretch, Tally, Watcher};
 use line_io::{Writes, write_all};
 use link::Answer;
+use postcard_tree::Readable;
 use sealed::Sealed;
 use std::io;
 
@@ -209,7 +211,9 @@ impl Watcher<Entry> for Printer<'_> {
 }
 
 // Writes why a check stopped before the end of the log, and returns the status.
-fn status_at(rt: &HostRuntime, log: &str, e: CheckError) -> u8 {
+fn status_at(rt: &HostRuntime, log: &str, e: CheckError) -> u8
+    ensures { result ≡ check_status e }
+{
     match e {
         CheckError::Read(e) => status_of(rt, log, e),
         CheckError::Halted => say_failed(rt, OUTPUT, &"write failed"),
@@ -231,13 +235,28 @@ fn print_counted(rt: &HostRuntime, records: u64, greatest: Option<u64>) -> io::R
     }
 }
 
+// Whether no number is missing.
+fn misses_none(tally: &Tally) -> bool
+    ensures { result ≡ true → MissesNone tally.now }
+{
+    match tally.missing().next() {
+        Some(_) => false,
+        None => true,
+    }
+}
+
 // Prints the damage of the log as a whole, and how many records it has. Returns the status.
 fn sum_up(
     rt: &HostRuntime,
     report: &Report<Entry>,
     sound: bool,
     greatest: Option<u64>,
-) -> io::Result<u8> {
+) -> io::Result<u8>
+    ensures sound { IfOk result (λ status. status ≡ 0 → (sound ≡ true)
+        × (report.now.unfinished ≡ None) × MissesNone report.now.tally) }
+    ensures damaged { IfOk result (λ status. 0 < status → status ≡ 1) }
+    ensures unsound { IfOk result (λ status. sound ≡ false → status ≡ 1) }
+{
     let colour = Colour::new(rt);
     if let Some(last) = &report.unfinished {
         let from = last.from;
@@ -246,11 +265,17 @@ fn sum_up(
     }
     print_missing(rt, colour, &report.tally)?;
     print_counted(rt, report.tally.counted(), greatest)?;
-    let whole = report.unfinished.is_none() && report.tally.missing().next().is_none();
+    let whole = report.unfinished.is_none() && misses_none(&report.tally);
     if whole && sound { Ok(0) } else { Ok(1) }
 }
 
-fn check_in<S: Store>(rt: &HostRuntime, log: &str, store: &mut S) -> io::Result<u8> {
+fn check_in<S: Store>(rt: &HostRuntime, log: &str, store: &mut S) -> io::Result<u8>
+    ensures sound { IfOk result (λ status. status ≡ 0
+        → IfSome (S.line store.old).told
+        (λ bytes. IsSoundLog ⟦<Entry as Readable>⟧.form MOST bytes)) }
+    ensures held { (S.line store.new).told ≡ (S.line store.old).told }
+    ensures status { IfOk result (λ status. status < 2 ⊎ IsFaultStatus status) }
+{
     let mut printer = Printer::new(rt);
     let checked = journal_scan::check::<Entry, S, Printer<'_>>(
         rt.alloc(),
@@ -266,7 +291,9 @@ fn check_in<S: Store>(rt: &HostRuntime, log: &str, store: &mut S) -> io::Result<
 }
 
 /// Prints the damage of a log, the missing numbers and the count of records. Returns the status.
-pub fn check(rt: &HostRuntime, path: Option<&str>) -> io::Result<u8> {
+pub fn check(rt: &HostRuntime, path: Option<&str>) -> io::Result<u8>
+    ensures { IfOk result (λ status. status < 2 ⊎ IsFaultStatus status) }
+{
     match path {
         Some(path) => match open_file(rt, path, false) {
             Ok(file) => check_in(rt, path, &mut Stored::new(file)),

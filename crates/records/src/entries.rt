@@ -1,4 +1,6 @@
 //! What a record is, how logs are opened, and messages about files.
+ghost use Rattle.std.specs.Prelude.{◌≡◌, ◌<◌, IfErr};
+ghost use Rattle.records.specs.Statuses.{IsFaultStatus, scan_status};
 
 use journal::stores::MemoryStore;
 use journal_scan::ScanError;
@@ -18,7 +20,9 @@ pub type Entry = Sealed<(u64, String)>;
 ///
 /// # Errors
 /// The program's status, if that fails; the message is written.
-pub fn open_file(rt: &HostRuntime, path: &str, write: bool) -> Result<File, u8> {
+pub fn open_file(rt: &HostRuntime, path: &str, write: bool) -> Result<File, u8>
+    ensures { IfErr result (λ status. IsFaultStatus status) }
+{
     let mut options = OpenOptions::new();
     options.read(true);
     if write {
@@ -42,7 +46,9 @@ fn open_folder(rt: &HostRuntime, path: &str) -> io::Result<File> {
 }
 
 /// Syncs the folder of a file, so that the file survives a crash, or writes why that failed. Returns the status.
-pub fn sync_folder(rt: &HostRuntime, path: &str) -> u8 {
+pub fn sync_folder(rt: &HostRuntime, path: &str) -> u8
+    ensures { 0 < result → IsFaultStatus result }
+{
     match open_folder(rt, path) {
         Ok(opened) => match opened.sync_all() {
             Ok(()) => 0,
@@ -53,7 +59,9 @@ pub fn sync_folder(rt: &HostRuntime, path: &str) -> u8 {
 }
 
 // Writes why the folder of a file isn't synced, and returns the status.
-fn say_unsynced(rt: &HostRuntime, path: &str, e: &io::Error) -> u8 {
+fn say_unsynced(rt: &HostRuntime, path: &str, e: &io::Error) -> u8
+    ensures { IsFaultStatus result }
+{
     if e.kind() == ErrorKind::OutOfMemory {
         return say_no_memory(rt, path);
     }
@@ -90,7 +98,9 @@ pub fn named(word: &str) -> &str {
 }
 
 /// Writes what failed about a file to standard error, and returns the status 3.
-pub fn say_failed<W: Display>(rt: &HostRuntime, file: &str, what: &W) -> u8 {
+pub fn say_failed<W: Display>(rt: &HostRuntime, file: &str, what: &W) -> u8
+    ensures { result ≡ 3 }
+{
     let name = named(file);
     // if this fails too, the status is the same
     let _ = eprintln!(rt; "records: {name}: {what}");
@@ -104,13 +114,17 @@ pub fn say_line(rt: &HostRuntime, line: u64, what: &str) {
 }
 
 /// Writes that an allocation failed, and returns the status 4.
-pub fn say_no_memory(rt: &HostRuntime, file: &str) -> u8 {
+pub fn say_no_memory(rt: &HostRuntime, file: &str) -> u8
+    ensures { result ≡ 4 }
+{
     say_failed(rt, file, &"out of memory");
     4
 }
 
 /// Writes why reading or writing a file failed, and returns the status.
-pub fn say_error(rt: &HostRuntime, file: &str, e: &io::Error) -> u8 {
+pub fn say_error(rt: &HostRuntime, file: &str, e: &io::Error) -> u8
+    ensures { IsFaultStatus result }
+{
     if e.kind() == ErrorKind::OutOfMemory {
         return say_no_memory(rt, file);
     }
@@ -121,7 +135,9 @@ pub fn say_error(rt: &HostRuntime, file: &str, e: &io::Error) -> u8 {
 ///
 /// # Errors
 /// The program's status, if reading or an allocation fails; the message is written.
-pub fn read_input(rt: &HostRuntime) -> Result<MemoryStore, u8> {
+pub fn read_input(rt: &HostRuntime) -> Result<MemoryStore, u8>
+    ensures { IfErr result (λ status. IsFaultStatus status) }
+{
     let mut bytes = Vec::new(rt.alloc());
     match read_to_end(&mut Reads::new(rt.stdin()), &mut bytes) {
         End::Ended => Ok(MemoryStore::new(bytes)),
@@ -131,7 +147,9 @@ pub fn read_input(rt: &HostRuntime) -> Result<MemoryStore, u8> {
 }
 
 /// Writes why a scan stopped before the end of the log, and returns the status.
-pub fn status_of(rt: &HostRuntime, log: &str, e: ScanError) -> u8 {
+pub fn status_of(rt: &HostRuntime, log: &str, e: ScanError) -> u8
+    ensures { result ≡ scan_status e }
+{
     match e {
         ScanError::Fault => say_failed(rt, log, &"read failed"),
         ScanError::NoMemory => say_no_memory(rt, log),

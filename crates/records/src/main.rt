@@ -16,6 +16,9 @@
 //! 4 out of memory.
 #![tactic(auto)]
 
+ghost use Rattle.std.specs.Prelude.{◌≡◌, IfOk, OnErr};
+ghost use Rattle.records.specs.Statuses.{IsFaultStatus};
+
 mod about;
 mod appending;
 mod checking;
@@ -42,7 +45,9 @@ const USAGE: &str =
     "usage: records append FILE, show [FILE] [from=N] [last=K] [json], check [FILE], repair, or follow FILE [from=N] [json]";
 
 // Says which word is wrong, and how the program is called.
-fn say_wrong(rt: &HostRuntime, wrong: WrongArgument<'_>) -> io::Result<u8> {
+fn say_wrong(rt: &HostRuntime, wrong: WrongArgument<'_>) -> io::Result<u8>
+    ensures { IfOk result (λ status. status ≡ 2) }
+{
     let name = named(wrong.word);
     let why = wrong.why;
     eprintln!(rt; "records: {name}: {why}")?;
@@ -50,7 +55,9 @@ fn say_wrong(rt: &HostRuntime, wrong: WrongArgument<'_>) -> io::Result<u8> {
     Ok(2)
 }
 
-fn wrong(rt: &HostRuntime, word: &str, why: &'static str) -> io::Result<u8> {
+fn wrong(rt: &HostRuntime, word: &str, why: &'static str) -> io::Result<u8>
+    ensures { IfOk result (λ status. status ≡ 2) }
+{
     say_wrong(rt, WrongArgument { word, why })
 }
 
@@ -150,10 +157,18 @@ fn run(rt: &HostRuntime) -> io::Result<u8> {
     }
 }
 
-fn main(rt: HostRuntime) -> ExitCode {
-    match run(&rt) {
-        Ok(status) => ExitCode::from(status),
-        // every other failure was reported when it happened
-        Err(e) => ExitCode::from(say_error(&rt, OUTPUT, &e)),
+// The status of a command; an error, which is one of printing, since every other failure was reported when it happened, is written.
+fn report(rt: &HostRuntime, ran: io::Result<u8>) -> u8
+    ensures told { IfOk ran (λ status. result ≡ status) }
+    ensures failed { OnErr ran (IsFaultStatus result) }
+{
+    match ran {
+        Ok(status) => status,
+        Err(e) => say_error(rt, OUTPUT, &e),
     }
+}
+
+fn main(rt: HostRuntime) -> ExitCode {
+    let ran = run(&rt);
+    ExitCode::from(report(&rt, ran))
 }
