@@ -6,6 +6,7 @@ use help::Progress;
 use journal::stores::{Store, Stored};
 use journal_scan::{Scan, ScanError};
 use link::Answer;
+use memchr::memchr;
 use sealed::Sealed;
 use std::alloc::Global;
 use std::io::{self, BufWriter, ErrorKind, Write};
@@ -39,6 +40,8 @@ fn write_record<W: Write>(
 ) -> io::Result<()> {
     let Wanted { json, escaped, .. } = wanted;
     if !json {
+        // one that `append` never writes: unescaped, it would end the line, and a second one would look like another record
+        let escaped = escaped || memchr(b'\n', text.as_bytes()).is_some();
         write!(to, "{number} ")?;
         write_text(to, text, json, escaped)?;
         return writeln!(to);
