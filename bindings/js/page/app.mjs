@@ -6,7 +6,7 @@ import { Files, hexOf, Kept, Lines, logLine, Writing } from "./lines.mjs";
 
 const it = (id) => document.getElementById(id);
 const SHOWN = 500, KEPT = 100000, KEPT_BYTES = 1 << 26, WINDOW = 2000;
-let table, lines, writing, port, reader;
+let table, lines, writing, port, reader, writer;
 let began = performance.now(), entries = [], held = 0, dropped = 0, kept = new Kept(KEPT_BYTES), kinds = new Map(), recent = [], fresh = [], paused = false;
 let last; // byte that came of the port
 
@@ -70,10 +70,10 @@ const sizeOf = ({ bytes, text }) => bytes.length + text.length;
 function note(found, now = performance.now()) {
   for (const entry of found) {
     entry.seconds = (now - began) / 1000;
-    const kind = kinds.get(entry.kind) ?? { count: 0, bad: entry.bad, times: [] };
+    const name = `${entry.bad} ${entry.kind}`, kind = kinds.get(name) ?? { count: 0, name: entry.kind, bad: entry.bad, times: [] }; // a variant may be called `damaged`
     kind.count++;
     kind.times.push(now);
-    kinds.set(entry.kind, kind);
+    kinds.set(name, kind);
     entries.push(entry);
     held += sizeOf(entry);
     fresh.push(entry);
@@ -127,9 +127,9 @@ function redraw() {
 /** The counts and rates, which are averages over the last two seconds. */
 function show() {
   const now = performance.now(), span = (name, text) => Object.assign(document.createElement("span"), { className: name, textContent: text });
-  it("kinds").replaceChildren(...[...kinds].map(([name, kind]) => {
+  it("kinds").replaceChildren(...[...kinds.values()].map((kind) => {
     kind.times = kind.times.filter((time) => now - time < WINDOW);
-    const rate = kind.times.length / (WINDOW / 1000), whole = span(kind.bad ? "bad" : "", `${name} ${kind.count}`);
+    const rate = kind.times.length / (WINDOW / 1000), whole = span(kind.bad ? "bad" : "", `${kind.name} ${kind.count}`);
     if (rate) whole.append(span("rate", ` ${rate.toFixed(1)}/s`));
     return whole;
   }));
@@ -161,7 +161,12 @@ async function connect() {
     } catch (error) { it("lost").textContent = `the line: ${error.message}`; } finally { reader.releaseLock(); }
   }
   ended();
-  try { await port.close(); } catch {}
+  try {
+    const held = writer; // of a send that waits, as for a device that takes nothing: it would keep the port open
+    await held?.abort();
+    held?.releaseLock();
+    await port.close();
+  } catch {}
   port = undefined;
   it("connect").disabled = false;
   it("close").disabled = it("send").disabled = true;
@@ -192,12 +197,15 @@ const files = new Files({
 });
 async function send() {
   it("refused").textContent = it("sent").textContent = "";
-  let writer;
+  let own;
   try {
-    writer = port.writable.getWriter();
-    const message = await writing.write(writer, it("json").value);
+    writer = own = port.writable.getWriter();
+    const message = await writing.write(own, it("json").value);
     it("sent").textContent = `${message.length} bytes: ${hexOf(message, 32)}`;
-  } catch (error) { it("refused").textContent = error instanceof Wrong ? error.message : `not sent: ${error.message}`; } finally { writer?.releaseLock(); }
+  } catch (error) { it("refused").textContent = error instanceof Wrong ? error.message : `not sent: ${error.message}`; } finally {
+    own?.releaseLock();
+    if (writer === own) writer = undefined;
+  }
 }
 function save(name, type, parts) {
   const link = document.createElement("a");
@@ -230,7 +238,7 @@ it("log").tabIndex = 0;
 for (const id of ["form", "type", "sentinel", "table"]) it(id).addEventListener(id === "type" || id === "form" ? "change" : "input", settle);
 for (const id of ["tableFile", "file"]) {
   it(id).onchange = () => {
-    files.take(it(id).files);
+    files.take(it(id).files, id === "tableFile");
     it(id).value = ""; // the same file may be chosen again
   };
 }

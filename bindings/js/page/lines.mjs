@@ -103,23 +103,24 @@ export class Kept {
   get parts() { return this.#blocks.map((it, i) => (i === this.#blocks.length - 1 ? it.subarray(0, BLOCK - this.#space) : it)); }
 }
 
-const isTable = (file) => file.name.endsWith(".json");
 /**
- * Files one after another, whenever they are dropped, tables before captures. Of its owner it calls `table(text)`; `begin(isFirst)`, which
- * returns the Lines of a capture, or nothing; `note(entries, bytes)`; and `report(line)`, once for each capture, or `fail(line)`.
+ * Files one after another, whenever they are dropped, tables before captures: a file is a table by its name, `*.json`, or if all of them are.
+ * Of its owner it calls `table(text)`; `begin(isFirst)`, which returns the Lines of a capture, or nothing; `note(entries, bytes)`; and
+ * `report(line)`, once for each capture, or `fail(line)`.
  */
 export class Files {
   #waiting = []; #owner;
   isReading = false;
   constructor(owner) { this.#owner = owner; }
-  async take(files) {
-    this.#waiting.push(...Array.from(files).sort((a, b) => isTable(b) - isTable(a)));
+  async take(files, areTables = false) {
+    this.#waiting.push(...Array.from(files, (file) => ({ file, isTable: areTables || file.name.endsWith(".json") })).sort((a, b) => b.isTable - a.isTable));
     if (this.isReading) return;
     this.isReading = true;
     let isFirst = true;
-    for (let file; (file = this.#waiting.shift()); ) {
+    while (this.#waiting.length) {
+      const { file, isTable } = this.#waiting.shift();
       try {
-        if (isTable(file)) this.#owner.table(await file.text());
+        if (isTable) this.#owner.table(await file.text());
         else isFirst = !(await this.#read(file, isFirst)) && isFirst;
       } catch (error) { this.#owner.fail(`${file.name}: ${error.message}`); }
     }

@@ -33,13 +33,21 @@ const stub = `
   const bytes = Uint8Array.from(${JSON.stringify(session)});
   Object.defineProperty(navigator, "serial", { configurable: true, value: { requestPort: async () => {
     const port = {
-      open: async ({ baudRate }) => { if (globalThis.refuses) throw new Error("it is open elsewhere"); globalThis.baud = baudRate; }, close: async () => { globalThis.isClosed = true; },
+      open: async ({ baudRate }) => { if (globalThis.refuses) throw new Error("it is open elsewhere"); globalThis.baud = baudRate; }, 
+      close: async () => { if (globalThis.isLocked) throw new TypeError("a write waits"); globalThis.isClosed = true; },
       readable: new ReadableStream({ async start(to) {
         for (let at = 0, n = 1; at < bytes.length; n = (n * 7 + 3) % 61 + 1) { to.enqueue(bytes.slice(at, at + n)); at += n; await new Promise((go) => setTimeout(go, 1)); }
         globalThis.more = (...more) => to.enqueue(Uint8Array.from(more));
         globalThis.lost = () => { port.readable = null; to.error(new Error("the device is gone")); };
       } }),
-      writable: { getWriter: () => ({ async write(it) { if (fails) throw new Error("broken"); written.push(...it); }, releaseLock() {} }) },
+      writable: { getWriter: () => {
+        if (globalThis.isLocked) throw new TypeError("locked");
+        globalThis.isLocked = true;
+        return {
+          async write(it) { if (fails) throw new Error("broken"); if (globalThis.waits) await new Promise((_, no) => { globalThis.ends = no; }); written.push(...it); },
+          async abort() { globalThis.ends?.(new Error("the port was closed")); }, releaseLock() { globalThis.isLocked = false; },
+        };
+      } },
     };
     return port;
   } } });`;
@@ -197,6 +205,18 @@ try {
     await browser.until(`document.querySelector("#rows td.text")?.textContent === ${JSON.stringify(text)}`, text);
   }
 
+  // a table of any name, and a variant that is called as what is no message
+  const choose = (id, name, content) => browser.run(`{ const data = new DataTransfer(), it = document.getElementById("${id}");
+    data.items.add(new File([${content}], "${name}"));
+    it.files = data.files;
+    it.dispatchEvent(new Event("change")); }`);
+  await choose("tableFile", "types.txt", JSON.stringify(JSON.stringify({ version: 1, types: [{ name: "Event", line: 1, node: 0 }],
+    nodes: [{ kind: "enum", variants: [{ name: "damaged", node: 1 }], size: 1 }, { kind: "empty", size: 0 }] })));
+  await browser.until(`document.getElementById("type").value === "Event"`, "a table was chosen");
+  await choose("file", "events.bin", "Uint8Array.of(1, 1, 0, 1, 1, 0, 9, 0)");
+  await browser.until(`document.getElementById("foot").innerText.includes("2 messages, 1 damaged")`, "its variants are messages");
+  assert.match(await text("kinds"), /damaged 2\b.*\n*damaged 1\b/);
+
   // a setting that is changed inside a frame: its end, which would be a message by itself, is none
   await set("form", "plain", "change");
   await click("clear");
@@ -208,8 +228,16 @@ try {
   await browser.run("more(2, 104, 0, 2, 105, 0)");
   await browser.until(`document.querySelectorAll("#rows tr").length > 0`, "the next message is shown");
   assert.deepEqual((await rows()).map((it) => [it[1], it[3]]), [["3–5", '"i"']]);
+  // a send that waits, as for a device that takes nothing, doesn't keep the port open
+  await browser.run("waits = true");
+  await set("json", "01");
+  await click("send");
+  await browser.until("globalThis.ends", "a send waits");
+  await click("send");
+  await browser.until(`document.getElementById("refused").innerText === "not sent: locked"`, "another send is refused meanwhile");
   await click("close");
   await browser.until(`globalThis.isClosed`, "the port is closed again");
+  await browser.until(`document.getElementById("refused").innerText === "not sent: the port was closed"`, "the send that waited is said");
 
   // of long lines no more is kept than of the bytes
   await set("form", "plain", "change");

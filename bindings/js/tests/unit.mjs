@@ -261,6 +261,9 @@ async function dropped() {
   const gone = Object.assign(new File([], "gone"), { stream() { throw new Error("it isn't there"); } });
   await files.take([gone, slow(HI, "next")]);
   assert.deepEqual(said, ["begin", "gone: it isn't there", "begin", "next message 1", "next: 6 bytes, messages 1, damaged 0"]);
+  said.length = 0;
+  await files.take([new File(["{}"], "types")], true);
+  assert.deepEqual(said, ["table {}"]);
   assert.equal(JSON.parse(logLine({ seconds: 1, file: 'a"b', kind: "cut", bad: true, from: 0, to: 1, bytes: HI })).file, 'a"b');
 }
 /** What the page keeps of a line: its last bytes, whose cost doesn't depend on the chunks that they came in. */
