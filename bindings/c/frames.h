@@ -70,8 +70,8 @@ struct frames_written {
     uint8_t status;
 };
 
-/* What was read: how many bytes of the source were used, and how long the message is, or with FRAMES_INVALID how many bytes of it precede
- * the error. */
+/* What was read: how many bytes of the source were used, 0 if it was refused; and how long the message is, or with FRAMES_INVALID how many
+ * bytes of it precede the error. */
 struct frames_read {
     size_t used;
     size_t length;
@@ -86,8 +86,9 @@ struct frames_receiver {
     uint8_t sentinel;
 };
 
-/* The result of a push: how many bytes were used; how long the stretch is; where in the buffer the message begins, and how long it is;
- * what was found. */
+/* The result of a push: how many bytes were used, 0 with FRAMES_MISUSED; how many bytes of the stretch came before the last one that was
+ * used, 0 with FRAMES_MORE and FRAMES_MISUSED; where in the buffer the message begins, and how long it is, both 0 without one; what was
+ * found. */
 struct frames_event {
     size_t used;
     size_t stretch;
@@ -182,7 +183,8 @@ static inline struct frames_written frames_encode_with_sentinel(const uint8_t *s
 }
 
 /* Decodes the first frame of a source, after any zeros, up to the next zero or to the end. used counts the leading zeros, the frame, and
- * its zero if there is one. FRAMES_EMPTY, FRAMES_INVALID, or FRAMES_NO_ROOM. */
+ * its zero if there is one. FRAMES_EMPTY, FRAMES_INVALID, or FRAMES_NO_ROOM: bytes of a message that precede the error are in dest then, as
+ * far as they fit. */
 static inline struct frames_read frames_decode(const uint8_t *source, size_t length, uint8_t *dest, size_t room) {
     if (!frames_is_read(source, length) || !frames_is_there(dest, room)) {
         struct frames_read null = {0, 0, FRAMES_NULL};
@@ -192,7 +194,7 @@ static inline struct frames_read frames_decode(const uint8_t *source, size_t len
 }
 
 /* Decodes the bytes before the first sentinel, or all if there is none. If there are no bytes before it, the message has none.
- * FRAMES_INVALID, or FRAMES_NO_ROOM. */
+ * FRAMES_INVALID, or FRAMES_NO_ROOM, and dest as with frames_decode. */
 static inline struct frames_written frames_decode_with_sentinel(const uint8_t *source, size_t length, uint8_t *dest, size_t room,
                                                                 uint8_t sentinel) {
     if (!frames_is_read(source, length) || !frames_is_there(dest, room)) {
@@ -203,7 +205,7 @@ static inline struct frames_written frames_decode_with_sentinel(const uint8_t *s
 }
 
 /* Decodes the bytes before the first sentinel, or all if there is none, within one buffer: the message is at its start then. The sentinel
- * and what follows are unchanged; used doesn't count the sentinel. FRAMES_INVALID. */
+ * and what follows are unchanged; used doesn't count the sentinel. FRAMES_INVALID, and the bytes before the sentinel may have changed. */
 static inline struct frames_read frames_decode_in_place(uint8_t *buffer, size_t length, uint8_t sentinel) {
     if (!frames_is_read(buffer, length)) {
         struct frames_read null = {0, 0, FRAMES_NULL};
@@ -238,8 +240,8 @@ static inline struct frames_event frames_push_plain(struct frames_receiver *rece
     return frames_c_push_plain(receiver, frames_to(buffer), room, frames_from(bytes), length);
 }
 
-/* A push of one byte, for an interrupt handler. Returns what was found, and writes the event unless that is FRAMES_MORE or
- * FRAMES_MISUSED. */
+/* A push of one byte, for an interrupt handler. Returns what was found. If that is FRAMES_MESSAGE, FRAMES_DAMAGED or FRAMES_TOO_LONG, the
+ * event is that of frames_push of this byte; with FRAMES_MORE and FRAMES_MISUSED it stays as it was. */
 static inline uint8_t frames_push_byte(struct frames_receiver *receiver, uint8_t *buffer, size_t room, uint8_t byte,
                                        struct frames_event *event) {
     if (!receiver || !event || !frames_is_there(buffer, room)) {

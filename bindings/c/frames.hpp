@@ -182,6 +182,8 @@ class sender {
     }
     ~sender() { leave(); }
     sender &operator=(sender &&other) noexcept {
+        if (this == &other) // else a send inside of its own write would go out
+            return *this;
         state_ = std::exchange(other.state_, frames_sender(other.state_.sentinel));
         kind_ = other.kind_;
         leave();
@@ -210,7 +212,8 @@ class sender {
     }
 };
 
-// The shortest frame of a message, each byte XORed with the sentinel, without one after it. No bytes if the pointer is null and the size isn't 0.
+// The shortest frame of a message, each byte XORed with the sentinel, without one after it. No bytes if the pointer is null and the size
+// isn't 0, or if the size is that of a read that failed (-1).
 inline std::vector<std::uint8_t> encode(bytes content, std::uint8_t sentinel = 0) {
     std::vector<std::uint8_t> out(frames_encoded_length(content.data(), content.size()));
     frames_encode_with_sentinel(content.data(), content.size(), out.data(), out.size(), sentinel);
@@ -219,8 +222,10 @@ inline std::vector<std::uint8_t> encode(bytes content, std::uint8_t sentinel = 0
 
 // The message of one frame, with or without the sentinel that ends it; nothing for all other bytes.
 inline std::optional<std::vector<std::uint8_t>> decode(bytes frame, std::uint8_t sentinel = 0) {
+    if (frame.empty() || !frames_is_read(frame.data(), frame.size()))
+        return std::nullopt;
     for (std::size_t at = 0; at + 1 < frame.size() || at == 0; at++)
-        if (frame.empty() || !frame.data() || frame.data()[at] == sentinel)
+        if (frame.data()[at] == sentinel)
             return std::nullopt;
     std::vector<std::uint8_t> out(frame.size());
     const struct frames_written w = frames_decode_with_sentinel(frame.data(), frame.size(), out.data(), out.size(), sentinel);
@@ -233,9 +238,9 @@ inline std::optional<std::vector<std::uint8_t>> decode(bytes frame, std::uint8_t
 // The CRC-32 of bytes, as in Ethernet, gzip and PNG.
 inline std::uint32_t crc32(bytes content) { return frames_crc32(content.data(), content.size()); }
 
-// A message and its CRC-32, as four bytes, the lowest first. No bytes if the pointer is null and the size isn't 0.
+// A message and its CRC-32, as four bytes, the lowest first. No bytes where `encode` returns none.
 inline std::vector<std::uint8_t> seal(bytes content) {
-    if (!content.data() && !content.empty())
+    if (!frames_is_read(content.data(), content.size()))
         return {};
     std::vector<std::uint8_t> out(content.begin(), content.end());
     out.resize(content.size() + 4);

@@ -52,7 +52,8 @@ struct frames_small_receiver {
     uint8_t sentinel;
 };
 
-/* Where the message is: so many bytes of the buffer, from start on. stretch is how many bytes came before the sentinel. */
+/* Where the message is: so many bytes of the buffer, from start on. stretch is how many bytes came before the sentinel, or, if they are too
+ * many, before the byte past the buffer. */
 struct frames_small_event {
     size_t stretch;
     size_t start;
@@ -210,8 +211,8 @@ static inline uint8_t frames_small_brought(size_t stretch, uint8_t kind, struct 
     return kind;
 }
 
-/* Takes a byte, and returns its result; for an interrupt handler. The event is set unless that is FRAMES_SMALL_MORE or
- * FRAMES_SMALL_MISUSED. */
+/* Takes a byte, and returns its result; for an interrupt handler. With FRAMES_SMALL_MESSAGE the event is set; with FRAMES_SMALL_DAMAGED and
+ * FRAMES_SMALL_TOO_LONG its stretch alone, and start and length mean nothing; with the others it stays as it was. */
 static inline uint8_t frames_small_push_byte(struct frames_small_receiver *self, uint8_t *buffer, size_t buffer_len, uint8_t byte,
                                              struct frames_small_event *event) {
     size_t stretch;

@@ -70,6 +70,12 @@ static void inside() {
     int refused = 0;
     HOLDS(sender.send(outer, [&](frames::bytes b) { return receiver.push(b, [&](const frames::event &) { refused += !sender.send(inner, whole); }); }));
     HOLDS(refused == 1);
+    // one that its own write moves to itself stays inside of it
+    HOLDS(sender.send(outer, [&](frames::bytes) {
+        frames::sender &same = sender;
+        sender = std::move(same);
+        return !sender.send(inner, whole);
+    }));
     // a sender that is moved away by its own write begins with a sentinel, and so does the one that it became
     frames::sender taker;
     HOLDS(sender.send(outer, [&](frames::bytes) { return taker = std::move(sender), true; }));
@@ -221,8 +227,10 @@ int main() {
 #endif
     const std::array<std::uint8_t, 4> no_bytes{};
     HOLDS(frames::unseal(no_bytes)->empty() && frames::unseal(std::string_view("\0\0\0\0", 4))->empty());
-    const frames::bytes none(nullptr, 3);
-    HOLDS(frames::encode(none).empty() && frames::seal(none).empty() && !frames::decode(none) && !frames::unseal(none));
+    // a null pointer, and the size of a read that failed, which is looked at before the bytes
+    const std::vector<std::uint8_t> nonzero(1, 5);
+    for (const frames::bytes &none : {frames::bytes(nullptr, 3), frames::bytes(nonzero.data(), std::size_t(-1))})
+        HOLDS(frames::encode(none).empty() && frames::seal(none).empty() && !frames::decode(none) && !frames::unseal(none));
 #if __cplusplus >= 202002L
     const std::span<const std::uint8_t> view = frames::bytes(one);
     HOLDS(frames::encode(view) == frames::encode(one));
