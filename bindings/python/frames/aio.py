@@ -52,9 +52,12 @@ class Line:
     async def send(self, message: bytes) -> None:
         """Sends a message, and waits until the stream takes more.
 
-        After an exception, also if it is cancelled, the next send begins with a sentinel. Send the message again, if it has to arrive.
+        After an exception, also if it is cancelled, the next send begins with a sentinel. Send the message again, if it has to arrive. A writer
+        that is closed is a `ConnectionResetError`.
         """
         async with self._lock:
+            if hasattr(self._writer, "is_closing") and self._writer.is_closing():  # which drops these bytes, and says so only once its own are out
+                raise ConnectionResetError("the writer is closed")
             self._writer.write(self._sender.send(message))
             await self._writer.drain()
             self._sender.sent()

@@ -191,7 +191,10 @@ class _Stream(_Single):
 
     def listen(self, source: Any, ends: bool) -> Generator[Dict[str, Any], None, None]:
         for piece in _pieces(source, ends, lambda: self._is_closed):
-            yield from self.push(piece)
+            for answer in self.push(piece):
+                if self._is_closed:  # by the loop itself, or meanwhile
+                    return
+                yield answer
         if not self._is_closed:
             yield from self.push(b"", ends=True)
 
@@ -206,6 +209,8 @@ def _of_library(declarations: str, type_name: str, wire: Optional[str]) -> Optio
     """The type by the library, if that is what takes it."""
     if not isinstance(type_name, str):
         raise TypeError(f"a type is a text, such as 'Reading', not {type_name!r}")
+    if re.search("[\0\ud800-\udfff]", type_name):  # which no argument of a program can have, nor UTF-8
+        raise OSError(f"no type has the name {type_name!r}")
     if wire or os.environ.get("WIRE") or os.path.isdir(declarations) or ("," in declarations and not os.path.isfile(declarations)):
         return None
     calls = library()

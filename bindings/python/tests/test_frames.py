@@ -532,6 +532,22 @@ def test_aio():
         assert refuses(ValueError, aio.listen, asyncio.StreamReader(), 0)
         assert "Sender().write" in told_of(TypeError, aio.Line, io.BytesIO())
 
+    async def is_told_closed():  # while it still writes what came before
+        here, there = socket.socketpair()
+        with there:
+            for it, size in ((here, socket.SO_SNDBUF), (there, socket.SO_RCVBUF)):
+                it.setsockopt(socket.SOL_SOCKET, size, 4096)
+            _, writer = await asyncio.open_connection(sock=here)
+            line = aio.Line(writer)
+            writer.write(bytes(30000))  # of which the socket takes a part
+            writer.close()
+            try:
+                await line.send(b"this is dropped")
+            except ConnectionResetError:
+                return True
+            finally:
+                writer.transport.abort()
+
     async def refuses_to_wait(heard):
         try:
             await asyncio.wait_for(heard.__anext__(), 0.05)
@@ -539,6 +555,7 @@ def test_aio():
             return True
 
     asyncio.run(misused())
+    assert asyncio.run(is_told_closed())
     assert asyncio.run(cancelled(frames.Receiver(16))) == [b"\x09\x09\x03\x01X"]
     heard = asyncio.run(session())
     assert heard[:20] == [bytes([k]) * k for k in range(20)] and heard[20:] == [frames.Damaged(3), frames.Cut(2)], heard[18:]
@@ -956,6 +973,8 @@ def test_typed(folder, wire):
         (OSError, lambda: typed.write(path, "No", [], wire=wire)),
         (OSError, lambda: typed.write(os.path.join(folder, "none.rs"), "Reading", [], wire=wire)),
         (OSError, lambda: typed.write(path, "--help", [], wire=wire)),
+        (OSError, lambda: typed.write(path, "u8\0", [], wire=wire)),
+        (OSError, lambda: typed.TypedReceiver(path, "u8\ud800", wire=wire)),
         (OSError, lambda: typed.write("--help", "u8", [], wire=wire)),
     ):
         try:
@@ -1029,6 +1048,9 @@ def test_closed(folder, wire):
 
     with typed.TypedReceiver(path, "u8", wire=wire) as receiver:
         assert in_time(lambda: next(receiver.listen(Holds(here, 20), ends=False))) == {"value": 7}
+    with typed.TypedReceiver(path, "u8", wire=wire) as receiver:  # a loop that closes it ends, whatever was read
+        heard = receiver.listen(io.BytesIO(b"\2\7\0" * 9))
+        assert next(heard) == {"value": 7} and receiver.close() is None and list(heard) == []
     pipe.close(), of_socket.close(), raw.close(), one.close(), other.close()
     for descriptor in (given, here, there):
         os.close(descriptor)
