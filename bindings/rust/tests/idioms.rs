@@ -1,4 +1,5 @@
 //! What a Rust user expects of the types: `Debug`, errors that `?` takes, and `std::io` over the two traits.
+#![cfg(feature = "std")]
 use frames::{DecodeError, Event, Io, NoRoom, Receiver, SendError, Sender, Sink, Source};
 use std::error::Error;
 use std::io::{self, Cursor, Read, Write};
