@@ -3,7 +3,7 @@
 Into the wheel go the shared object, which FRAMES_LIBRARY names, and the program `wire` for typed messages, which WIRE names. If these aren't
 set, they are those that are stored in the clone for this processor. If no program is stored for it, as for aarch64, the library of typed
 messages goes in. With `--config-settings wire=no` both stay out. The wheel's tag says the earliest glibc that runs what is in it. A wheel
-without any of them is for every system, and looks for the library when it is imported. An editable install (`pip install -e`) points at this
+without any of them is for every system, and looks for the library when it is first used. An editable install (`pip install -e`) points at this
 folder.
 """
 import base64
