@@ -161,6 +161,7 @@ async function connect() {
     } catch (error) { it("lost").textContent = `the line: ${error.message}`; } finally { reader.releaseLock(); }
   }
   ended();
+  it("close").disabled = it("send").disabled = true;
   try {
     const held = writer; // of a send that waits, as for a device that takes nothing: it would keep the port open
     await held?.abort();
@@ -169,7 +170,6 @@ async function connect() {
   } catch {}
   port = undefined;
   it("connect").disabled = false;
-  it("close").disabled = it("send").disabled = true;
 }
 /** The stream is over: what is begun is cut off. */
 function ended() {
