@@ -476,8 +476,9 @@ def _shows(source: Any, descriptor: Optional[int], ends: bool) -> bool:
     """Whether a wait for the descriptor is a wait for the source: it is blocking or a port, and no timeout of a read is the end."""
     if descriptor is None or not hasattr(select, "poll"):
         return False
-    is_port = hasattr(source, "in_waiting")
-    is_known = is_port or (isinstance(getattr(source, "raw", source), (io.FileIO, socket.SocketIO)) and os.get_blocking(descriptor))
+    is_port, below = hasattr(source, "in_waiting"), getattr(source, "raw", source)
+    is_tls = hasattr(getattr(below, "_sock", None), "pending")  # such a socket may hold bytes that came, of which the descriptor shows nothing
+    is_known = is_port or (isinstance(below, (io.FileIO, socket.SocketIO)) and os.get_blocking(descriptor) and not is_tls)
     return is_known and not (ends and (is_port or os.isatty(descriptor)))
 
 

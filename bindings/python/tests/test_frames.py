@@ -1048,6 +1048,24 @@ def test_closed(folder, wire):
 
     with typed.TypedReceiver(path, "u8", wire=wire) as receiver:
         assert in_time(lambda: next(receiver.listen(Holds(here, 20), ends=False))) == {"value": 7}
+    class Tls(socket.socket):  # as a socket of `ssl`, which takes a record whole
+        record = b""
+
+        def recv_into(self, out, *_):
+            self.record = self.record or self.recv(16384)
+            size = min(len(out), len(self.record))
+            out[:size], self.record = self.record[:size], self.record[size:]
+            return size
+
+        def pending(self):
+            return len(self.record)
+
+    this, end = socket.socketpair()
+    with this, Tls(fileno=end.detach()) as of_tls, of_tls.makefile("rb", buffering=0) as source:
+        this.sendall(b"\2\7\0" * 3000)
+        with typed.TypedReceiver(path, "u8", wire=wire) as receiver:
+            heard = receiver.listen(source)
+            assert in_time(lambda: [next(heard) for _ in range(3000)]) == [{"value": 7}] * 3000
     with typed.TypedReceiver(path, "u8", wire=wire) as receiver:  # a loop that closes it ends, whatever was read
         heard = receiver.listen(io.BytesIO(b"\2\7\0" * 9))
         assert next(heard) == {"value": 7} and receiver.close() is None and list(heard) == []
