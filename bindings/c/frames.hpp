@@ -7,7 +7,7 @@
 #error "frames.hpp: C++17 or later is needed: -std=c++17"
 #endif
 
-#include <frames.h>
+#include "frames.h"
 
 #include <array>
 #include <cstddef>

@@ -275,4 +275,5 @@ if (!("serial" in navigator)) {
 }
 settle();
 setInterval(draw, 100);
+it("starting").remove();
 document.documentElement.dataset.ready = "yes";

@@ -73,8 +73,15 @@ const drop = (name, content) => browser.run(`{ const data = new DataTransfer();
   document.body.dispatchEvent(new DragEvent("drop", { dataTransfer: data, bubbles: true, cancelable: true })); }`);
 
 try {
+  // as a file it says what it needs: no browser runs modules of a file
+  await browser.open(new URL("../page/index.html", import.meta.url).href);
+  await browser.until(`getComputedStyle(document.getElementById("starting")).visibility === "visible"`, "a page that doesn't start says so");
+  assert.match(await text("starting"), /needs a web server/);
+  browser.thrown.length = 0;
+
   await browser.open(`${server.url}page/`, stub);
   await browser.until(`document.documentElement.dataset.ready`, "the page is ready");
+  assert.equal(await browser.run(`document.getElementById("starting")`), null);
 
   // what is missing or wrong on the left is said
   assert.match(await text("foot"), /paste a table/);
