@@ -73,6 +73,7 @@ class Cut:
 
 
 Event = Union[bytes, Damaged, TooLong, Cut]
+_Given = Union[bytes, bytearray, memoryview]  # what else holds bytes, such as an `array` or an `mmap`, is taken too
 
 
 class _Written(Structure):
@@ -160,18 +161,18 @@ class _Room:
         return bytes(self._held[start : start + length])  # `string_at` takes a length for one of 32 bits
 
 
-def _bytes(message: Any) -> bytes:
+def _bytes(message: _Given) -> bytes:
     """The bytes of an object that holds bytes. `bytes(3)` would be three zeros, and `bytes([1, 2])` two bytes: both are refused."""
     return message if type(message) is bytes else bytes(memoryview(message))
 
 
-def encoded_length(message: bytes) -> int:
+def encoded_length(message: _Given) -> int:
     """How many bytes the frame of a message has."""
     message = _bytes(message)
     return int(library().frames_c_encoded_length(message, len(message)))
 
 
-def encode(message: bytes, sentinel: int = 0) -> bytes:
+def encode(message: _Given, sentinel: int = 0) -> bytes:
     """The shortest frame of a message, each byte XORed with the sentinel, without a sentinel after it."""
     message = _bytes(message)
     room = encoded_length(message)
@@ -180,7 +181,7 @@ def encode(message: bytes, sentinel: int = 0) -> bytes:
     return dest.front(written.length)
 
 
-def decode(frame: bytes, sentinel: int = 0) -> bytes:
+def decode(frame: _Given, sentinel: int = 0) -> bytes:
     """The message of one frame, with or without the sentinel that ends it.
 
     Raises `Invalid` for all other bytes: none, a leading sentinel (as `Sender.send` may write one), bytes after the sentinel.
@@ -197,19 +198,19 @@ def decode(frame: bytes, sentinel: int = 0) -> bytes:
     return dest.front(written.length)
 
 
-def crc32(message: bytes) -> int:
+def crc32(message: _Given) -> int:
     """The CRC-32 of bytes, as in Ethernet, gzip and PNG."""
     message = _bytes(message)
     return int(library().frames_c_crc32(message, len(message)))
 
 
-def seal(message: bytes) -> bytes:
+def seal(message: _Given) -> bytes:
     """A message and its CRC-32, as four bytes, the lowest first."""
     message = _bytes(message)
     return message + crc32(message).to_bytes(4, "little")
 
 
-def unseal(message: bytes) -> bytes:
+def unseal(message: _Given) -> bytes:
     """The message before its CRC-32. Raises `Invalid` if the last four bytes aren't that."""
     message = _bytes(message)
     written = library().frames_c_unseal(message, len(message))
@@ -278,7 +279,7 @@ class Sender(_Single):
         self._state, self._turn = library().frames_c_sender(_byte(sentinel)), _Turn(self)
         self._send = library().frames_c_send_plain if plain else library().frames_c_send
 
-    def send(self, message: bytes) -> bytes:
+    def send(self, message: _Given) -> bytes:
         """The bytes to write: a sentinel, if the last send didn't go out whole, the frame, and a sentinel.
 
         Call `sent` once all of them went out. If they didn't, call nothing: the next send then begins with a sentinel.
@@ -306,7 +307,7 @@ class Sender(_Single):
     def _interrupted(self) -> None:
         self._state.clean = 0
 
-    def write(self, line: _Line, message: bytes) -> None:
+    def write(self, line: _Line, message: _Given) -> None:
         """Sends a message over a file object or a serial port, and flushes it. Threads write one after another.
 
         Raises what the line raises, and `OSError` if a write takes nothing; the next send then begins with a sentinel. A call inside a write,
@@ -349,7 +350,7 @@ class Receiver(_Single):
         self._turn = _Turn(self)
         self._push = library().frames_c_push_plain if plain else library().frames_c_push
 
-    def push(self, piece: bytes) -> List[Event]:
+    def push(self, piece: _Given) -> List[Event]:
         """The events of these bytes, in order: messages as `bytes`, `Damaged`, `TooLong`.
 
         After an exception, such as `MemoryError` or `KeyboardInterrupt`, the receiver continues after the next sentinel. After one of

@@ -12,7 +12,7 @@ import asyncio
 import io
 from typing import AsyncGenerator, Union
 
-from . import Event, Receiver, Sender, _receiver_of
+from . import _Given, Event, Receiver, Sender, _receiver_of
 
 __all__ = ["Line", "listen"]
 
@@ -49,7 +49,7 @@ class Line:
             raise TypeError(f"a writer of asyncio is needed, not a {type(writer).__name__}: of a file object or a port use frames.Sender().write")
         self._writer, self._sender, self._lock = writer, Sender(sentinel, plain), asyncio.Lock()
 
-    async def send(self, message: bytes) -> None:
+    async def send(self, message: _Given) -> None:
         """Sends a message, and waits until the stream takes more.
 
         After an exception, also if it is cancelled, the next send begins with a sentinel. Send the message again, if it has to arrive. A writer

@@ -22,7 +22,7 @@ import threading
 from ctypes import POINTER, Structure, byref, c_char_p, c_size_t, c_uint8, c_void_p
 from typing import IO, Any, Dict, Generator, Iterable, List, NoReturn, Optional, Tuple, Union
 
-from . import _byte, _of, _pieces, _refuse_no_source, _Room, _Single, _Turn
+from . import _Given, _byte, _of, _pieces, _refuse_no_source, _Room, _Single, _Turn
 
 _Path = Union[str, "os.PathLike[str]"]
 _DONE, _NO_ROOM, _WRONG, _REFUSED, _NO_MEMORY = range(5)
@@ -142,7 +142,7 @@ class _Stream(_Single):
         self._turn = _Turn(self)
         self.push(b"")  # what the declarations are refused for
 
-    def push(self, piece: bytes, ends: bool = False, begins: bool = False) -> List[Dict[str, Any]]:
+    def push(self, piece: _Given, ends: bool = False, begins: bool = False) -> List[Dict[str, Any]]:
         """The answers that these bytes bring. Threads push one after another: the room and what is left over are one receiver's."""
         view = memoryview(piece)
         with self._turn.lock:
@@ -198,7 +198,7 @@ class _Stream(_Single):
         if not self._is_closed:
             yield from self.push(b"", ends=True)
 
-    def answers(self, stream: bytes) -> List[Dict[str, Any]]:
+    def answers(self, stream: _Given) -> List[Dict[str, Any]]:
         return self.push(stream, ends=True, begins=True)
 
     def close(self) -> None:
@@ -372,7 +372,7 @@ class _Process:
                 raise
             return b""
 
-    def answers(self, stream: bytes) -> List[Dict[str, Any]]:
+    def answers(self, stream: _Given) -> List[Dict[str, Any]]:
         stream = bytes(memoryview(stream))
         self._begin()
         out, _ = self._process.communicate(stream)
@@ -456,7 +456,7 @@ class TypedReceiver(_Single):
         _refuse_no_source(source)
         return self._opened().listen(source, ends)
 
-    def answers(self, stream: bytes) -> List[Dict[str, Any]]:
+    def answers(self, stream: _Given) -> List[Dict[str, Any]]:
         """The results of a whole stream, with places from its first byte. The program reads one stream: another is a `ValueError`."""
         return self._opened().answers(stream)
 
