@@ -11,9 +11,11 @@ from frames import aio, typed
 
 def sends_and_receives(port: BinaryIO, line: socket.socket, changing: bytearray, view: memoryview) -> int:
     sender, receiver = frames.Sender(), frames.Receiver(8)
-    for given in (b"x", changing, view):
-        frames.unseal(frames.seal(given)), frames.encode(given), frames.decode(given), frames.crc32(given), frames.encoded_length(given)
-        receiver.push(given), sender.send(given), sender.write(port, given), sender.write(line.makefile("wb"), given)
+    sender.send(b"x"), sender.send(changing), sender.send(view)
+    receiver.push(b"x"), receiver.push(changing), receiver.push(view)
+    frames.unseal(changing), frames.seal(view), frames.encode(changing), frames.decode(view), frames.crc32(changing), frames.encoded_length(view)
+    sender.write(port, changing)
+    sender.write(line.makefile("wb"), view)
     sender.write(io.BytesIO(), changing)
     length = 0
     for event in frames.listen(port, receiver):
