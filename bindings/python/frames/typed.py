@@ -315,9 +315,11 @@ def _written(declarations: str, type_name: str, values: Iterable[Any], sentinel:
     if by_library is not None:
         return by_library[0].write(lines, sentinel)
     done = subprocess.run(_command(wire, "write", declarations, type_name, sentinel), input=lines, capture_output=True)
-    if done.returncode != 0:
+    # where SIGCHLD is ignored, as in a daemon, Python knows no status, and says 0
+    if done.returncode != 0 or (done.stderr and len(done.stdout) < 2):
         said = _told(done.stderr) or f"wire ended with status {done.returncode}"
-        raise ValueError(said) if done.returncode == 1 else OSError(said)
+        is_refused = done.returncode == 1 or (done.returncode == 0 and said.startswith(("line ", "wire: line ")))
+        raise ValueError(said) if is_refused else OSError(said)
     return done.stdout
 
 
@@ -398,7 +400,8 @@ class _Process:
             with said_file:
                 said_file.seek(0)
                 said = said_file.read().decode(errors="replace").strip()
-            if status > 1 or (status < 0 and not is_ended_here):  # the latter by a signal, as of a system without memory
+            # below 0: by a signal, as of a system without memory; 0 too where SIGCHLD is ignored, and no status known
+            if status > 1 or (not is_ended_here and (status < 0 or (status == 0 and said))):
                 raise OSError(said or f"wire ended with status {status}")
 
     def _feed(self, source: Any, ends: bool) -> None:

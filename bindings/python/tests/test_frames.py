@@ -982,6 +982,13 @@ def test_typed(folder, wire):
         except error:
             continue
         raise AssertionError("not refused")
+    if wire:  # likewise where SIGCHLD is ignored, as in a daemon, and no status is known
+        before = signal.signal(signal.SIGCHLD, signal.SIG_IGN)
+        try:
+            assert refuses(ValueError, typed.write, path, "Reading", [{"level": 1}], 0, wire) and refuses(OSError, typed.write, path, "No", [], 0, wire)
+            assert refuses(OSError, typed.TypedReceiver(path, "No", wire=wire).answers, b"\1\1\0")
+        finally:
+            signal.signal(signal.SIGCHLD, before)
 
 
 def test_typed_aio(folder, wire):
