@@ -229,10 +229,10 @@ def _wire(wire: Optional[str]) -> str:
     return found
 
 
-def _command(wire: Optional[str], mode: str, declarations: str, type_name: str, sentinel: int) -> List[str]:
-    """A call of the program. It would take `--help` for an option, but not if `./` or a space precedes it."""
-    words = [front + word if word.startswith("-") else word for front, word in (("./", declarations), (" ", type_name))]
-    return [_wire(wire), mode, *words, f"sentinel={sentinel:02x}"]
+def _command(wire: Optional[str], mode: str, declarations: str, type_name: str, sentinel: int) -> List[Union[str, bytes]]:
+    """A call of the program. It would take `--help` for an option, but not if `./` or a space precedes it. A type is UTF-8 in each locale."""
+    path, name = [front + word if word.startswith("-") else word for front, word in (("./", declarations), (" ", type_name))]
+    return [_wire(wire), mode, path, name.encode(), f"sentinel={sentinel:02x}"]
 
 
 def _closed(pipe: IO[bytes]) -> None:

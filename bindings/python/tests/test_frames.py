@@ -982,6 +982,11 @@ def test_typed(folder, wire):
         except error:
             continue
         raise AssertionError("not refused")
+    # a type is UTF-8 in an ASCII locale too
+    pathlib.Path(folder, "of.rs").write_text("#[derive(Serialize)] pub struct Größe(u8);\n", encoding="utf-8")
+    called = f"import sys; from frames import typed; print(typed.write(sys.argv[1], 'Gr\\xf6\\xdfe', [5], wire={wire!r}))"
+    plain = {**os.environ, "LC_ALL": "C", "PYTHONCOERCECLOCALE": "0", "PYTHONUTF8": "0", "PYTHONPATH": os.path.dirname(os.path.dirname(frames.__file__))}
+    assert subprocess.check_output([sys.executable, "-c", called, os.path.join(folder, "of.rs")], env=plain) == b"b'\\x00\\x02\\x05\\x00'\n"
     if wire:  # likewise where SIGCHLD is ignored, as in a daemon, and no status is known
         before = signal.signal(signal.SIGCHLD, signal.SIG_IGN)
         try:
