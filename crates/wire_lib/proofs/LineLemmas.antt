@@ -1,5 +1,5 @@
 -- The lines of answers, and the places that they say.
-use Rattle.std.proofs.Common.{◌≡◌, ℕ, zero, suc, ◌+◌, ◌-◌, ◌^◌, ◌<◌, ◌≤◌, Bool, true, false, min, cond, List, [], ◌∷◌, ◌++◌, length, take, drop, get_or, Some, Result, Ok, Err, OnOk, is_ok, is_some, codes, option_to_list, refl, sym, ap, ◌∙◌, subst, append_assoc, arith, ◌==◌, if◌then◌else◌}
+use Rattle.std.proofs.Common.{◌≡◌, ℕ, zero, suc, ◌+◌, ◌-◌, ◌^◌, ◌<◌, ◌≤◌, Bool, true, false, min, cond, List, [], ◌∷◌, ◌++◌, length, take, drop, get_or, Option, Some, Result, Ok, Err, OnOk, is_ok, is_some, codes, option_to_list, refl, sym, ap, ◌∙◌, subst, append_assoc, arith, ◌==◌, if◌then◌else◌}
 use Rattle.std.specs.List.{flat_map}
 use Rattle.std.specs.Str.{IsUtf8}
 use Rattle.std.proofs.lemmas.List.{append-nil, take-append-drop, take_more, length-append, length-take-le}
@@ -10,11 +10,12 @@ use Rattle.cobs.specs.Sentinel.{masked}
 use Rattle.postcard_tree.specs.Tree.{Tree}
 use Rattle.schema_table.specs.declared.value.Value.{Value}
 use Rattle.link.specs.Stream.{Begun, kept, over, begun, unfinished, Given, Verdict}
-use Rattle.link.specs.Pushes.{Answered, finished, begun_length}
+use Rattle.link.specs.Pushes.{Answered, IsLeast, finished, begun_length}
 use Rattle.link.specs.Listening.{HasGiven}
 use Rattle.link.specs.Lemmas.FeedLaws.{is_short}
 use Rattle.link.specs.Lemmas.MaskLaws.{masked_length}
 use Rattle.link.specs.declared.receiver.Answer.{Answer}
+use Rattle.link.specs.declared.receiver.NoMemory.{NoMemory}
 use Rattle.link.specs.declared.receiver.Answer.TheVariants as answer
 use Rattle.wire_lib.specs.declared.receive.Reading.{Reading}
 use Rattle.json.specs.Json.{Json}
@@ -26,7 +27,7 @@ use Rattle.schema_table.specs.Printed.{Shows}
 use Rattle.wire_lib.specs.Sent.{LacksFeed}
 use Rattle.wire_lib.specs.Said.{OnlyAppended, IsLineOf, IsTextFor, SaysLine, known_to, end_said, value_line}
 use Rattle.wire_lib.proofs.FeedLemmas.{text_lacks}
-use Rattle.wire_print.specs.TokenLaws.{text_shown, text_read, text_utf8}
+use Rattle.wire_print.specs.TokenLaws.{text_shown, text_read}
 use Rattle.std.proofs.lemmas.Result.{on_ok_weaker}
 use Rattle.wire_lib.specs.Received.{held_by, read_by, as_list, place_to, IsLineAt, AreSaid, TellsEach, TellsEnd}
 
@@ -46,23 +47,22 @@ only_maybe true lines lines' bytes e = (bytes, e)
 only_maybe false lines lines' bytes e = ([], e ∙ sym (append-nil lines))
 
 -- the parts of a value's line, one after another
-pub value_appended : (lines first second third text part : List ℕ)
-    → first ≡ lines ++ codes "{\"value\":" → part ≡ text → second ≡ first ++ part
-    → third ≡ second ++ codes "}\n" → third ≡ lines ++ value_line text
-value_appended lines first second third text part e f g h =
-    h ∙ ap (λ x. x ++ codes "}\n")
-    (g ∙ ap (λ x. x ++ part) e ∙ ap (λ x. (lines ++ codes "{\"value\":") ++ x) f)
-    ∙ append_assoc (lines ++ codes "{\"value\":") text (codes "}\n")
-    ∙ append_assoc lines (codes "{\"value\":") (text ++ codes "}\n")
+pub value_line_of : (cleared first second third said : List ℕ)
+    → cleared ≡ [] → first ≡ cleared ++ codes "{\"value\":" → second ≡ first ++ said
+    → third ≡ second ++ codes "}\n" → third ≡ value_line said
+value_line_of cleared first second third said e f g h =
+    h ∙ ap (λ x. x ++ codes "}\n") (g ∙ ap (λ x. x ++ said) (f ∙ ap (λ x. x ++ codes "{\"value\":") e))
+    ∙ append_assoc (codes "{\"value\":") said (codes "}\n")
 
--- what a writer that began with nothing leaves, is the text of the value that was printed
-pub text_written : {E : Type 0} (r : Result (Unit {0}) E) (reading : Reading) (v : Value) (text before : List ℕ) (old new : List Token) → before ≡ [] → old ≡ [] → text ≡ before ++ print new → tokens (print new) ≡ new → IsUtf8 (print new)
-    → OnOk r ((j : Json) × (new ≡ old ++ json_tokens j) × Shows reading.hex reading.schema.now reading.depth reading.place v j) → OnOk r (IsTextFor reading v text)
-text_written r reading v text before old new none empty whole back utf8 h = on_ok_weaker r
+-- what a writer appends to the bytes that it began with, is the text of the value that was printed
+pub text_written : {E : Type 0} (r : Result (Unit {0}) E) (reading : Reading) (v : Value) (text before : List ℕ) (old new : List Token) → old ≡ [] → text ≡ before ++ print new → tokens (print new) ≡ new → IsUtf8 (print new)
+    → OnOk r ((j : Json) × (new ≡ old ++ json_tokens j) × Shows reading.hex reading.schema.now reading.depth reading.place v j)
+    → OnOk r ((said : List ℕ) × IsTextFor reading v said × (text ≡ before ++ said))
+text_written r reading v text before old new empty whole back utf8 h = on_ok_weaker r
     (λ k.
-    let shown = text_shown text before old new (json_tokens k.0) whole none empty k.1 in
-    let read = text_read text old new (json_tokens k.0) back empty k.1 shown in
-    ((k.0, shown, read, k.2, text_utf8 text before new whole none utf8), subst LacksFeed (sym shown) (text_lacks (json_tokens k.0) (ap tokens (sym shown) ∙ read)))) h
+    let shown = text_shown (print new) [] old new (json_tokens k.0) refl refl empty k.1 in
+    let read = text_read (print new) old new (json_tokens k.0) back empty k.1 shown in
+    (print new, ((k.0, shown, read, k.2, utf8), subst LacksFeed (sym shown) (text_lacks (json_tokens k.0) (ap tokens (sym shown) ∙ read))), whole)) h
 
 -- what was appended where that succeeded
 pub on_appended : {E : Type 0} (r : Result (Unit {0}) E) (x a b : List ℕ)
@@ -144,6 +144,13 @@ given_count holds limit s stream us vs h k =
     let a = ap length h.whole ∙ length-append h.done _ in
     let b = ap length k.whole ∙ length-append k.done _ in
     omega (arith, a, b, AllZip-long _ _ _ h.each, AllZip-long _ _ _ k.each)
+
+-- fewer bytes than a push used bring no answer, also if a value found no memory
+pub least_of : {V : Type 0} (holds : List ℕ → Tree → Type 0) (reads : Tree → V → Type 0) (limit s : ℕ)
+    (stream rest : List ℕ) (used : ℕ) (result : Result (Option (Answer V)) NoMemory)
+    → Answered holds reads limit s stream rest used result → IsLeast holds limit s stream rest used
+least_of holds reads limit s stream rest used (Ok o) (a, says, push) = push.least
+least_of holds reads limit s stream rest used (Err e) lost = lost.least
 
 module _ (r : Reading) (stream rest : List ℕ) (answers : List (Answer Value)) (a : Answer Value) where
   -- a byte brings an answer

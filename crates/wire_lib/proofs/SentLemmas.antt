@@ -5,8 +5,8 @@ use Rattle.std.specs.Prelude.{slice_index}
 use Rattle.std.proofs.lemmas.List.{append-nil, get_or-take, length-append, length-take-le}
 use Rattle.std.proofs.lemmas.List.Elements.{All-append}
 use Rattle.std.proofs.lemmas.Grind.{flat_map-append}
-use Rattle.wire_lib.specs.Sent.{LineMade, framed, refused, IsTextMade, IsUnsendable, IsLineWith, IsLineMade, last_line, is_framed, framed_bytes, refused_bytes, are_all_framed, number_behind, AreLinesMade, LacksFeed, with_feed, IsTextOf, HasMadeBy, HaveBecome, AppendedApart, StopsBehind, IsFrameToSend}
-use Rattle.wire_json.specs.Refused.{refusal_text, AppendsFront}
+use Rattle.wire_lib.specs.Sent.{LineMade, framed, refused, IsTextMade, IsUnsendable, IsLineWith, IsLineMade, last_line, is_framed, framed_bytes, refused_bytes, are_all_framed, number_behind, AreLinesMade, LacksFeed, with_feed, IsTextOf, HasMadeBy, HaveBecome, AppendedApart, IsFrameToSend}
+use Rattle.wire_json.specs.Refused.{refusal_text}
 use Rattle.wire_lib.specs.declared.send.Sending.{Sending}
 
 -- one line more
@@ -141,38 +141,9 @@ pub at_error : {T E P : Type 0} (r : Result T E) → P → OnErr r P
 at_error (Ok x) p = tt
 at_error (Err e) p = p
 
--- nothing of a line was appended
-pub stops_kept : (frames frames' wrongs : List ℕ) → frames' ≡ frames → StopsBehind frames frames' wrongs wrongs []
-stops_kept frames frames' wrongs same = record {
-  to_frames = same ∙ sym (append-nil frames);
-  number = 0;
-  why = [];
-  to_wrongs = record {
-    front = [];
-    rest = refusal_text 0 [];
-    text_is = refl;
-    appended = sym (append-nil wrongs) ∙ sym (append-nil (wrongs ++ []));
-  };
-}
-
--- a part of a line's refusal was appended
-pub stops_refused : (frames wrongs wrongs' : List ℕ) (number : ℕ) → (why : List ℕ) × AppendsFront wrongs wrongs' (refusal_text number why)
-    → StopsBehind frames frames wrongs wrongs' []
-stops_refused frames wrongs wrongs' number (why, part) = record {
-  to_frames = sym (append-nil frames);
-  number = number;
-  why = why;
-  to_wrongs = subst (λ x. AppendsFront x wrongs' (refusal_text number why)) (sym (append-nil wrongs)) part;
-}
-
--- lines were sent, and then it stopped
-pub stops_then : (f g h v w x : List ℕ) (ms : List LineMade) → AppendedApart f g v w ms → StopsBehind g h w x [] → StopsBehind f h v x ms
-stops_then f g h v w x ms a b = record {
-  to_frames = b.to_frames ∙ append-nil g ∙ a.to_frames;
-  number = b.number;
-  why = b.why;
-  to_wrongs = subst (λ y. AppendsFront y x (refusal_text b.number b.why)) (append-nil w ∙ a.to_wrongs) b.to_wrongs;
-}
+-- the same was appended to what is unchanged since
+pub appended_still : (f g h v w x : List ℕ) (ms : List LineMade) → h ≡ g → x ≡ w → AppendedApart f g v w ms → AppendedApart f h v x ms
+appended_still f g h v w x ms d e a = record { to_frames = d ∙ a.to_frames; to_wrongs = e ∙ a.to_wrongs }
 
 -- what a sender has made of a text, by the same sending
 pub have_become : (s t : Sending) (begun : List ℕ) (number : ℕ) (good : Bool) (text text' : List ℕ) (made : List LineMade) → t ≡ s → text ≡ text' → HasMadeBy t begun number good text made → HaveBecome s text' made

@@ -1,5 +1,5 @@
 -- The results of a stream, and their lines.
-use Rattle.std.specs.Prelude.{◌≡◌, ℕ, ◌+◌, ◌-◌, ◌^◌, ◌<◌, Bool, true, false, min, List, [], ◌∷◌, ◌++◌, length, Option, Some, None}
+use Rattle.std.specs.Prelude.{◌≡◌, ℕ, ◌+◌, ◌-◌, ◌^◌, ◌<◌, Bool, true, false, min, List, [], ◌∷◌, ◌++◌, length, take, Option, Some, None}
 use Rattle.std.specs.List.{AllZip, flat_map}
 use Rattle.cobs.specs.InPlace.{stretch}
 use Rattle.cobs.specs.Sentinel.{masked}
@@ -8,7 +8,8 @@ use Rattle.schema_table.specs.Schemas.{SchemaTakes, SchemaReads}
 use Rattle.schema_table.specs.declared.value.Value.{Value}
 use Rattle.link.specs.Stream.{begun, unfinished}
 use Rattle.link.specs.Judged.{HoldsBy}
-use Rattle.link.specs.Pushes.{finished}
+use Rattle.link.specs.Pushes.{finished, IsLeast}
+use Rattle.link.specs.Receivers.{IsBehind}
 use Rattle.link.specs.Decoding.{in_owner}
 use Rattle.link.specs.Listening.{Hears, HasGiven}
 use Rattle.link.specs.declared.receiver.Answer.{Answer}
@@ -57,6 +58,21 @@ pub record HasTold (r : LinesOfFrames) (passed : ℕ) (stream : List ℕ)
   pub good : r.is_good ≡ are_all_values answers
   -- how many bytes came, with those that are skipped
   pub came : r.at ≡ min (passed + length stream) (2 ^ 64 - 1)
+
+-- Memory ran out at the next result: these are the results of the stream, and the receiver got the bytes behind it up to the first
+-- that brings another one, or all of them.
+pub record HasStopped (r : LinesOfFrames) (passed : ℕ) (stream rest : List ℕ)
+    (answers : List (Answer Value)) : Type 0 where
+  -- these are all results of the stream
+  pub given : HasGiven (held_by r.reading) (read_by r.reading) 65536 r.reading.sentinel answers stream
+  -- how many of the bytes behind it came
+  pub used : ℕ
+  -- fewer of them bring no result: so at most one is lost
+  pub least : IsLeast (held_by r.reading) 65536 r.reading.sentinel stream rest used
+  -- the receiver continues after them
+  pub after : IsBehind in_owner 65536 r.reading.sentinel r.receiver (stream ++ take used rest)
+  -- how many bytes came, with those that are skipped
+  pub came : r.at ≡ min (passed + length (stream ++ take used rest)) (2 ^ 64 - 1)
 
 -- the result as a list of one, or an empty list
 abbrev pub as_list : Option (Answer Value) → List (Answer Value)

@@ -8,7 +8,7 @@ use Rattle.schema_table.specs.Values.{tree_of}
 use Rattle.wire_json.specs.InRange.{Fits}
 use Rattle.wire_json.specs.Meant.{MeansText}
 use Rattle.wire_json.specs.Parsed.{IsOfType}
-use Rattle.wire_json.specs.Refused.{NoneOf, refusal_text, AppendsFront}
+use Rattle.wire_json.specs.Refused.{NoneOf, refusal_text}
 use Rattle.wire_lib.specs.Summed.{message_with}
 use Rattle.wire_lib.specs.declared.send.Sending.{Sending}
 use Rattle.wire_lib.specs.declared.send.FramesOfLines.{FramesOfLines}
@@ -148,15 +148,3 @@ pub record AppendedApart (frames frames' wrongs wrongs' : List ℕ) (made : List
 -- The lines of this text that a line feed ended became these, one each, whatever line is begun.
 abbrev pub HaveBecome : Sending → List ℕ → List LineMade → Type 0
 HaveBecome s text made = (begun : List ℕ) × (number : ℕ) × (good : Bool) × HasMadeBy s begun number good text made
-
--- Memory ran out after the lines that became these: their bytes were appended, then at most a part of one more refusal, and nothing
--- of one more frame.
-pub record StopsBehind (frames frames' wrongs wrongs' : List ℕ) (made : List LineMade) : Type 0 where
-  -- to the frames
-  pub to_frames : frames' ≡ frames ++ flat_map framed_bytes made
-  -- the number of the line of which a part of the refusal was appended
-  pub number : ℕ
-  -- why it is refused
-  pub why : List ℕ
-  -- to the refusals
-  pub to_wrongs : AppendsFront (wrongs ++ flat_map refused_bytes made) wrongs' (refusal_text number why)

@@ -1,12 +1,12 @@
 //! A stream of frames as lines of JSON.
-ghost use Rattle.std.specs.Prelude.{◌≡◌, ℕ, ◌<◌, ◌≤◌, ◌-◌, List, [], ◌++◌, length, take, drop, IfOk, OnOk};
+ghost use Rattle.std.specs.Prelude.{◌≡◌, ℕ, ◌<◌, ◌≤◌, ◌-◌, List, [], ◌++◌, length, take, drop, IfOk, OnOk, OnErr};
 ghost use Rattle.link.specs.Decoding.{in_owner};
 ghost use Rattle.link.specs.Receivers.{IsBehind, SameTerms};
 ghost use Rattle.link.specs.Pushes.{Answered, IsStretchOf};
 ghost use Rattle.link.specs.declared.receiver.Answer.{Answer as Answers};
 ghost use Rattle.schema_table.specs.declared.value.Value.{Value as Values};
 ghost use Rattle.wire_lib.specs.Said.{OnlyAppended, IsTextFor, value_line, stretch_line, known_to, end_said, SaysLine};
-ghost use Rattle.wire_lib.specs.Received.{HasTold, held_by, read_by, reading_of, skip_of, is_a_value, are_all_values, added_at_end, TellsEach, TellsEnd};
+ghost use Rattle.wire_lib.specs.Received.{HasStopped, HasTold, held_by, read_by, reading_of, skip_of, is_a_value, are_all_values, added_at_end, TellsEach, TellsEnd};
 
 use crate::table::TableReader;
 use cobs::before_sentinel;
@@ -121,6 +121,7 @@ impl<'a> LinesOfFrames<'a> {
             (end_said answer.now (self.old.at - 1)
             (known_to self.old.at self.old.reading.sentinel left.now))
             lines.old.items lines.new.items) }
+        ensures unchanged { OnErr result (lines.new.items ≡ lines.old.items) }
         ensures only { OnlyAppended lines.old.items lines.new.items }
         ensures same { self.new ≡ record self.old { text = self.new.text } }
     {
@@ -152,6 +153,10 @@ impl<'a> LinesOfFrames<'a> {
             × HasTold self.new passed (stream ++ take used rest.now) (answers ++ more)
             × TellsEach (reading_of self.old) passed (stream ++ rest.now) answers more
             lines.old.items lines.new.items) }
+        ensures stopped { OnErr result ((passed : ℕ) (stream : List ℕ)
+            (answers : List (Answers Values)) → HasTold self.old passed stream answers
+            → HasStopped self.new passed stream rest.now answers) }
+        ensures unchanged { OnErr result (lines.new.items ≡ lines.old.items) }
         ensures only { OnlyAppended lines.old.items lines.new.items }
         ensures within { IfOk result (λ used. used ≤ length rest.now) }
         ensures forward { 0 < length rest.now → IfOk result (λ used. 0 < used) }
@@ -181,6 +186,12 @@ impl<'a> LinesOfFrames<'a> {
         ensures told { OnOk result ((passed : ℕ) (stream : List ℕ) (answers : List (Answers Values))
             → HasTold self.old passed stream answers → (more : List (Answers Values))
             × HasTold self.new passed (stream ++ piece.now) (answers ++ more)
+            × TellsEach (reading_of self.old) passed (stream ++ piece.now) answers more
+            lines.old.items lines.new.items) }
+        ensures stopped { OnErr result ((passed : ℕ) (stream : List ℕ)
+            (answers : List (Answers Values)) → HasTold self.old passed stream answers
+            → (done rest : List ℕ) × (piece.now ≡ done ++ rest) × (more : List (Answers Values))
+            × HasStopped self.new passed (stream ++ done) rest (answers ++ more)
             × TellsEach (reading_of self.old) passed (stream ++ piece.now) answers more
             lines.old.items lines.new.items) }
         ensures only { OnlyAppended lines.old.items lines.new.items }
@@ -216,7 +227,8 @@ impl<'a> LinesOfFrames<'a> {
     /// brought its last byte. `too_long` has the position up to which the chunk shows the bytes.
     ///
     /// # Errors
-    /// Out of memory; the lines before that have been appended, and maybe a part of one more.
+    /// Out of memory: the lines of all results before the one for which there was none have been appended, and no part of that one's.
+    /// The next call continues after it: that result is lost, with the rest of the chunk.
     ///
     /// # Allocates
     /// What `lines` grows by. A value at a time is freed.
@@ -225,6 +237,13 @@ impl<'a> LinesOfFrames<'a> {
             → HasTold self.old passed stream answers → (more : List (Answers Values))
             × HasTold self.new passed (stream ++ drop (skip_of self.old) piece.now)
             (answers ++ more)
+            × TellsEach (reading_of self.old) passed (stream ++ drop (skip_of self.old) piece.now)
+            answers more lines.old.items lines.new.items) }
+        ensures stopped { OnErr result ((passed : ℕ) (stream : List ℕ)
+            (answers : List (Answers Values)) → HasTold self.old passed stream answers
+            → (done rest : List ℕ) × (drop (skip_of self.old) piece.now ≡ done ++ rest)
+            × (more : List (Answers Values))
+            × HasStopped self.new passed (stream ++ done) rest (answers ++ more)
             × TellsEach (reading_of self.old) passed (stream ++ drop (skip_of self.old) piece.now)
             answers more lines.old.items lines.new.items) }
         ensures only { OnlyAppended lines.old.items lines.new.items }
@@ -238,7 +257,7 @@ impl<'a> LinesOfFrames<'a> {
     /// Ends the stream: appends a line `cut` if a frame was begun, and returns whether all results were values.
     ///
     /// # Errors
-    /// Out of memory.
+    /// Out of memory; `lines` is unchanged.
     ///
     /// # Allocates
     /// What `lines` grows by.
@@ -250,6 +269,7 @@ impl<'a> LinesOfFrames<'a> {
             → HasTold self.entry passed stream answers
             → TellsEnd (reading_of self.entry) passed stream (added_at_end self.entry stream)
             lines.old.items lines.new.items) }
+        ensures unchanged { OnErr result (lines.new.items ≡ lines.old.items) }
         ensures only { OnlyAppended lines.old.items lines.new.items }
     {
         let begun = self.receiver.begun_bytes() as u64;
@@ -302,7 +322,7 @@ fn is_value(answer: &Answer<Value>) -> bool
     matches!(answer, Answer::Value(_))
 }
 
-/// Appends the line of a value; `text` is a buffer for its JSON.
+/// Appends the line of a value; `text` is a buffer for the line.
 pub(crate) fn put_value_line(
     reading: Reading<'_>,
     value: &Value,
@@ -311,12 +331,11 @@ pub(crate) fn put_value_line(
 ) -> Result<(), AllocError>
     ensures line { OnOk result ((said : List ℕ) × IsTextFor reading.entry value.now said
         × (lines.new.items ≡ lines.old.items ++ value_line said)) }
+    ensures unchanged { OnErr result (lines.new.items ≡ lines.old.items) }
     ensures only { OnlyAppended lines.old.items lines.new.items }
 {
-    write_value(reading, value, text)?;
-    lines.extend_from_slice(b"{\"value\":")?;
-    lines.extend_from_slice(text)?;
-    lines.extend_from_slice(b"}\n")
+    write_line(reading, value, text)?;
+    lines.extend_from_slice(text)
 }
 
 /// Appends the line of a stretch that isn't a value: a word, and its positions in the stream.
@@ -329,18 +348,31 @@ pub(crate) fn put_stretch_line(
 ) -> Result<(), AllocError>
     ensures line { OnOk result
         (lines.new.items ≡ lines.old.items ++ stretch_line what.now from to) }
+    ensures unchanged { OnErr result (lines.new.items ≡ lines.old.items) }
     ensures only { OnlyAppended lines.old.items lines.new.items }
 {
     let line = format!(in alloc; "{{\"{what}\":{{\"from\":{from},\"to\":{to}}}}}\n")?;
     lines.extend_from_slice(line.as_bytes())
 }
 
-// A value is printed into a buffer of its own and then appended to its line, because what precedes it in the lines stays unchanged so.
-// And a writer of `json` clears as many bytes ahead as precede it, up to 16 KiB, which cost a tenth of a message's instructions.
+// A value is printed into a buffer of its own, whose line is then appended at once: so out of memory leaves no part of a line. And a
+// writer of `json` clears as many bytes ahead as precede it, up to 16 KiB, which cost a tenth of a message's instructions.
 // Rejected: printing in place, where each function of `print` would have to state that it leaves what precedes unchanged.
-/// Replaces the text by a value's JSON.
+/// Replaces the text by a value's line.
+fn write_line(reading: Reading<'_>, value: &Value, text: &mut Vec<u8>) -> Result<(), AllocError>
+    ensures { OnOk result ((said : List ℕ) × IsTextFor reading.entry value.now said
+        × (text.new.items ≡ value_line said)) }
+{
+    text.clear();
+    text.extend_from_slice(b"{\"value\":")?;
+    write_value(reading, value, text)?;
+    text.extend_from_slice(b"}\n")
+}
+
+/// Appends a value's JSON to the start of a line.
 fn write_value(reading: Reading<'_>, value: &Value, text: &mut Vec<u8>) -> Result<(), AllocError>
-    ensures { OnOk result (IsTextFor reading.entry value.now text.new.items) }
+    ensures { OnOk result ((said : List ℕ) × IsTextFor reading.entry value.now said
+        × (text.new.items ≡ text.old.items ++ said)) }
 {
     let Reading {
         alloc,
@@ -350,7 +382,6 @@ fn write_value(reading: Reading<'_>, value: &Value, text: &mut Vec<u8>) -> Resul
         depth,
         ..
     } = reading;
-    text.clear();
     let mut out = Writer::new(mem::replace(text, Vec::new(alloc)));
     let written = print_into(&mut out, alloc, schema, place, Look { hex, depth }, value);
     *text = out.into_inner();

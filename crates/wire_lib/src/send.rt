@@ -1,8 +1,8 @@
 //! Lines of JSON as a stream of frames.
 ghost use Rattle.std.specs.Prelude.{◌≡◌, ℕ, ◌<◌, ◌≤◌, ◌&&◌, false, List, [], ◌∷◌, ◌++◌, length, take, string_bytes, IfOk, OnOk, OnErr};
-ghost use Rattle.wire_json.specs.Refused.{IfWrong, refusal_text, AppendsFront};
+ghost use Rattle.wire_json.specs.Refused.{IfWrong, refusal_text};
 ghost use Rattle.wire_lib.specs.Said.{OnlyAppended};
-ghost use Rattle.wire_lib.specs.Sent.{IsFrameToSend, IsUnsendable, LineMade, IsTextMade, IsLineMade, IsLineWith, AreLinesMade, last_line, is_framed, are_all_framed, number_behind, sending_of, begun_line, HasMade, HaveBecome, AppendedApart, StopsBehind};
+ghost use Rattle.wire_lib.specs.Sent.{IsFrameToSend, IsUnsendable, LineMade, IsTextMade, IsLineMade, IsLineWith, AreLinesMade, last_line, is_framed, are_all_framed, number_behind, sending_of, begun_line, HasMade, HaveBecome, AppendedApart};
 
 use crate::raw::message_of;
 use crate::receive::LIMIT;
@@ -107,8 +107,8 @@ impl<'a> FramesOfLines<'a> {
             (string_bytes wrongs.new) (m ∷ [])
             × (self.new.is_good ≡ (self.old.is_good && is_framed m))) }
         ensures only { OnlyAppended frames.old.items frames.new.items }
-        ensures lost { OnErr result (StopsBehind frames.old.items frames.new.items
-            (string_bytes wrongs.old) (string_bytes wrongs.new) []) }
+        ensures frames { OnErr result (frames.new.items ≡ frames.old.items) }
+        ensures wrongs { OnErr result (string_bytes wrongs.new ≡ string_bytes wrongs.old) }
         ensures number { self.new.number ≡ number_behind self.old.number }
         ensures same { (self.new.sending ≡ self.old.sending)
             × (self.new.line.items ≡ self.old.line.items) }
@@ -125,12 +125,13 @@ impl<'a> FramesOfLines<'a> {
     fn refuse(&mut self, why: &Wrong, wrongs: &mut String) -> Sent
         ensures said { OnOk result ((text : List ℕ) × (string_bytes wrongs.new
             ≡ string_bytes wrongs.old ++ refusal_text self.old.number text)) }
-        ensures lost { OnErr result ((text : List ℕ) × AppendsFront (string_bytes wrongs.old)
-            (string_bytes wrongs.new) (refusal_text self.old.number text)) }
+        ensures wrongs { OnErr result (string_bytes wrongs.new ≡ string_bytes wrongs.old) }
         ensures good { self.new ≡ record self.old { is_good = false } }
     {
         self.is_good = false;
-        put_wrong(wrongs, self.number, why)
+        let mut line = String::new(self.sending.alloc);
+        put_wrong(&mut line, self.number, why)?;
+        wrongs.push_str(line.as_str())
     }
 
     /// Sends a line of which this is the last part. If the chunk has the whole line it isn't copied.
@@ -142,8 +143,8 @@ impl<'a> FramesOfLines<'a> {
             × (self.new.is_good ≡ (self.old.is_good && is_framed m))
             × (self.new.line.items ≡ [])) }
         ensures only { OnlyAppended frames.old.items frames.new.items }
-        ensures lost { OnErr result (StopsBehind frames.old.items frames.new.items
-            (string_bytes wrongs.old) (string_bytes wrongs.new) []) }
+        ensures frames { OnErr result (frames.new.items ≡ frames.old.items) }
+        ensures wrongs { OnErr result (string_bytes wrongs.new ≡ string_bytes wrongs.old) }
         ensures number { OnOk result (self.new.number ≡ number_behind self.old.number) }
         ensures sending { sending_of self.new ≡ sending_of self.old }
     {
@@ -171,8 +172,8 @@ impl<'a> FramesOfLines<'a> {
             × AppendedApart frames.old.items frames.new.items (string_bytes wrongs.old)
             (string_bytes wrongs.new) more) }
         ensures only { OnlyAppended frames.old.items frames.new.items }
-        ensures lost { OnErr result (StopsBehind frames.old.items frames.new.items
-            (string_bytes wrongs.old) (string_bytes wrongs.new) []) }
+        ensures frames { OnErr result (frames.new.items ≡ frames.old.items) }
+        ensures wrongs { OnErr result (string_bytes wrongs.new ≡ string_bytes wrongs.old) }
         ensures within { IfOk result (λ used. used ≤ length rest.now) }
         ensures forward { 0 < length rest.now → IfOk result (λ used. 0 < used) }
         ensures sending { sending_of self.new ≡ sending_of self.old }
@@ -193,8 +194,8 @@ impl<'a> FramesOfLines<'a> {
     /// instead; lines count from 1. Chunk boundaries don't matter.
     ///
     /// # Errors
-    /// Out of memory. What the chunk's lines before that became has been appended, and maybe a part of one more refusal.
-    /// `frames` ends with a whole frame, or as it was.
+    /// Out of memory: what the chunk's lines before the one for which there was none became has been appended, and nothing of that
+    /// one. The rest of the chunk is lost, so continue with a new sender, at the start of a line.
     ///
     /// # Allocates
     /// What `frames`, `wrongs` and the begun line grow by. A value and its frame at a time are freed.
@@ -207,7 +208,7 @@ impl<'a> FramesOfLines<'a> {
         ensures lost { OnErr result ((text : List ℕ) (made : List LineMade)
             → HasMade self.old text made → (used : ℕ) × (more : List LineMade)
             × HaveBecome (sending_of self.old) (text ++ take used piece.now) (made ++ more)
-            × StopsBehind frames.old.items frames.new.items (string_bytes wrongs.old)
+            × AppendedApart frames.old.items frames.new.items (string_bytes wrongs.old)
             (string_bytes wrongs.new) more) }
         ensures only { OnlyAppended frames.old.items frames.new.items }
         ensures sending { sending_of self.new ≡ sending_of self.old }
@@ -230,8 +231,8 @@ impl<'a> FramesOfLines<'a> {
             × AppendedApart frames.old.items frames.new.items (string_bytes wrongs.old)
             (string_bytes wrongs.new) last
             × (self.new.is_good ≡ are_all_framed (made ++ last))) }
-        ensures lost { OnErr result (StopsBehind frames.old.items frames.new.items
-            (string_bytes wrongs.old) (string_bytes wrongs.new) []) }
+        ensures frames { OnErr result (frames.new.items ≡ frames.old.items) }
+        ensures wrongs { OnErr result (string_bytes wrongs.new ≡ string_bytes wrongs.old) }
         ensures only { OnlyAppended frames.old.items frames.new.items }
     {
         if self.line.is_empty() {
@@ -244,7 +245,7 @@ impl<'a> FramesOfLines<'a> {
     /// Ends the text: sends a last line without a line feed, and returns whether all lines became frames.
     ///
     /// # Errors
-    /// Out of memory. `frames` is unchanged; a part of a refusal may have been appended.
+    /// Out of memory. `frames` and `wrongs` hold what they held.
     ///
     /// # Allocates
     /// What `frames` and `wrongs` grow by. The last value and its frame are freed.
@@ -256,8 +257,8 @@ impl<'a> FramesOfLines<'a> {
             × AppendedApart frames.old.items frames.new.items (string_bytes wrongs.old)
             (string_bytes wrongs.new) last
             × (good ≡ are_all_framed (made ++ last))) }
-        ensures lost { OnErr result (StopsBehind frames.old.items frames.new.items
-            (string_bytes wrongs.old) (string_bytes wrongs.new) []) }
+        ensures frames { OnErr result (frames.new.items ≡ frames.old.items) }
+        ensures wrongs { OnErr result (string_bytes wrongs.new ≡ string_bytes wrongs.old) }
         ensures only { OnlyAppended frames.old.items frames.new.items }
     {
         self.send_rest(frames, wrongs)?;

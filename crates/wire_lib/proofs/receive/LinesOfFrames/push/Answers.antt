@@ -1,6 +1,6 @@
-use Rattle.std.proofs.Common.{◌++◌, drop, subst}
+use Rattle.std.proofs.Common.{◌++◌, drop, subst, sym, ◌∙◌}
 use Rattle.wire_lib.specs.Received.{HasTold, reading_of, skip_of}
-use Rattle.std.proofs.lemmas.Result.{on_ok_weaker}
+use Rattle.std.proofs.lemmas.Result.{on_ok_weaker, on_err_weaker}
 use Rattle.wire_lib.proofs.LineLemmas.{tells_as}
 use Rattle.wire_lib.proofs.receive.LinesOfFrames.push.Goals as goal
 
@@ -16,3 +16,18 @@ returns-clause-told c = on_ok_weaker c.push_all.result (λ told passed stream an
           c.push_all.new.lines.items
           b.ensures.reading b.ensures.rest next.2,
     )) c.push_all.ensures.told
+
+pub returns-clause-stopped : goal.returns-clause-stopped
+returns-clause-stopped c = on_err_weaker c.push_all.result (λ stopped passed stream answers h.
+    let b = c.behind_skipped-rest in
+    let next = stopped passed stream answers (b.ensures.told passed stream answers h) in (
+      next.0,
+      next.1,
+      sym b.ensures.rest ∙ next.2,
+      next.3,
+      next.4,
+      tells_as (reading_of b.new.self) (reading_of c.args.self.now) passed stream b.result.now
+          (drop (skip_of c.args.self.now) c.args.piece.now) answers next.3 c.args.lines.now.items
+          c.push_all.new.lines.items
+          b.ensures.reading b.ensures.rest next.5,
+    )) c.push_all.ensures.stopped

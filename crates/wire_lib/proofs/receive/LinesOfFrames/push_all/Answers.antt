@@ -1,8 +1,11 @@
 use Rattle.std.proofs.Common.{◌≡◌, ℕ, List, [], ◌∷◌, ◌++◌, take, length, refl, sym, ap, subst, ◌∙◌, arith, rules, append_assoc}
 use Rattle.std.proofs.lemmas.List.{append-nil}
-use Rattle.wire_lib.specs.Received.{HasTold, TellsEach, reading_of}
+use Rattle.wire_lib.specs.Received.{HasStopped, HasTold, TellsEach, reading_of}
+use Rattle.link.specs.declared.receiver.Answer.{Answer}
+use Rattle.schema_table.specs.declared.value.Value.{Value}
 use Rattle.wire_lib.proofs.ToldLemmas.{told_none, told_then, parts_on}
 use Rattle.wire_lib.proofs.LineLemmas.{only_none, only_then, tells_none, tells_then}
+use Rattle.wire_lib.proofs.SentLemmas.{at_error}
 use Rattle.wire_lib.proofs.receive.LinesOfFrames.push_all.Goals as goal
 
 -- nothing is left
@@ -65,3 +68,23 @@ returns-clause-told c passed stream answers h =
           (sym (i.1 ∙ ap (λ x. i.0 ++ x) none ∙ append-nil i.0)) told.1,
       told.2,
     )
+
+pub returns-in_err-used-clause-stopped : goal.returns-in_err-used-clause-stopped
+returns-in_err-used-clause-stopped c =
+    let i = c.loop-rest.invariant in
+    let lines = c.push_one.new.lines.items in
+    let stopped : (passed : ℕ) (stream : List ℕ) (answers : List (Answer Value)) → HasTold c.args.self.now passed stream answers
+    → (done rest : List ℕ) × (c.args.piece.now ≡ done ++ rest) × (more : List (Answer Value))
+    × HasStopped c.push_one.new.self passed (stream ++ done) rest (answers ++ more)
+    × TellsEach (reading_of c.args.self.now) passed (stream ++ c.args.piece.now) answers more c.args.lines.now.items lines =
+    (λ passed stream answers h.
+    let told = i.4 passed stream answers h in (
+      i.0,
+      c.loop-rest.rest.now,
+      i.1,
+      told.0,
+      c.in_err-used.ensures.stopped passed (stream ++ i.0) (answers ++ told.0) told.1,
+      subst (λ x. TellsEach (reading_of c.args.self.now) passed (stream ++ c.args.piece.now) answers told.0
+          c.args.lines.now.items x) (sym c.in_err-used.ensures.unchanged) told.2,
+    )) in
+    at_error _ stopped

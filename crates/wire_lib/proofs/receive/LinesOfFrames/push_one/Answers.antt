@@ -1,13 +1,63 @@
-use Rattle.std.proofs.Common.{◌-◌, ◌&&◌, [], ◌∷◌, ◌++◌, take, Ok, Some, None, refl, sym, ap, subst, ◌∙◌, arith}
+use Rattle.std.proofs.Common.{ℕ, List, ◌-◌, ◌&&◌, [], ◌∷◌, ◌++◌, take, Ok, Some, None, refl, sym, ap, subst, ◌∙◌, arith}
 use Rattle.std.proofs.lemmas.List.{append-nil, length-append, length-take-le}
 use Rattle.link.specs.Decoding.{in_owner}
 use Rattle.link.specs.Pushes.{Answered, IsStretchOf}
 use Rattle.link.specs.Lemmas.Givens.{heard_behind}
+use Rattle.link.specs.declared.receiver.Answer.{Answer}
+use Rattle.schema_table.specs.declared.value.Value.{Value}
 use Rattle.wire_lib.specs.Said.{SaysLine, end_said, known_to}
-use Rattle.wire_lib.specs.Received.{HasTold, held_by, read_by, reading_of, are_all_values}
+use Rattle.wire_lib.specs.Received.{HasStopped, HasTold, held_by, read_by, reading_of, are_all_values}
 use Rattle.wire_lib.proofs.ToldLemmas.{all_then}
-use Rattle.wire_lib.proofs.LineLemmas.{tells_none, told_by_push}
+use Rattle.wire_lib.proofs.LineLemmas.{least_of, tells_none, told_by_push}
+use Rattle.wire_lib.proofs.SentLemmas.{at_error}
 use Rattle.wire_lib.proofs.receive.LinesOfFrames.push_one.Goals as goal
+
+pub returns-in-Err-clause-stopped : goal.returns-in-Err-clause-stopped
+returns-in-Err-clause-stopped g passed stream answers h =
+    let r = g.args.self.now in
+    let p = g.push_next-used in
+    let rest = g.args.rest.now in
+    let used = p.result.used in
+    let s = r.reading.sentinel in record {
+      given = h.hears.given;
+      used = used;
+      least = least_of (held_by r.reading) (read_by r.reading) 65536 s stream rest used p.result.answer
+          (p.ensures.answers 65536 s stream h.hears.after);
+      after = p.ensures.stands 65536 s stream h.hears.after;
+      came = omega (
+        arith,
+        h.came,
+        p.ensures.within,
+        length-append stream (take used rest),
+        length-take-le used rest p.ensures.within,
+      );
+    }
+
+pub returns-in_err-say-in-Ok-Some-clause-stopped : goal.returns-in_err-say-in-Ok-Some-clause-stopped
+returns-in_err-say-in-Ok-Some-clause-stopped g =
+    let r = g.args.self.now in
+    let p = g.push_next-used in
+    let rest = g.args.rest.now in
+    let used = p.result.used in
+    let s = r.reading.sentinel in
+    let stopped : (passed : ℕ) (stream : List ℕ) (answers : List (Answer Value)) → HasTold r passed stream answers
+    → HasStopped g.say.new.self passed stream rest answers =
+    (λ passed stream answers h.
+    subst (λ x. HasStopped x passed stream rest answers) (sym g.say.ensures.same) (record {
+      given = h.hears.given;
+      used = used;
+      least = least_of (held_by r.reading) (read_by r.reading) 65536 s stream rest used p.result.answer
+          (p.ensures.answers 65536 s stream h.hears.after);
+      after = p.ensures.stands 65536 s stream h.hears.after;
+      came = omega (
+        arith,
+        h.came,
+        p.ensures.within,
+        length-append stream (take used rest),
+        length-take-le used rest p.ensures.within,
+      );
+    })) in
+    at_error _ stopped
 
 pub returns-in-Ok-None-clause-told : goal.returns-in-Ok-None-clause-told
 returns-in-Ok-None-clause-told g passed stream answers h =

@@ -1,9 +1,9 @@
 use Rattle.std.proofs.Common.{◌≡◌, ℕ, List, [], ◌++◌, take, length, refl, sym, ap, subst, ◌∙◌, rules, string_bytes}
 use Rattle.std.proofs.Math.Seq.{take-append_seam}
 use Rattle.std.proofs.lemmas.List.{append-nil, append_assoc, nil_from_length}
-use Rattle.wire_lib.specs.Sent.{LineMade, HasMade, HaveBecome, StopsBehind}
+use Rattle.wire_lib.specs.Sent.{LineMade, HasMade, HaveBecome, AppendedApart}
 use Rattle.wire_lib.proofs.LineLemmas.{only_none, only_then}
-use Rattle.wire_lib.proofs.SentLemmas.{appended_none, appended_then, stops_then, have_become, at_error}
+use Rattle.wire_lib.proofs.SentLemmas.{appended_none, appended_then, appended_still, have_become, at_error}
 use Rattle.wire_lib.proofs.ToldLemmas.{parts_on}
 use Rattle.wire_lib.proofs.send.FramesOfLines.push.Goals as goal
 
@@ -57,12 +57,12 @@ returns-in_err-used-clause-lost c =
     let front : i.0 ≡ take (length i.0) c.args.piece.now = sym (take-append_seam i.0 rest) ∙ ap (take (length i.0)) (sym i.1) in
     let lost : (text : List ℕ) (made : List LineMade) → HasMade c.args.self.now text made → (used : ℕ) × (more : List LineMade)
     × HaveBecome c.args.self.now.sending (text ++ take used c.args.piece.now) (made ++ more)
-    × StopsBehind c.args.frames.now.items c.push_line.new.frames.items (string_bytes c.args.wrongs.now) (string_bytes c.push_line.new.wrongs) more =
+    × AppendedApart c.args.frames.now.items c.push_line.new.frames.items (string_bytes c.args.wrongs.now) (string_bytes c.push_line.new.wrongs) more =
     (λ text made h.
     let told = i.3 text made h in (
       length i.0,
       told.0,
       have_become c.args.self.now.sending self.sending self.line.items self.number self.is_good (text ++ i.0) (text ++ take (length i.0) c.args.piece.now) (made ++ told.0) i.2 (ap (λ x. text ++ x) front) told.1,
-      stops_then _ _ _ _ _ _ told.0 told.2 c.in_err-used.ensures.lost,
+      appended_still _ _ _ _ _ _ told.0 c.in_err-used.ensures.frames c.in_err-used.ensures.wrongs told.2,
     )) in
     at_error _ lost

@@ -1,7 +1,7 @@
-use Rattle.std.proofs.Common.{◌≡◌, ◌<◌, ◌+◌, [], ◌∷◌, ◌++◌, take, length, refl, ap, sym, subst, ◌∙◌, string_bytes, rules}
+use Rattle.std.proofs.Common.{◌≡◌, ◌<◌, ◌+◌, [], ◌∷◌, ◌++◌, take, length, ap, sym, subst, ◌∙◌, string_bytes, rules}
 use Rattle.std.proofs.lemmas.List.{take_more}
 use Rattle.wire_lib.specs.Sent.{HasMadeBy, IsLineMade, LacksFeed}
-use Rattle.wire_lib.proofs.SentLemmas.{lacks_take, made_on, made_then, appended_none, stops_kept, at_error}
+use Rattle.wire_lib.proofs.SentLemmas.{lacks_take, made_on, made_then, appended_none}
 use Rattle.wire_lib.proofs.send.FramesOfLines.push_line.Goals as goal
 
 pub returns-then-is_empty-clause-made : goal.returns-then-is_empty-clause-made
@@ -35,10 +35,3 @@ returns-clause-made c text made h =
           (subst (λ x. HasMadeBy x [] new.number new.is_good (text ++ (part ++ 10 ∷ [])) (made ++ ended.made.0 ∷ [])) (sym ended.sending) then)),
       ended.made.2,
     )
-
-pub returns-in_err-append-clause-lost : goal.returns-in_err-append-clause-lost
-returns-in_err-append-clause-lost c =
-    at_error _ (stops_kept c.args.frames.now.items c.args.frames.now.items (string_bytes c.args.wrongs.now) refl)
-
-pub returns-in_err-end-clause-lost : goal.returns-in_err-end-clause-lost
-returns-in_err-end-clause-lost c = at_error _ c.in_err-end.ensures.lost

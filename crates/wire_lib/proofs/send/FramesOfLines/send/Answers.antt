@@ -1,6 +1,6 @@
-use Rattle.std.proofs.Common.{◌++◌, refl, ap, ◌∙◌, string_bytes, rules}
-use Rattle.wire_lib.proofs.SentLemmas.{sent_framed, sent_refused, stops_kept, stops_refused}
-use Rattle.std.proofs.lemmas.Result.{on_ok_weaker, on_err_weaker}
+use Rattle.std.proofs.Common.{◌++◌, ap, ◌∙◌, string_bytes, rules}
+use Rattle.wire_lib.proofs.SentLemmas.{sent_framed, sent_refused}
+use Rattle.std.proofs.lemmas.Result.{on_ok_weaker}
 use Rattle.wire_lib.proofs.send.FramesOfLines.send.Goals as goal
 
 pub returns-in-Ok-clause-made : goal.returns-in-Ok-clause-made
@@ -18,15 +18,3 @@ returns-in-Err-Wrong-clause-made c =
     (sent_refused self.sending c.saturating_add-self.result c.refuse.new.self.number c.args.line.now c.args.frames.now.items (string_bytes c.args.wrongs.now) (string_bytes c.refuse.new.wrongs) self.is_good c.refuse.new.self.is_good
     (ap (λ s. s.number) c.refuse.ensures.good) (ap (λ s. s.is_good) c.refuse.ensures.good) (c.in-Err-Wrong.ensures.refused (search rules)))
     c.refuse.ensures.said
-
-pub returns-in-Ok-clause-lost : goal.returns-in-Ok-clause-lost
-returns-in-Ok-clause-lost c =
-    on_err_weaker c.append.result (stops_kept c.args.frames.now.items c.append.new.to.items (string_bytes c.args.wrongs.now)) c.append.ensures.kept
-
-pub returns-in-Err-Wrong-clause-lost : goal.returns-in-Err-Wrong-clause-lost
-returns-in-Err-Wrong-clause-lost c =
-    on_err_weaker c.refuse.result (stops_refused c.args.frames.now.items (string_bytes c.args.wrongs.now) (string_bytes c.refuse.new.wrongs) c.saturating_add-self.result) c.refuse.ensures.lost
-
-pub returns-in-Err-OutOfMemory-clause-lost : goal.returns-in-Err-OutOfMemory-clause-lost
-returns-in-Err-OutOfMemory-clause-lost c =
-    stops_kept c.args.frames.now.items c.args.frames.now.items (string_bytes c.args.wrongs.now) refl
