@@ -70,6 +70,34 @@ fn take_kept<'a>(reading: Reading<'_>, message: &'a [u8]) -> postcard::Result<(V
     }
 }
 
+/// Appends the line of the value at the start of a message, and one about the bytes after it, if there are any; returns whether there
+/// are none.
+fn put_front(
+    reading: Reading<'_>,
+    value: &Value,
+    rest: &[u8],
+    message: &[u8],
+    text: &mut Vec<u8>,
+    lines: &mut Vec<u8>,
+) -> Result<bool, AllocError>
+    requires read { ReadsFront (read_by reading) message.now rest.now value.now }
+    requires exact { reading.strict ≡ true → message.now ≡ short (tree_of value.now) }
+    ensures good { IfOk result (λ good. good ≡ true
+        → ShowsWhole reading.entry message.now lines.old.items lines.new.items) }
+    ensures other { IfOk result (λ good. good ≡ false
+        → ShowsFront reading.entry message.now lines.old.items lines.new.items) }
+    ensures only { OnlyAppended lines.old.items lines.new.items }
+{
+    put_value_line(reading, value, text, lines)?;
+    if rest.is_empty() {
+        return Ok(true);
+    }
+    let to = message.len() as u64;
+    let from = to.saturating_sub(rest.len() as u64);
+    put_stretch_line(reading.alloc, "rest", from, to, lines)?;
+    Ok(false)
+}
+
 /// Appends the line of a message that begins with this value, and one about the bytes after it, if there are any; returns whether
 /// there are none.
 fn put_taken(
@@ -88,19 +116,11 @@ fn put_taken(
         ⊎ ShowsDamage reading.entry message.now lines.old.items lines.new.items) }
     ensures only { OnlyAppended lines.old.items lines.new.items }
 {
-    let alloc = reading.alloc;
-    let to = message.len() as u64;
     if reading.strict && !is_written(reading, value, message)? {
-        put_stretch_line(alloc, "damaged", 0, to, lines)?;
+        put_stretch_line(reading.alloc, "damaged", 0, message.len() as u64, lines)?;
         return Ok(false);
     }
-    put_value_line(reading, value, text, lines)?;
-    if rest.is_empty() {
-        return Ok(true);
-    }
-    let from = to.saturating_sub(rest.len() as u64);
-    put_stretch_line(alloc, "rest", from, to, lines)?;
-    Ok(false)
+    put_front(reading, value, rest, message, text, lines)
 }
 
 /// Appends the line of a message without a frame, and returns whether the whole message is a value of the type.

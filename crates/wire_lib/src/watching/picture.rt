@@ -1,6 +1,6 @@
 //! A table of messages as printable lines.
-ghost use Rattle.std.specs.Prelude.{◌≡◌, ◌+◌, ◌<◌, [], ◌∷◌, length, string_bytes, map, IfOk, OnOk};
-ghost use Rattle.wire_lib.specs.Pictures.{FitInColumns, AppendsLines, line_in, line_bytes, rate_text, row_text, row_texts, head_text, damage_texts, picture_texts};
+ghost use Rattle.std.specs.Prelude.{◌≡◌, ◌+◌, ◌<◌, ◌++◌, [], ◌∷◌, codes, length, string_bytes, map, IfOk, OnOk};
+ghost use Rattle.wire_lib.specs.Pictures.{FitInColumns, AppendsLines, line_in, line_bytes, rate_text, row_text, row_texts, head_text, damage_count, damage_texts, picture_texts};
 
 use crate::watching::printable::printable;
 use crate::watching::table::{Row, Table};
@@ -64,6 +64,17 @@ fn head(view: View) -> &'static str
     }
 }
 
+/// Appends the text of a row.
+fn put_row(alloc: Global, lines: &mut Vec<Vec<u8>>, row: &Row, view: View) -> Result<(), AllocError>
+    requires { FitInColumns view.columns lines.old.items }
+    ensures fits { OnOk result (FitInColumns view.columns lines.new.items) }
+    ensures text { OnOk result (AppendsLines view.columns (row_text view.window row.now ∷ [])
+        lines.old.items lines.new.items) }
+{
+    let text = said(alloc, row, view.window)?;
+    put_line(alloc, lines, view.columns, text.as_str())
+}
+
 /// Appends the kinds of which a message came; `..` in place of those that are too many.
 fn put_rows(
     alloc: Global,
@@ -85,10 +96,41 @@ fn put_rows(
             return put_line(alloc, lines, view.columns, "..");
         }
         left -= 1;
-        let text = said(alloc, row, view.window)?;
-        put_line(alloc, lines, view.columns, text.as_str())?;
+        put_row(alloc, lines, row, view)?;
     }
     Ok(())
+}
+
+/// Appends the number of damages.
+fn put_count(
+    alloc: Global,
+    lines: &mut Vec<Vec<u8>>,
+    columns: usize,
+    damaged: u64,
+) -> Result<(), AllocError>
+    requires { FitInColumns columns lines.old.items }
+    ensures fits { OnOk result (FitInColumns columns lines.new.items) }
+    ensures text { OnOk result (AppendsLines columns (damage_count damaged ∷ [])
+        lines.old.items lines.new.items) }
+{
+    let text = format!(in alloc; "{:<16} {:>9}", "no message", damaged)?;
+    put_line(alloc, lines, columns, text.as_str())
+}
+
+/// Appends the text of a damage.
+fn put_damage(
+    alloc: Global,
+    lines: &mut Vec<Vec<u8>>,
+    columns: usize,
+    told: &str,
+) -> Result<(), AllocError>
+    requires { FitInColumns columns lines.old.items }
+    ensures fits { OnOk result (FitInColumns columns lines.new.items) }
+    ensures text { OnOk result (AppendsLines columns ((codes "  " ++ told.now) ∷ [])
+        lines.old.items lines.new.items) }
+{
+    let text = format!(in alloc; "  {told}")?;
+    put_line(alloc, lines, columns, text.as_str())
 }
 
 /// Appends the number of damages, and the last ones.
@@ -106,11 +148,9 @@ fn put_damages(
     if table.damaged == 0 {
         return Ok(());
     }
-    let text = format!(in alloc; "{:<16} {:>9}", "no message", table.damaged)?;
-    put_line(alloc, lines, view.columns, text.as_str())?;
+    put_count(alloc, lines, view.columns, table.damaged)?;
     for told in &table.damages {
-        let text = format!(in alloc; "  {told}")?;
-        put_line(alloc, lines, view.columns, text.as_str())?;
+        put_damage(alloc, lines, view.columns, told.as_str())?;
     }
     Ok(())
 }
