@@ -2,6 +2,7 @@ pub mod ArgumentsLemmas
 pub mod DamageLemmas
 pub mod DrawnLemmas
 pub mod FeedLemmas
+pub mod KindsLemmas
 pub mod LineLemmas
 pub mod NamesLemmas
 pub mod PrintableLemmas
@@ -9,6 +10,7 @@ pub mod RawLemmas
 pub mod ResentLemmas
 pub mod SeenLemmas
 pub mod SentLemmas
+pub mod ShownLemmas
 pub mod SizesLemmas
 pub mod TableJsonLemmas
 pub mod ToldLemmas

@@ -15,7 +15,7 @@ use Rattle.schema_table.specs.declared.node.Node.{Node}
 use Rattle.schema_table.specs.declared.node.Node.TheVariants as node
 use Rattle.schema_table.specs.Integers.{width_of}
 use Rattle.schema_table.specs.Schemas.{TakesFields, TakesPayload, TakesNode, TakesPlace, SchemaTakes}
-use Rattle.wire_lib.specs.Sizes.{IsAtMost, known_size, KnowsSizes, AreSizesOf, both, so_many, sum_size, variant_size, counted_size, node_size, node_bounded, IsPast64, AreByParts, HasSizeAt, HaveSizes, unknown_among}
+use Rattle.wire_lib.specs.Sizes.{IsAtMost, known_size, KnowsSizes, AreSizesOf, both, so_many, sum_size, variant_size, counted_size, node_size, node_bounded, AreByParts, HasSizeAt, HaveSizes, unknown_among}
 
 -- Sizes
 

@@ -12,6 +12,7 @@ pub mod Resent
 pub mod Said
 pub mod Seen
 pub mod Sent
+pub mod Shown
 pub mod Sizes
 pub mod Summed
 pub mod TableJson

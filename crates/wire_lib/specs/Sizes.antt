@@ -102,6 +102,17 @@ HasSizeAt nodes sizes place = (n : Node) → slice_get nodes place ≡ Some n �
 abbrev pub HaveSizes : List Node → List (Option ℕ) → Type 0
 HaveSizes nodes sizes = (place : ℕ) → HasSizeAt nodes sizes place
 
+-- These are the maximum sizes of a table's types: one for each.
+pub record AreMaximumSizes (nodes : List Node) (sizes : List (Option ℕ)) : Type 0 where
+  -- one for each
+  pub each : length sizes ≡ length nodes
+  -- they are upper bounds
+  pub bounds : AreSizesOf nodes sizes
+  -- each is that by the types inside
+  pub parts : AreByParts nodes sizes
+  -- none is left out that the types inside give
+  pub found : HaveSizes nodes sizes
+
 -- how many sizes aren't known
 abbrev pub unknown_among : List (Option ℕ) → ℕ
 unknown_among [] = 0

@@ -15,7 +15,7 @@ use Rattle.schema_table.specs.declared.schema.Named.{Named}
 use Rattle.schema_table.specs.declared.schema.Schema.{Schema}
 use Rattle.wire_print.specs.Appended.{member_tokens}
 use Rattle.schema_table.specs.Printed.{members_by}
-use Rattle.wire_lib.specs.Sizes.{AreSizesOf}
+use Rattle.wire_lib.specs.Sizes.{AreMaximumSizes}
 
 -- members were appended
 abbrev pub AppendsMembers : {E : Type 0} → Result (Unit {0}) E → Written → Written → List (List ℕ × Json) → Type 0
@@ -184,6 +184,6 @@ nodes_of schema sizes = (codes "nodes", array (items_of (nodes_json schema.nodes
 abbrev pub table_of : Schema → List (Option ℕ) → Json
 table_of schema sizes = object_of ((codes "version", number_of 1) ∷ types_of schema ∷ nodes_of schema sizes ∷ [])
 
--- the text of a table, with some maximum sizes of its nodes
+-- the text of a table, with the maximum sizes of its nodes
 abbrev pub IsTableText : Schema → List ℕ → Type 0
-IsTableText schema text = (sizes : List (Option ℕ)) × AreSizesOf schema.nodes.items sizes × (text ≡ print (json_tokens (table_of schema sizes)))
+IsTableText schema text = (sizes : List (Option ℕ)) × AreMaximumSizes schema.nodes.items sizes × (text ≡ print (json_tokens (table_of schema sizes)))

@@ -1,8 +1,10 @@
 //! Which lines of a stream are shown, with their time, and in which colour.
-ghost use Rattle.std.specs.Prelude.{◌≡◌, true, false};
+ghost use Rattle.std.specs.Prelude.{◌≡◌, ◌++◌, ◌∷◌, [], ◌&&◌, not, ℕ, Bool, List, Option, true, false, codes, string_bytes, IfOk, OnOk};
+ghost use Rattle.std.specs.Option.{option_map};
 ghost use Rattle.schema_table.specs.Telling.{names_at};
 ghost use Rattle.wire_json.specs.Meant.{IsOneOf};
 ghost use Rattle.wire_lib.specs.Kinds.{HasVariantNamed};
+ghost use Rattle.wire_lib.specs.Shown.{PutsShown, ShowsBy, is_line_shown, line_shown, line_timed, time_front as front_of};
 
 use crate::watching::screen::{PLAIN, RED};
 use cobs::before_sentinel;
@@ -23,12 +25,15 @@ pub struct Shown {
 }
 
 /// How a value's line begins, if its JSON begins with these.
-fn joined(alloc: Global, pieces: &[&str]) -> Result<Vec<u8>, AllocError> {
+fn joined(alloc: Global, front: &str, name: &str, back: &str) -> Result<Vec<u8>, AllocError>
+    ensures { IfOk result (λ bytes. bytes.items
+        ≡ codes "{\"value\":" ++ (front.now ++ (name.now ++ back.now))) }
+{
     let mut bytes = Vec::new(alloc);
     bytes.extend_from_slice(VALUE)?;
-    for piece in pieces {
-        bytes.extend_from_slice(piece.as_bytes())?;
-    }
+    bytes.extend_from_slice(front.as_bytes())?;
+    bytes.extend_from_slice(name.as_bytes())?;
+    bytes.extend_from_slice(back.as_bytes())?;
     Ok(bytes)
 }
 
@@ -64,13 +69,15 @@ impl Shown {
     ///
     /// # Allocates
     /// With `only`, how its lines begin.
-    pub fn new(alloc: Global, only: Option<&str>, colour: bool) -> Result<Shown, AllocError> {
+    pub fn new(alloc: Global, only: Option<&str>, colour: bool) -> Result<Shown, AllocError>
+        ensures { IfOk result (λ s. ShowsBy s (option_map (λ name. name.now) only.entry) colour) }
+    {
         Ok(Shown {
             alloc,
             only: match only {
                 Some(name) => Some((
-                    joined(alloc, &["\"", name, "\"}"])?,
-                    joined(alloc, &["{\"", name, "\":"])?,
+                    joined(alloc, "\"", name, "\"}")?,
+                    joined(alloc, "{\"", name, "\":")?,
                 )),
                 None => None,
             },
@@ -79,7 +86,10 @@ impl Shown {
     }
 
     /// Whether a line is shown; one that isn't a value always is.
-    fn is_shown(&self, line: &[u8]) -> bool {
+    fn is_shown(&self, line: &[u8]) -> bool
+        ensures { (only : Option (List ℕ)) (colour : Bool) → ShowsBy self.now only colour
+            → result ≡ is_line_shown only line.now }
+    {
         match &self.only {
             Some((name, holds)) => {
                 !line.starts_with(VALUE) || line.starts_with(name) || line.starts_with(holds)
@@ -89,12 +99,11 @@ impl Shown {
     }
 
     /// Appends a line, if it is shown.
-    fn put_line(
-        &self,
-        line: &[u8],
-        time: Option<u64>,
-        out: &mut Vec<u8>,
-    ) -> Result<(), AllocError> {
+    fn put_line(&self, line: &[u8], time: Option<u64>, out: &mut Vec<u8>) -> Result<(), AllocError>
+        ensures { OnOk result ((only : Option (List ℕ)) (colour : Bool)
+            → ShowsBy self.now only colour
+            → out.new.items ≡ out.old.items ++ line_shown only colour time line.now) }
+    {
         if !self.is_shown(line) {
             return Ok(());
         }
@@ -102,10 +111,7 @@ impl Shown {
         if is_red {
             out.extend_from_slice(RED)?;
         }
-        match time {
-            Some(time) => put_timed(self.alloc, line, time, out)?,
-            None => out.extend_from_slice(line)?,
-        }
+        put_timed(self.alloc, line, time, out)?;
         if is_red {
             out.extend_from_slice(PLAIN)?;
         }
@@ -119,18 +125,17 @@ impl Shown {
     ///
     /// # Allocates
     /// What `out` grows by. With a `time` a text at a time is freed.
-    pub fn put(
-        &self,
-        lines: &[u8],
-        time: Option<u64>,
-        out: &mut Vec<u8>,
-    ) -> Result<(), AllocError> {
+    pub fn put(&self, lines: &[u8], time: Option<u64>, out: &mut Vec<u8>) -> Result<(), AllocError>
+        ensures { OnOk result ((only : Option (List ℕ)) (colour : Bool)
+            → ShowsBy self.now only colour
+            → PutsShown only colour time lines.now out.old.items out.new.items) }
+    {
         let mut rest = lines;
         while !rest.is_empty() {
             let (line, behind) = rest.split_at(before_sentinel(rest, b'\n'));
             self.put_line(line, time, out)?;
             let [_, left @ ..] = behind else {
-                break;
+                return Ok(());
             };
             rest = left;
         }
@@ -138,13 +143,32 @@ impl Shown {
     }
 }
 
-/// Appends an object with the time in seconds as its first member.
-fn put_timed(alloc: Global, line: &[u8], time: u64, out: &mut Vec<u8>) -> Result<(), AllocError> {
+/// An object's first member, the time in seconds.
+fn time_front(alloc: Global, time: u64) -> Result<String, AllocError>
+    ensures { IfOk result (λ text. string_bytes text ≡ front_of time) }
+{
+    let seconds = time / 1000;
+    let (tenths, hundredths) = (time / 100 % 10, time / 10 % 10);
+    let rest = time % 10;
+    format!(in alloc; "{{\"time\":{seconds}.{tenths}{hundredths}{rest},")
+}
+
+/// Appends a line; with a time as the first member of its object, in seconds.
+fn put_timed(
+    alloc: Global,
+    line: &[u8],
+    time: Option<u64>,
+    out: &mut Vec<u8>,
+) -> Result<(), AllocError>
+    ensures { OnOk result (out.new.items ≡ out.old.items ++ line_timed time line.now) }
+{
+    let Some(time) = time else {
+        return out.extend_from_slice(line);
+    };
     let [_, members @ ..] = line else {
         return Ok(());
     };
-    let (seconds, rest) = (time / 1000, time % 1000);
-    let front = format!(in alloc; "{{\"time\":{seconds}.{rest:03},")?;
+    let front = time_front(alloc, time)?;
     out.extend_from_slice(front.as_bytes())?;
     out.extend_from_slice(members)
 }

@@ -1,7 +1,8 @@
 //! The kinds of messages of a type: the variants of an enum, else the type itself.
-ghost use Rattle.std.specs.Prelude.{◌≡◌, ℕ, IfOk, string_bytes};
+ghost use Rattle.std.specs.Prelude.{◌≡◌, ◌++◌, ◌∷◌, [], ℕ, IfOk, OnOk, string_bytes};
 ghost use Rattle.std.specs.List.{All, slice_get};
-ghost use Rattle.wire_lib.specs.Kinds.{kind_in, kinds_of, type_name as name_in};
+ghost use Rattle.schema_table.specs.Telling.{node_at};
+ghost use Rattle.wire_lib.specs.Kinds.{IsTextBeside, kind_in, kinds_of, part_beside, payload_in, shortened, type_name as name_in};
 ghost use Rattle.wire_lib.specs.Tables.{row_names};
 
 use crate::receive::Reading;
@@ -17,12 +18,15 @@ pub const LONGEST: usize = 1024;
 /// The name of a kind whose type has none.
 const MESSAGE: &str = "message";
 
-/// A row for a kind of this name.
-fn row(alloc: Global, name: &str) -> Result<Row, AllocError>
-    ensures none { IfOk result (λ row. row.count ≡ 0) }
-    ensures name { IfOk result (λ row. string_bytes row.name ≡ name.now) }
+/// Appends a row for a kind of this name.
+fn push_row(alloc: Global, rows: &mut Vec<Row>, name: &str) -> Result<(), AllocError>
+    requires { All (λ row. row.count ≡ 0) rows.old.items }
+    ensures none { OnOk result (All (λ row. row.count ≡ 0) rows.new.items) }
+    ensures names { OnOk result
+        (row_names rows.new.items ≡ row_names rows.old.items ++ name.now ∷ []) }
 {
-    Ok(Row::new(String::from_str(alloc, name)?, alloc))
+    let name = String::from_str(alloc, name)?;
+    Ok(rows.push(Row::new(name, alloc))?)
 }
 
 /// Returns a row for each kind of messages of the type at index `place`: one for each variant of an enum, else one.
@@ -38,11 +42,11 @@ pub fn rows_of(alloc: Global, schema: &Schema, place: usize) -> Result<Vec<Row>,
 {
     let mut rows = Vec::new(alloc);
     let Some(Names::Variants(names)) = schema.names.get(place) else {
-        rows.push(row(alloc, type_name(schema, place))?)?;
+        push_row(alloc, &mut rows, type_name(schema, place))?;
         return Ok(rows);
     };
     for name in names {
-        rows.push(row(alloc, name.as_str())?)?;
+        push_row(alloc, &mut rows, name.as_str())?;
     }
     Ok(rows)
 }
@@ -68,7 +72,9 @@ pub fn kind_of(value: &Value) -> usize
 }
 
 /// The index of a variant's payload.
-fn payload_of(schema: &Schema, place: usize, index: u32) -> Option<usize> {
+fn payload_of(schema: &Schema, place: usize, index: u32) -> Option<usize>
+    ensures { result ≡ payload_in (node_at schema.now place) index }
+{
     match schema.nodes.get(place) {
         Some(Node::Enum(payloads)) => match payloads.get(index as usize) {
             Some(payload) => Some(*payload),
@@ -78,13 +84,28 @@ fn payload_of(schema: &Schema, place: usize, index: u32) -> Option<usize> {
     }
 }
 
+/// What stands beside a value's kind, with the index of its type: a variant's payload, else the whole value.
+fn part_of<'a>(schema: &Schema, place: usize, value: &'a Value) -> (usize, &'a Value)
+    ensures { (result.0, result.1.now) ≡ part_beside schema.now place value.now }
+{
+    match value {
+        Value::Variant(index, held) => match payload_of(schema, place, *index) {
+            Some(payload) => (payload, &**held),
+            None => (place, value),
+        },
+        _ => (place, value),
+    }
+}
+
 /// A text; of a long one its first [`LONGEST`] bytes or a few more, and `..`.
-fn short(alloc: Global, text: &str) -> Result<String, AllocError> {
+fn short(alloc: Global, text: &str) -> Result<String, AllocError>
+    ensures { IfOk result (λ kept. string_bytes kept ≡ shortened text.now) }
+{
     let mut kept = String::new(alloc);
     for character in text.chars() {
         if kept.len() >= LONGEST {
             kept.push_str("..")?;
-            break;
+            return Ok(kept);
         }
         kept.push(character)?;
     }
@@ -99,22 +120,17 @@ fn short(alloc: Global, text: &str) -> Result<String, AllocError> {
 ///
 /// # Allocates
 /// The text, of at most a few more than [`LONGEST`] bytes. The whole JSON is freed.
-pub fn text_of(reading: Reading<'_>, value: &Value) -> Result<String, AllocError> {
+pub fn text_of(reading: Reading<'_>, value: &Value) -> Result<String, AllocError>
+    ensures { IfOk result (λ text. IsTextBeside reading.entry value.now (string_bytes text)) }
+{
     let Reading {
         alloc,
         schema,
-        place,
         hex,
         depth,
         ..
     } = reading;
-    let (at, held) = match value {
-        Value::Variant(index, held) => match payload_of(schema, place, *index) {
-            Some(payload) => (payload, &**held),
-            None => (place, value),
-        },
-        _ => (place, value),
-    };
+    let (at, held) = part_of(schema, reading.place, value);
     if matches!(schema.names.get(at), Some(Names::Empty)) {
         return Ok(String::new(alloc));
     }

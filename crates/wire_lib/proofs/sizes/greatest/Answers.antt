@@ -1,4 +1,4 @@
-use Rattle.std.proofs.Common.{◌≡◌, ◌∙◌, ◌+◌, length, sym, subst, Some, arith}
+use Rattle.std.proofs.Common.{◌≡◌, ◌∙◌, ◌+◌, sym, subst, Some, arith}
 use Rattle.std.proofs.lemmas.List.{take_all}
 use Rattle.wire_lib.specs.Sizes.{variant_size}
 use Rattle.wire_lib.proofs.SizesLemmas.{variant_on, variant_within, some_same, none_within, past_is}

@@ -1,6 +1,6 @@
 use Rattle.std.proofs.Common.{◌≡◌, ◌∙◌, ◌+◌, sym, subst, Some, arith}
 use Rattle.std.proofs.lemmas.List.{take_all}
-use Rattle.wire_lib.specs.Sizes.{sum_size, known_size}
+use Rattle.wire_lib.specs.Sizes.{sum_size}
 use Rattle.wire_lib.proofs.SizesLemmas.{sum_on, sum_within, some_same, none_within, past_is}
 use Rattle.wire_lib.proofs.sizes.sum.Goals as goal
 

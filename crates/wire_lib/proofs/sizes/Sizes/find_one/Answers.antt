@@ -1,4 +1,4 @@
-use Rattle.std.proofs.Common.{◌≡◌, ◌∙◌, length, sym, ap, subst, refl, rules}
+use Rattle.std.proofs.Common.{◌∙◌, length, sym, ap, subst, rules}
 use Rattle.wire_lib.specs.Sizes.{HasSizeAt, HaveSizes}
 use Rattle.wire_lib.proofs.SizesLemmas.{one_more_has, all_have}
 use Rattle.wire_lib.proofs.sizes.Sizes.find_one.Goals as goal
