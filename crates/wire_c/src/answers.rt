@@ -1,8 +1,8 @@
 //! Results by numbers, and a text in front of the caller's room.
 ghost use Rattle.std.specs.Prelude.{◌≡◌, ◌≢◌, ◌<◌, ◌≤◌, length, take, false};
 ghost use Rattle.wire_c.specs.Flags.{is_set};
-ghost use Rattle.wire_c.specs.Texts.{IsTextOfRefusal};
-ghost use Rattle.wire_c.specs.Status.{done, no_room, refused};
+ghost use Rattle.wire_c.specs.Texts.{failure_number, failure_text};
+ghost use Rattle.wire_c.specs.Status.{done, no_room};
 
 use crate::status::{NO_MEMORY, NO_ROOM, REFUSED, WRONG};
 use crate::types::WireFailure;
@@ -69,10 +69,12 @@ pub(crate) fn said(
 
 // Why a call has no result: the lines that say so, if there are some.
 pub(crate) fn failed(failure: WireFailure, room: &mut [u8]) -> WireSaid
+    ensures length { result.length ≡ length (failure_text failure) }
+    ensures text { result.status ≢ no_room → take result.length room.new ≡ failure_text failure }
+    ensures number { result.status ≢ no_room → result.status ≡ failure_number failure }
     ensures status { result.status ≢ done }
     ensures range { result.status ≤ 4 }
     ensures outside { is_set result.inside ≡ false }
-    ensures refused { result.status ≡ refused → IsTextOfRefusal failure (take result.length room.new) }
     ensures longer { result.status ≡ no_room → length room.old < result.length }
     ensures within { result.status ≢ no_room → result.length ≤ length room.new }
     ensures too_short { result.status ≡ no_room → room.new ≡ room.old }

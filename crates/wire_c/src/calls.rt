@@ -1,9 +1,9 @@
 //! The exports.
-ghost use Rattle.std.specs.Prelude.{◌≡◌, ◌≢◌, ◌<◌, ◌≤◌, length, take, true, false};
+ghost use Rattle.std.specs.Prelude.{◌≡◌, ◌≢◌, ◌<◌, ◌≤◌, ◌⊎◌, ℕ, List, length, take, true, false};
 ghost use Rattle.wire_c.specs.Flags.{is_set};
 ghost use Rattle.wire_c.specs.Streams.{ReadsStream, IsDoneWith};
-ghost use Rattle.wire_c.specs.Texts.{WritesFrames, RefusesLines};
-ghost use Rattle.wire_c.specs.Status.{done, no_room, refused};
+ghost use Rattle.wire_c.specs.Texts.{IsWhyWrong, RefusesLines, WritesFrames};
+ghost use Rattle.wire_c.specs.Status.{done, no_room, refused, wrong};
 
 use crate::answers::{WireSaid, failed, said};
 use crate::reading::read;
@@ -35,7 +35,12 @@ pub extern "C" fn wire_c_read(
         (is_set result.inside) }
     ensures all { result.status ≡ done → is_set terms.now.ends ≡ true
         → (result.used ≡ length stream.now) × (is_set result.inside ≡ false) }
+    ensures wrong { result.status ≡ wrong
+        → IsWhyWrong declarations.now type_words.now (take result.length room.new) }
     ensures unrefused { result.status ≢ refused }
+    ensures length { result.status ≡ no_room
+        → (text : List ℕ) × (length text ≡ result.length) × (ReadsStream terms.now stream.now text
+        ⊎ IsWhyWrong declarations.now type_words.now text) }
     ensures longer { result.status ≡ no_room → length room.old < result.length }
     ensures within { result.status ≢ no_room → result.length ≤ length room.new }
     ensures too_short { result.status ≡ no_room → room.new ≡ room.old }
@@ -76,6 +81,12 @@ pub extern "C" fn wire_c_write(
         → WritesFrames terms.now lines.now (take result.length room.new) }
     ensures refused { result.status ≡ refused
         → RefusesLines terms.now lines.now (take result.length room.new) }
+    ensures wrong { result.status ≡ wrong
+        → IsWhyWrong declarations.now type_words.now (take result.length room.new) }
+    ensures length { result.status ≡ no_room
+        → (text : List ℕ) × (length text ≡ result.length) × (WritesFrames terms.now lines.now text
+        ⊎ (RefusesLines terms.now lines.now text
+        ⊎ IsWhyWrong declarations.now type_words.now text)) }
     ensures longer { result.status ≡ no_room → length room.old < result.length }
     ensures within { result.status ≢ no_room → result.length ≤ length room.new }
     ensures too_short { result.status ≡ no_room → room.new ≡ room.old }

@@ -2,7 +2,7 @@
 ghost use Rattle.std.specs.Prelude.{◌≡◌, ◌≤◌, true, false, length, IfOk, IfErr};
 ghost use Rattle.wire_c.specs.Flags.{is_set};
 ghost use Rattle.wire_c.specs.Streams.{skipped_in, IsThroughLast, IsDoneWith, TellsStream, ReadsStream};
-ghost use Rattle.wire_c.specs.Texts.{IsUnrefused};
+ghost use Rattle.wire_c.specs.Texts.{IsOfDeclarations, IsUnrefused};
 
 use crate::terms::{Told, WireTerms, is_flag};
 use crate::types::{TypeAt, WireFailure, read_type_of};
@@ -118,6 +118,8 @@ pub fn read(told: Told<'_>, stream: &[u8]) -> Result<ReadLines, WireFailure>
     ensures all { IfOk result (λ it. is_set told.entry.terms.ends ≡ true
         → (it.used ≡ length stream.now) × (it.is_inside ≡ false)) }
     ensures unrefused { IfErr result IsUnrefused }
+    ensures wrong { IfErr result
+        (IsOfDeclarations told.entry.declarations.now told.entry.type_words.now) }
 {
     let WireTerms {
         sentinel,

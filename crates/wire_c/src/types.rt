@@ -1,7 +1,7 @@
 //! From declarations to the type of the messages.
-ghost use Rattle.std.specs.Prelude.{◌≡◌, IfOk, IfErr, if◌then◌else◌};
+ghost use Rattle.std.specs.Prelude.{◌≡◌, ◌++◌, codes, IfOk, IfErr, if◌then◌else◌};
 ghost use Rattle.wire_c.specs.Flags.{is_set};
-ghost use Rattle.wire_c.specs.Texts.{IsUnrefused};
+ghost use Rattle.wire_c.specs.Texts.{IsOfDeclarations, IsUnrefused, SaysNoText};
 
 use crate::terms::{Told, is_flag};
 use declarations::{Error, Schema, Source, read_type};
@@ -35,7 +35,8 @@ pub(crate) struct TypeAt {
 
 // That a text isn't UTF-8.
 fn not_text(alloc: Global, what: &str) -> WireFailure
-    ensures { IsUnrefused result }
+    ensures unrefused { IsUnrefused result }
+    ensures says { SaysNoText what.now result }
 {
     match format!(in alloc; "{what} isn't UTF-8\n") {
         Ok(lines) => WireFailure::Wrong(lines),
@@ -45,7 +46,9 @@ fn not_text(alloc: Global, what: &str) -> WireFailure
 
 // The table of a type, and its place there.
 fn read_words(told: Told<'_>) -> Result<(Schema, usize), WireFailure>
-    ensures { IfErr result IsUnrefused }
+    ensures unrefused { IfErr result IsUnrefused }
+    ensures wrong { IfErr result
+        (IsOfDeclarations told.entry.declarations.now told.entry.type_words.now) }
 {
     let alloc = told.alloc;
     let Ok(text) = str::from_utf8(told.declarations) else {
@@ -72,6 +75,8 @@ fn read_words(told: Told<'_>) -> Result<(Schema, usize), WireFailure>
 pub(crate) fn written_type(told: Told<'_>) -> Result<TypeAt, WireFailure>
     ensures depth { IfOk result (λ it. it.depth ≡ 60) }
     ensures unrefused { IfErr result IsUnrefused }
+    ensures wrong { IfErr result
+        (IsOfDeclarations told.entry.declarations.now told.entry.type_words.now) }
 {
     let (mut schema, place) = match read_words(told) {
         Ok(it) => it,
@@ -92,6 +97,8 @@ pub(crate) fn read_type_of(told: Told<'_>) -> Result<TypeAt, WireFailure>
     ensures depth { IfOk result
         (λ it. it.depth ≡ (if is_set told.entry.terms.crc32 then 61 else 60)) }
     ensures unrefused { IfErr result IsUnrefused }
+    ensures wrong { IfErr result
+        (IsOfDeclarations told.entry.declarations.now told.entry.type_words.now) }
 {
     let TypeAt {
         mut schema,

@@ -1,6 +1,6 @@
 //! Lines of JSON as frames.
 ghost use Rattle.std.specs.Prelude.{◌≡◌, string_bytes, IfOk, IfErr};
-ghost use Rattle.wire_c.specs.Texts.{MakesFrames, WritesFrames, IsOfLines};
+ghost use Rattle.wire_c.specs.Texts.{IsOfDeclarations, IsOfLines, MakesFrames, WritesFrames};
 
 use crate::terms::{Told, is_flag};
 use crate::types::{TypeAt, WireFailure, written_type};
@@ -73,6 +73,8 @@ fn made_of(sending: Sending<'_>, lines: &[u8]) -> Result<Made, AllocError>
 pub fn write(told: Told<'_>, lines: &[u8]) -> Result<Vec<u8>, WireFailure>
     ensures frames { IfOk result (λ frames. WritesFrames told.entry.terms lines.now frames.items) }
     ensures refused { IfErr result (IsOfLines told.entry.terms lines.now) }
+    ensures wrong { IfErr result
+        (IsOfDeclarations told.entry.declarations.now told.entry.type_words.now) }
 {
     let TypeAt {
         schema,
