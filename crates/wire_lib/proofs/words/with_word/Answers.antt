@@ -1,4 +1,4 @@
-use Rattle.std.proofs.Common.{codes}
+use Rattle.std.proofs.Common.{codes, inl, inr}
 use Rattle.wire_lib.proofs.ArgumentsLemmas.{by_word, sets_hex, sets_strict, sets_raw, sets_summed, sets_time}
 use Rattle.wire_lib.proofs.words.with_word.Goals.{in-hex, in-strict, in-raw, in-crc32, in-time}
 use Rattle.wire_lib.proofs.words.with_word.Goals as goal
@@ -14,3 +14,12 @@ returns-clause-sets c =
       | in-crc32 w ↦ by_word word (codes "crc32") o _ _ w.in-crc32.is w.options-is (sets_summed o)
       | in-time w ↦ by_word word (codes "time") o _ _ w.in-time.is w.options-is (sets_time o)
     ]
+
+pub returns-clause-valid : goal.returns-clause-valid
+returns-clause-valid c = elim c.match-word.branch [
+  | in-hex w ↦ inl (inl w.in-hex.is)
+  | in-strict w ↦ inl (inr (inl w.in-strict.is))
+  | in-raw w ↦ inl (inr (inr (inl w.in-raw.is)))
+  | in-crc32 w ↦ inl (inr (inr (inr (inl w.in-crc32.is))))
+  | in-time w ↦ inl (inr (inr (inr (inr (inl w.in-time.is)))))
+]
