@@ -1,8 +1,13 @@
 -- What is kept of a long text.
-use Rattle.std.proofs.Common.{◌≡◌, ◌∙◌, ◌==◌, ℕ, Bool, true, false, cond, ◌+◌, ◌-◌, ◌<◌, ◌≤◌, List, ◌∷◌, ◌++◌, length, refl, sym, ap, codes, IsUtf8, chars, encode_utf8, append_assoc, append-nil, arith}
+use Rattle.std.proofs.Common.{◌≡◌, ◌∙◌, ◌==◌, ℕ, Bool, true, false, cond, ◌+◌, ◌-◌, ◌<◌, ◌≤◌, List, [], ◌∷◌, ◌++◌, length, refl, sym, ap, subst, codes, IsUtf8, chars, encode_utf8, append_assoc, append-nil, arith}
 use Rattle.std.proofs.lemmas.List.{nil_from_length}
 use Rattle.std.proofs.lemmas.Str.{IsUtf8-past_char, chars_past_char, chars-nil}
-use Rattle.wire_lib.specs.Kinds.{shortened_to}
+use Rattle.schema_table.specs.Looks.{is_empty_named}
+use Rattle.schema_table.specs.Printed.{Prints}
+use Rattle.schema_table.specs.Telling.{names_at}
+use Rattle.schema_table.specs.declared.value.Value.{Value}
+use Rattle.wire_lib.specs.declared.receive.Reading.{Reading}
+use Rattle.wire_lib.specs.Kinds.{IsTextBeside, IsTextOfPart, part_beside, shortened, shortened_to}
 
 one_more : (left c : ℕ) (cs : List ℕ) → 0 < left
     → shortened_to left (c ∷ cs) ≡ encode_utf8 c ++ shortened_to (left - length (encode_utf8 c)) cs
@@ -39,3 +44,18 @@ short_cut old s t whole c n l u p w =
 pub short_end : (old s whole : List ℕ) (n : ℕ) → length s ≡ 0 → old ++ shortened_to n (chars s) ≡ whole → old ≡ whole
 short_end old s whole n e w =
     sym (append-nil old) ∙ ap (λ x. old ++ x) (sym (ap (shortened_to n) (ap chars (nil_from_length s e) ∙ chars-nil))) ∙ w
+
+-- the text of a part of a value whose type has fields
+pub text_beside : (r : Reading) (v : Value) (part : ℕ × Value) (text json : List ℕ) → part ≡ part_beside r.schema.now r.place v
+    → is_empty_named (names_at r.schema.now part.0) ≡ false → Prints r.hex r.schema.now r.depth part.0 part.1 json
+    → text ≡ shortened json → IsTextBeside r v text
+text_beside r v part text json e some prints is =
+    subst (λ p. IsTextOfPart (is_empty_named (names_at r.schema.now p.0)) r p text) e
+    (subst (λ b. IsTextOfPart b r part text) (sym some) (json, prints, is))
+
+-- and of one whose type has none
+pub fieldless : (r : Reading) (v : Value) (part : ℕ × Value) (text : List ℕ) → part ≡ part_beside r.schema.now r.place v
+    → is_empty_named (names_at r.schema.now part.0) ≡ true → text ≡ [] → IsTextBeside r v text
+fieldless r v part text e none is =
+    subst (λ p. IsTextOfPart (is_empty_named (names_at r.schema.now p.0)) r p text) e
+    (subst (λ b. IsTextOfPart b r part text) (sym none) is)

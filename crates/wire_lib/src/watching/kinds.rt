@@ -1,7 +1,8 @@
 //! The kinds of messages of a type: the variants of an enum, else the type itself.
 ghost use Rattle.std.specs.Prelude.{◌≡◌, ◌++◌, ◌∷◌, [], ℕ, IfOk, OnOk, string_bytes};
 ghost use Rattle.std.specs.List.{All, slice_get};
-ghost use Rattle.schema_table.specs.Telling.{node_at};
+ghost use Rattle.schema_table.specs.Looks.{is_empty_named};
+ghost use Rattle.schema_table.specs.Telling.{names_at, node_at};
 ghost use Rattle.wire_lib.specs.Kinds.{IsTextBeside, kind_in, kinds_of, part_beside, payload_in, shortened, type_name as name_in};
 ghost use Rattle.wire_lib.specs.Tables.{row_names};
 
@@ -97,6 +98,13 @@ fn part_of<'a>(schema: &Schema, place: usize, value: &'a Value) -> (usize, &'a V
     }
 }
 
+/// Whether the type at that index has no fields.
+fn is_fieldless(schema: &Schema, place: usize) -> bool
+    ensures { result ≡ is_empty_named (names_at schema.now place) }
+{
+    matches!(schema.names.get(place), Some(Names::Empty))
+}
+
 /// A text; of a long one its first [`LONGEST`] bytes or a few more, and `..`.
 fn short(alloc: Global, text: &str) -> Result<String, AllocError>
     ensures { IfOk result (λ kept. string_bytes kept ≡ shortened text.now) }
@@ -131,7 +139,7 @@ pub fn text_of(reading: Reading<'_>, value: &Value) -> Result<String, AllocError
         ..
     } = reading;
     let (at, held) = part_of(schema, reading.place, value);
-    if matches!(schema.names.get(at), Some(Names::Empty)) {
+    if is_fieldless(schema, at) {
         return Ok(String::new(alloc));
     }
     let bytes = print(alloc, schema, at, Look { hex, depth }, held)?;
