@@ -45,15 +45,24 @@ pub fn refusal(why: &'static str) -> ParseError {
     ParseError::Wrong(Wrong { path: None, why })
 }
 
-/// Appends a name; a line feed, a carriage return and a tab as Rust escapes them.
-fn push_name(path: &mut String, name: &str) -> Result<(), AllocError> {
-    for character in name.chars() {
-        match character {
-            '\n' => path.push_str("\\n")?,
-            '\r' => path.push_str("\\r")?,
-            '\t' => path.push_str("\\t")?,
-            _ => path.push(character)?,
+/// Appends a character of a name; one that controls a terminal as JSON escapes it.
+fn push_character(alloc: Global, path: &mut String, character: char) -> Result<(), AllocError> {
+    match character {
+        '\n' => path.push_str("\\n"),
+        '\r' => path.push_str("\\r"),
+        '\t' => path.push_str("\\t"),
+        '\u{0}'..='\u{1f}' | '\u{7f}'..='\u{9f}' => {
+            let code = u32::from(character);
+            path.push_str(format!(in alloc; "\\u{code:04x}")?.as_str())
         }
+        _ => path.push(character),
+    }
+}
+
+/// Appends a name.
+fn push_name(alloc: Global, path: &mut String, name: &str) -> Result<(), AllocError> {
+    for character in name.chars() {
+        push_character(alloc, path, character)?;
     }
     Ok(())
 }
@@ -61,7 +70,7 @@ fn push_name(path: &mut String, name: &str) -> Result<(), AllocError> {
 /// The path inside a part of this name.
 fn joined(alloc: Global, name: &str, path: &Option<String>) -> Result<String, AllocError> {
     let mut whole = String::new(alloc);
-    push_name(&mut whole, name)?;
+    push_name(alloc, &mut whole, name)?;
     if let Some(path) = path {
         if !path.starts_with('[') {
             whole.push('.')?;
