@@ -35,9 +35,13 @@ pub struct TableReader<'a> {
 }
 
 impl TableReader<'_> {
-    /// Sets `is_deep` if a message that was refused is a value that nests deeper.
+    /// Sets `is_deep` if a message that was refused is a value that nests deeper, with its checksum if there is one.
     pub(crate) fn note_depth(&self, alloc: Global, message: &[u8]) {
-        if from_bytes(alloc, self.nodes, self.place, DEEPEST, message).is_ok() {
+        // a value and its checksum are in a struct
+        let deepest = DEEPEST + u32::from(self.summed);
+        if let Ok(value) = from_bytes(alloc, self.nodes, self.place, deepest, message)
+            && kept(alloc, self.summed, value).is_ok()
+        {
             self.is_deep.set(true);
         }
     }
