@@ -75,6 +75,8 @@ pub struct Scopes<'a> {
     members: BTreeSet<(Name, usize)>,
     /// From which scope a `*` leads to which others, also by those of others; and from each to itself.
     ways: BTreeSet<(usize, usize)>,
+    /// The modules that begin with a condition.
+    at_times: BTreeSet<usize>,
     /// The rules of macros, whose names are their third words, and calls that may declare something.
     rules: Vec<items::Item>,
     calls: Vec<items::Item>,
@@ -102,6 +104,7 @@ impl<'a> Scopes<'a> {
             marked: BTreeMap::new(alloc),
             members: BTreeSet::new(alloc),
             ways: BTreeSet::new(alloc),
+            at_times: BTreeSet::new(alloc),
             rules: Vec::new(alloc),
             calls: Vec::new(alloc),
             endpoints: Vec::new(alloc),

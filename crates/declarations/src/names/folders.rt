@@ -34,9 +34,10 @@ fn without_last<'f>(folder: &'f str, name: &str) -> Option<&'f str> {
     if last == name { Some(before) } else { None }
 }
 
-/// Whether each file of a folder of this name is the root of a crate.
-fn has_roots(folder: &str) -> bool {
-    is_listed(split_last(folder).1, "bin examples tests benches")
+/// Whether a file is the root of a crate by its name, or by its folder's.
+fn is_named_as_root(file: &str) -> bool {
+    let (folder, stem) = parts_of(file);
+    is_listed(stem, ROOTS) || is_listed(split_last(folder).1, "bin examples tests benches")
 }
 
 /// Whether a folder is the `src` of a crate, or in it. Above a whole path it may have any name.
@@ -65,6 +66,23 @@ pub fn module_of_file(file: &str) -> &str {
 }
 
 impl<'a> Scopes<'a> {
+    /// Whether a file is the root of a crate: one so named, unless it is in a folder of another's `src` that isn't `bin`.
+    fn is_root(&self, file: usize) -> bool {
+        let name = self.tokens.name_of_file(file);
+        for other in 0..self.tokens.files.len() {
+            let (folder, stem) = parts_of(self.tokens.name_of_file(other));
+            if is_listed(stem, ROOTS)
+                && split_last(folder).1 == "src"
+                && let Some(rest) = name.strip_prefix(folder)
+                && split_last(rest).0.starts_with('/')
+                && !rest.starts_with("/bin/")
+            {
+                return false;
+            }
+        }
+        is_named_as_root(name)
+    }
+
     /// Whether the files of a module's modules are in this folder.
     fn is_folder_of(&self, module: usize, folder: &str) -> bool {
         let mut it = self.scope(module);
@@ -72,7 +90,7 @@ impl<'a> Scopes<'a> {
         for _ in 0..self.scopes.len() {
             if it.kind == Kind::File {
                 let (own, stem) = parts_of(self.tokens.name_of_file(it.file));
-                let has_own = is_listed(stem, "lib main mod") || has_roots(own);
+                let has_own = stem == "mod" || self.is_root(it.file);
                 // one that a `#[path]` names has them beside it
                 let is_named = without_last(left, stem) == Some(own) && !self.is_elsewhere(it.file);
                 return left == own && has_own || is_named;
@@ -117,7 +135,8 @@ impl<'a> Scopes<'a> {
         let is_of_language = is_listed(self.tokens.text(name), "alloc core std");
         for file in 0..self.tokens.files.len() {
             let (_, stem) = parts_of(self.tokens.name_of_file(file));
-            if self.scope(file).name == name && stem == "lib" && !is_of_language {
+            let is_library = stem == "lib" && self.is_root(file);
+            if self.scope(file).name == name && is_library && !is_of_language {
                 found = found.both(Meaning::Module(file));
             }
         }
@@ -127,14 +146,23 @@ impl<'a> Scopes<'a> {
         for it in &self.imports {
             if it.is_crate && it.name == name {
                 let is_ours = self.root_of(scope) == Meaning::Module(it.scope);
+                let is_sure = is_ours && !it.is_conditional;
                 // elsewhere it may be another crate
-                if found.is_nothing() && it.lead.before.is_one() && !is_ours {
+                if found.is_nothing() && it.lead.before.is_one() && !is_sure {
                     found = Meaning::Outside;
                 }
                 found = found.both(it.lead.before);
             }
         }
         found
+    }
+
+    /// Whether a module may be where `crate` or `super` leads from a scope: its folder is round the scope's file.
+    pub(super) fn is_around(&self, module: usize, scope: usize) -> bool {
+        let (folder, _) = module_at(self.tokens.name_of_file(self.scope(module).file));
+        self.tokens
+            .name_of_file(self.scope(scope).file)
+            .starts_with(folder)
     }
 
     /// Whether two scopes are in the `src` of different folders.
@@ -198,10 +226,9 @@ impl<'a> Scopes<'a> {
         let own = self.scope(scope).file;
         let mut file = if count == 1 { 0 } else { own };
         for _ in 0..count {
-            let (folder, stem) = parts_of(self.tokens.name_of_file(file));
+            let (folder, _) = parts_of(self.tokens.name_of_file(file));
             let is_alone = count == 1 && !is_in_src(folder);
-            let may_be_root = is_listed(stem, ROOTS) || has_roots(folder) || is_alone;
-            match (may_be_root, self.parent_of(file)) {
+            match (self.is_root(file) || is_alone, self.parent_of(file)) {
                 (true, Meaning::Nothing) if file < count => return Meaning::Module(file),
                 (false, Meaning::Module(module)) if file < count => file = self.scope(module).file,
                 _ => break,

@@ -131,7 +131,8 @@ impl<'a> Scopes<'a> {
             });
             is_conditional = is_conditional || it.kind == Kind::Conditional;
         }
-        (found, is_conditional)
+        let is_at_times = matches!(found, Meaning::Module(it) if self.at_times.contains(&it));
+        (found, is_conditional || is_at_times)
     }
 
     /// What a scope declares or brings in under a name.
@@ -143,7 +144,8 @@ impl<'a> Scopes<'a> {
         for it in &self.imports {
             if it.scope == scope && it.name == name {
                 found = found.both(it.meaning(space));
-                is_conditional = is_conditional || (it.is_conditional && !it.is_crate);
+                let is_same = it.is_crate && it.name == it.last;
+                is_conditional = is_conditional || (it.is_conditional && !is_same);
             }
         }
         if is_conditional {
@@ -155,7 +157,8 @@ impl<'a> Scopes<'a> {
     /// The same where the name is used alone: a macro may make it there, and a `use` mayn't rename it.
     fn own_or_made(&self, scope: usize, name: Name, space: Space) -> Meaning {
         match self.own(scope, name, space) {
-            found if space.is_way() => found,
+            // of a module each macro that may make one is as a `*`
+            found if space.is_way() && !(found.is_nothing() && self.is_inner(scope)) => found,
             Meaning::Outside if self.is_renamed(scope, name) => Meaning::Wrong(RENAMED),
             Meaning::Nothing
                 if !is_everywhere(self.tokens.text(name)) && self.is_handed(scope, name) =>
@@ -405,8 +408,9 @@ impl<'a> Scopes<'a> {
             (Meaning::Nothing, Only::Nothing) => Meaning::Lost,
             (Meaning::Nothing, _) => Meaning::Item(self.scopes.len()),
             (Meaning::Module(_), _) if self.is_passed_on(name) => Meaning::Doubtful,
-            (Meaning::Module(_), _) if is_start(before) => found,
-            (Meaning::Module(it), _) if matches!(self.around_module(it), Meaning::Lost) => found,
+            (Meaning::Module(it), _) if is_start(before) && self.is_around(it, scope) => found,
+            (Meaning::Module(it), _)
+                if !is_start(before) && matches!(self.around_module(it), Meaning::Lost) => found,
             _ => Meaning::Doubtful,
         }
     }

@@ -31,16 +31,19 @@ fn start_of(tokens: &Tokens, place: usize) -> usize {
     start
 }
 
-/// Whether words may make any name: one of others, as `struct [<$a $b>]` does in `paste!`, or a module. And whether they are
-/// rules of a macro that declare a type by the first name that they are handed.
+/// Whether words may make any name: one of others, as `struct [<$a $b>]` does in `paste!`, a module, or what a `use` of names that
+/// they are handed brings in. And whether they are rules of a macro that declare a type by the first name that they are handed.
 fn made_by(tokens: &Tokens, words: Words) -> (bool, bool) {
     let (mut is_open, mut is_maker, mut handed) = (false, false, NO_NAME);
+    let mut is_import = false;
     let mut rest = words;
     for _ in 0..words.len() {
         let behind = rest.behind_first();
         let name = tokens.name_at(behind.behind_first());
         match (tokens.front(rest), tokens.front(behind)) {
             (Word::Module, _) | (Word::Bracket, Word::Less) => is_open = true,
+            (Word::Import | Word::Semicolon, _) => is_import = tokens.front(rest) == Word::Import,
+            (Word::Dollar, next) if is_import && next != Word::Crate => is_open = true,
             (Word::Dollar, _) if handed == NO_NAME => handed = tokens.name_at(behind),
             (Word::Struct | Word::Enum | Word::Union | Word::Alias, Word::Dollar) => is_maker =
                 is_maker || (name != NO_NAME && (handed == NO_NAME || handed == name)),
@@ -95,6 +98,11 @@ impl<'a> Scopes<'a> {
                 return self.read_made(scope, is_conditional, item.inside, false);
             }
             ItemKind::Call if !is_in_impl => return self.read_call(item),
+            // as `#![cfg(..)]`
+            ItemKind::Hidden if tokens.front(item.inside) == Word::Condition => {
+                self.failed = self.at_times.insert(scope).is_err() || self.failed;
+                return;
+            }
             _ => return,
         };
         self.add(scope, is_conditional, item.words, what);
@@ -142,12 +150,14 @@ impl<'a> Scopes<'a> {
         }
     }
 
-    /// Whether one of these words is a path with the last name of a file.
+    /// Whether one of these words is a path with the last name of a file, or its end as in `concat!("types", ".rs")`.
     fn has_file_name(&self, words: Words, file: usize) -> bool {
         let (_, name) = split_last(self.tokens.name_of_file(file));
         for place in words.from..words.to {
             let text = self.tokens.text(self.tokens.at(place).name);
-            if !name.is_empty() && split_last(text.trim_matches('"')).1 == name {
+            let (_, last) = split_last(text.trim_matches('"'));
+            let may_be_end = last.ends_with(".rs") && name.ends_with(last);
+            if !name.is_empty() && (may_be_end || last == name) {
                 return true;
             }
         }

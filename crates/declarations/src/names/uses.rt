@@ -3,7 +3,7 @@ use super::meaning::Meaning;
 use super::{Import, NO_NAME, Name, Path, Scopes, Words};
 use crate::known::is_known_crate;
 use declaration_parser::derives::{has_own, has_serdes};
-use declaration_parser::tokens::{DESERIALIZE, SERIALIZE, Word, is_start, word_of};
+use declaration_parser::tokens::{DESERIALIZE, SERIALIZE, Word, word_of};
 
 /// What stands for the names of a file that isn't read: no text has this name.
 const INCLUDED: Name = Name::MAX;
@@ -80,7 +80,7 @@ impl<'a> Scopes<'a> {
         if it.name == NO_NAME {
             return has_own(self.tokens.text(root));
         }
-        if !matches!(it.name, SERIALIZE | DESERIALIZE) || !it.leads_out() || is_start(root) {
+        if !matches!(it.name, SERIALIZE | DESERIALIZE) || !it.leads_out() {
             return false;
         }
         let krate = self.crate_by(self.module_of(it.scope), root);

@@ -83,6 +83,10 @@ impl<'a> Scopes<'a> {
             lead.of_type = Meaning::Outside;
             lead.constant = Meaning::Outside;
         }
+        // one of the two may not be visible
+        if lead.of_type.is_one() && lead.constant.is_one() {
+            (lead.of_type, lead.constant) = (Meaning::Doubtful, Meaning::Doubtful);
+        }
         if is_late && lead != old.lead {
             lead = Lead::same(Meaning::Doubtful);
         }
