@@ -14,7 +14,8 @@ use declaration_parser::declaration::{Body, Declaration, Field, Fields, Form, La
 use declaration_parser::derives::OF_OTHER_CRATE;
 use declaration_parser::tokens::{DESERIALIZE, NO_NAME, Name, SERIALIZE, Tokens, Words};
 use schema_table::Node;
-use std::alloc::Global;
+use std::alloc::{AllocError, Global};
+use std::collections::BTreeSet;
 use std::slice;
 
 /// How deep the words of one type may nest, as `Vec<Option<u8>>` nests three deep.
@@ -56,8 +57,6 @@ pub struct Builder<'a> {
     asked: usize,
     /// The declared types that the table has, in the order in which they were met; each is made in its turn.
     made: Vec<Made>,
-    /// Those that are refused by their own words, which is said once.
-    refused: Vec<usize>,
     /// The words of a type that aren't read yet, where they are, and what is wrong in those that are read.
     at: Context,
     words: Cursor<'a>,
@@ -98,6 +97,17 @@ fn find_unreadable(nodes: &[Node], readable: &mut [bool]) -> bool {
     found
 }
 
+/// The lines of a text, but none twice, as a type with parameters has them that is made again.
+fn each_once(alloc: Global, text: &str) -> Result<String, AllocError> {
+    let (mut lines, mut once) = (BTreeSet::new(alloc), String::new(alloc));
+    for line in text.split_inclusive('\n') {
+        if lines.insert(line)? {
+            once.push_str(line)?;
+        }
+    }
+    Ok(once)
+}
+
 /// What a path begins with that names a layout: each has to lead out of the files.
 fn roots_of(layout: Layout) -> &'static str {
     match layout {
@@ -125,7 +135,6 @@ impl<'a> Builder<'a> {
             names,
             asked,
             made: Vec::new(alloc),
-            refused: Vec::new(alloc),
             at: Context { scope: asked, own },
             words: Cursor::new(alloc, tokens, 0, Words::default()),
             left: 0,
@@ -210,7 +219,7 @@ impl<'a> Builder<'a> {
         self.words.faults.put(faults);
         for (index, it) in self.all.iter().enumerate() {
             if self.has_parameters(it) {
-                self.is_refused(index, it);
+                self.is_refused(it);
                 continue;
             }
             self.instance(index, DEEPEST);
@@ -221,14 +230,10 @@ impl<'a> Builder<'a> {
         0
     }
 
-    /// Whether a declaration is refused by its own words, of which it says once what is wrong.
-    fn is_refused(&mut self, index: usize, it: &Declaration) -> bool {
-        let is_refused = !it.wrong.is_empty();
-        if is_refused && !self.refused.contains(&index) {
-            self.words.push(&mut self.refused, index);
-            self.words.faults.put(it.wrong.as_str());
-        }
-        is_refused
+    /// Whether a declaration is refused by its own words, of which it says what is wrong.
+    fn is_refused(&mut self, it: &Declaration) -> bool {
+        self.words.faults.put(it.wrong.as_str());
+        !it.wrong.is_empty()
     }
 
     /// Makes a declared type at its place, unless it can't be read.
@@ -236,7 +241,7 @@ impl<'a> Builder<'a> {
         let Some(it) = self.all.get(index) else {
             return;
         };
-        if self.is_refused(index, it) {
+        if self.is_refused(it) {
             return;
         }
         let stand = self.names.stand(index);
@@ -363,7 +368,7 @@ impl<'a> Builder<'a> {
     {
         let mut builder = self;
         builder.make_owed();
-        let wrong = builder.words.faults.finished()?;
+        let wrong = each_once(builder.alloc, builder.words.faults.finished()?.as_str())?;
         let schema = builder.schema;
         let count = schema.nodes.len();
         // Each has a node and names, unless memory ran out.

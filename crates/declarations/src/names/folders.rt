@@ -34,18 +34,6 @@ fn without_last<'f>(folder: &'f str, name: &str) -> Option<&'f str> {
     if last == name { Some(before) } else { None }
 }
 
-/// Whether a file is the root of a crate by its name, or by its folder's.
-fn is_named_as_root(file: &str) -> bool {
-    let (folder, stem) = parts_of(file);
-    is_listed(stem, ROOTS) || is_listed(split_last(folder).1, "bin examples tests benches")
-}
-
-/// Whether a folder is the `src` of a crate, or in it. Above a whole path it may have any name.
-fn is_in_src(folder: &str) -> bool {
-    let is_below = folder.starts_with("src/") || folder.contains("/src/");
-    split_last(folder).1 == "src" || (is_below && !folder.starts_with('/'))
-}
-
 /// The folder of the crate in whose `src` a file is; nothing if it is in none.
 fn crate_folder(file: &str) -> Option<&str> {
     let (folder, _) = parts_of(file);
@@ -66,7 +54,7 @@ pub fn module_of_file(file: &str) -> &str {
 }
 
 impl<'a> Scopes<'a> {
-    /// Whether a file is the root of a crate: one so named, unless it is in a folder of another's `src` that isn't `bin`.
+    /// Whether a file is the root of a crate by its name or its folder's, unless it is in a folder of another's `src` but `bin`.
     fn is_root(&self, file: usize) -> bool {
         let name = self.tokens.name_of_file(file);
         for other in 0..self.tokens.files.len() {
@@ -80,7 +68,8 @@ impl<'a> Scopes<'a> {
                 return false;
             }
         }
-        is_named_as_root(name)
+        let (folder, stem) = parts_of(name);
+        is_listed(stem, ROOTS) || is_listed(split_last(folder).1, "bin examples tests benches")
     }
 
     /// Whether the files of a module's modules are in this folder.
@@ -226,8 +215,7 @@ impl<'a> Scopes<'a> {
         let own = self.scope(scope).file;
         let mut file = if count == 1 { 0 } else { own };
         for _ in 0..count {
-            let (folder, _) = parts_of(self.tokens.name_of_file(file));
-            let is_alone = count == 1 && !is_in_src(folder);
+            let is_alone = count == 1 && crate_folder(self.tokens.name_of_file(file)).is_none();
             match (self.is_root(file) || is_alone, self.parent_of(file)) {
                 (true, Meaning::Nothing) if file < count => return Meaning::Module(file),
                 (false, Meaning::Module(module)) if file < count => file = self.scope(module).file,

@@ -232,7 +232,9 @@ impl<'a> Scopes<'a> {
         let text = tokens.text(name);
         // which declare no type and no length, unless they are these files' own
         let is_check = text.starts_with("assert_") || text.starts_with("const_assert");
+        let is_given = self.is_given(name);
         if (is_check || is_listed(text, "compile_error global_asm lazy_static thread_local"))
+            && !is_given
             && !self.has_rules(name)
         {
             return;
@@ -243,7 +245,6 @@ impl<'a> Scopes<'a> {
         let is_near = (is_alone || is_own) && !self.is_imported(item.scope, name, is_alone);
         let mut is_foreign = !self.is_inner(item.scope) && !is_listed(text, OF_HANDED);
         let (mut is_open, _) = made_by(tokens, item.inside);
-        let is_given = self.is_given(name);
         for place in 0..self.rules.len() {
             if let Some(rules) = self.rules.get(place).copied()
                 && is_near
