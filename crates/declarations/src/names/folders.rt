@@ -55,7 +55,7 @@ pub fn module_of_file(file: &str) -> &str {
 
 impl<'a> Scopes<'a> {
     /// Whether a file is the root of a crate by its name or its folder's, unless it is in a folder of another's `src` but `bin`.
-    fn is_root(&self, file: usize) -> bool {
+    pub(super) fn is_root(&self, file: usize) -> bool {
         let name = self.tokens.name_of_file(file);
         for other in 0..self.tokens.files.len() {
             let (folder, stem) = parts_of(self.tokens.name_of_file(other));

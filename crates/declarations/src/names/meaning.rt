@@ -1,7 +1,7 @@
 //! What a name may mean: everything that Rust could take it for. It is taken only if that is one thing.
 use super::candidates::{Only, Space, Step, is_within};
 use super::{Import, Kind, NO_NAME, Name, Path, Scopes};
-use crate::known::{is_everywhere, is_known, sent_as};
+use crate::known::{is_everywhere, is_known, is_known_crate, sent_as};
 use declaration_parser::tokens::{Word, is_start, word_of};
 
 // What is said after a name that isn't taken.
@@ -158,7 +158,11 @@ impl<'a> Scopes<'a> {
     fn own_or_made(&self, scope: usize, name: Name, space: Space) -> Meaning {
         match self.own(scope, name, space) {
             // of a module each macro that may make one is as a `*`
-            found if space.is_way() && !(found.is_nothing() && self.is_inner(scope)) => found,
+            found
+                if space.is_way()
+                    && (!found.is_nothing()
+                        || !self.is_inner(scope)
+                        || is_known_crate(self.tokens.text(name))) => found,
             Meaning::Outside if self.is_renamed(scope, name) => Meaning::Wrong(RENAMED),
             Meaning::Nothing
                 if !is_everywhere(self.tokens.text(name)) && self.is_handed(scope, name) =>
@@ -408,9 +412,12 @@ impl<'a> Scopes<'a> {
             (Meaning::Nothing, Only::Nothing) => Meaning::Lost,
             (Meaning::Nothing, _) => Meaning::Item(self.scopes.len()),
             (Meaning::Module(_), _) if self.is_passed_on(name) => Meaning::Doubtful,
-            (Meaning::Module(it), _) if is_start(before) && self.is_around(it, scope) => found,
-            (Meaning::Module(it), _)
-                if !is_start(before) && matches!(self.around_module(it), Meaning::Lost) => found,
+            (Meaning::Module(it), _) => match (is_start(before), self.around_module(it)) {
+                (true, Meaning::Module(outer)) if self.is_root(outer) => found,
+                (true, Meaning::Lost) if self.is_around(it, scope) => found,
+                (false, Meaning::Lost) => found,
+                _ => Meaning::Doubtful,
+            },
             _ => Meaning::Doubtful,
         }
     }
