@@ -6,7 +6,6 @@ use std::alloc::Global;
 /// Takes tokens from the start. What is wrong is noted and hides the tokens after it, so nobody has to ask after each step.
 #[derive(Drop)]
 pub struct Cursor<'a> {
-    alloc: Global,
     pub tokens: &'a Tokens,
     /// The tokens that aren't read yet.
     pub rest: Words,
@@ -29,7 +28,6 @@ impl<'a> Cursor<'a> {
     /// At the start of words of a file.
     pub fn new(alloc: Global, tokens: &'a Tokens, file: usize, rest: Words) -> Cursor<'a> {
         Cursor {
-            alloc,
             tokens,
             rest,
             file,
@@ -84,14 +82,12 @@ impl<'a> Cursor<'a> {
         self.want(is_wanted, wanted);
     }
 
-    /// Notes what is wrong at the last token, unless it follows something that is wrong, or is said already.
+    /// Notes what is wrong at the last token, unless it follows something that is wrong.
     pub fn wrong(&mut self, pieces: &[&str]) {
         if !self.is_wrong {
-            let mut line = Faults::new(self.alloc);
-            self.put_field(&mut line);
-            line.put_all(pieces);
-            line.put("\n");
-            self.faults.put_new(line);
+            self.note_field();
+            self.faults.put_all(pieces);
+            self.faults.put("\n");
             self.is_wrong = true;
             self.rest.from = self.rest.to;
         }
@@ -102,25 +98,26 @@ impl<'a> Cursor<'a> {
         self.wrong(&["`", self.tokens.text(name), why]);
     }
 
-    /// Appends the line, and which type is read, which variant and which field of it, as far as one is.
-    fn put_field(&self, to: &mut Faults) {
+    /// Notes the line, and which type is read, which variant and which field of it, as far as one is.
+    fn note_field(&mut self) {
         if self.is_without_line {
             return;
         }
-        to.put_line(self.tokens.name_of_file(self.file), self.line);
+        self.faults
+            .put_line(self.tokens.name_of_file(self.file), self.line);
         if self.name == NO_NAME {
             return;
         }
         let (name, variant) = (self.tokens.text(self.name), self.tokens.text(self.variant));
         let colons = if variant.is_empty() { "" } else { "::" };
-        to.put_all(&["`", name, colons, variant]);
+        self.faults.put_all(&["`", name, colons, variant]);
         if let Some((place, name)) = self.field {
-            to.put_all(&[".", self.tokens.text(name)]);
+            self.faults.put_all(&[".", self.tokens.text(name)]);
             if name == NO_NAME {
-                to.put_number(place);
+                self.faults.put_number(place);
             }
         }
-        to.put("`: ");
+        self.faults.put("`: ");
     }
 
     /// Takes what precedes the first of these words that no type encloses.

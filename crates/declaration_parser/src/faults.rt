@@ -11,16 +11,6 @@ pub struct Faults {
     failed: bool,
 }
 
-/// Whether a text has a line, with its line feed.
-fn has_line(text: &str, line: &str) -> bool {
-    for it in text.split_inclusive('\n') {
-        if it == line {
-            return true;
-        }
-    }
-    false
-}
-
 impl Faults {
     ghost use Rattle.declaration_parser.specs.Silent.{SaysNothing};
 
@@ -81,16 +71,6 @@ impl Faults {
         self.put("`");
         self.put(word);
         self.put(why);
-    }
-
-    /// Appends a line that others have, unless it is there.
-    pub fn put_new(&mut self, line: Faults)
-        ensures { SaysNothing self.new → SaysNothing self.old }
-    {
-        self.note(line.failed);
-        if !has_line(self.whole.as_str(), line.whole.as_str()) {
-            self.put(line.whole.as_str());
-        }
     }
 
     /// Notes whether memory ran out for something.
