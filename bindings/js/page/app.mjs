@@ -164,7 +164,7 @@ async function connect() {
   it("close").disabled = it("send").disabled = true;
   try {
     const held = writer; // of a send that waits, as for a device that takes nothing: it would keep the port open
-    await held?.abort();
+    await held?.abort(new Error("the port was closed"));
     held?.releaseLock();
     await port.close();
   } catch {}

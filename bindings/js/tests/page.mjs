@@ -45,7 +45,7 @@ const stub = `
         globalThis.isLocked = true;
         return {
           async write(it) { if (fails) throw new Error("broken"); if (globalThis.waits) await new Promise((_, no) => { globalThis.ends = no; }); written.push(...it); },
-          async abort() { globalThis.ends?.(new Error("the port was closed")); }, releaseLock() { globalThis.isLocked = false; },
+          async abort(reason) { globalThis.ends?.(reason); }, releaseLock() { globalThis.isLocked = false; },
         };
       } },
     };
