@@ -39,7 +39,7 @@ enum {
     FRAMES_SMALL_MESSAGE = 1,  /* a message, in the buffer until the next byte */
     FRAMES_SMALL_DAMAGED = 2,  /* the bytes between two sentinels are no frame, or not that of a counted message */
     FRAMES_SMALL_TOO_LONG = 3, /* more bytes between two sentinels than the buffer has */
-    FRAMES_SMALL_MISUSED = 4   /* more bytes are begun than the buffer has, or a pointer is null: nothing changed */
+    FRAMES_SMALL_MISUSED = 4   /* more bytes are begun than the buffer has, a pointer is null, or the receiver was never set: nothing changed */
 };
 
 /* What a receiver keeps between bytes. What is decoded of the message is at the start of your buffer. */

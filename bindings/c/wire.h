@@ -54,7 +54,7 @@ struct wire_terms {
 };
 
 /* The result of a call: how many bytes the text has, which are at the start of the room unless that has too few; how many bytes of the stream
- * are done with; the status. */
+ * are done with, 0 unless wire_read returns WIRE_DONE; the status. */
 struct wire_said {
     size_t length;
     size_t used;
@@ -89,7 +89,7 @@ static inline uint8_t *wire_to(void *bytes) {
 }
 
 /* Reads a stream of frames, and writes a line of JSON for each result to the start of the room. Pass each chunk after the bytes that the
- * call before left over (from `used` on). It sets terms->inside for the next call. */
+ * call before left over (from `used` on). With WIRE_DONE it sets terms->inside for the next call. */
 static inline struct wire_said wire_read(const char *declarations, size_t declarations_length, const char *type, size_t type_length,
                                          struct wire_terms *terms, const uint8_t *stream, size_t length, char *room, size_t room_length) {
     struct wire_said said = {0, 0, WIRE_NULL, 0};
