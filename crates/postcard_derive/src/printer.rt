@@ -58,7 +58,7 @@ impl%plain% Shaped for %name%%names%%where% {
 /// The shape of an enum, which holds the variants in fours, and then one by one. What is between two `@` is there for each variant.
 const VARIANTS: &str = "type %name%Shape%alias% = @%before%%opens%%types%@%closes types%;
 impl%plain% Shaped for %name%%names%%where% {
-    ghost use Rattle%path%.%name%.TheVariants.{@%before%%variant%%as%@};
+    ghost use Rattle%path%.%own%.TheVariants.{@%before%%variant%%as%@};
 %fours%%singles%    ghost use Rattle.postcard_tree.specs.declared.variants.Last.TheVariants.{Last};
     type Shape = %name%Shape%names%;
     ghost shape = { λ v. elim v [
@@ -117,7 +117,7 @@ const MATCHING: &str = "impl%Serialize% Serialize for %name%%names%%where% {
 ";
 
 impl Text<'_> {
-    /// Appends what a word of a template stands for: of the declaration its name; its parameters, as
+    /// Appends what a word of a template stands for: of the declaration its name, which is its `own` in ghost text; its parameters, as
     /// [`put_parameters`](Text::put_parameters) has them; its bounds; and the path of the module's definitions; of its variant, or of
     /// what is behind all of them, how many fours and then single ones precede it.
     fn put_word(&mut self, part: Part<'_>, word: &str) {
@@ -127,6 +127,7 @@ impl Text<'_> {
         let ones = index.saturating_sub(all_fours.saturating_mul(4));
         match word {
             "name" => self.put_name(it.name),
+            "own" => self.put_ghost_name(it.name),
             "path" => self.put(self.path),
             "names" | "alias" | "plain" | "Readable" | "Serialize" => self.put_parameters(it, word),
             "where" if it.bounds.is_empty() => {}

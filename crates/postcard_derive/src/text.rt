@@ -79,6 +79,14 @@ impl<'a> Text<'a> {
         self.made.put(self.origins.tokens.text(name));
     }
 
+    /// Appends the text of a name in ghost text, which has one word that Rust takes as a name.
+    pub fn put_ghost_name(&mut self, name: Name) {
+        match self.origins.tokens.text(name) {
+            "Type" => self.put("«Type»"),
+            text => self.put(text),
+        }
+    }
+
     /// Appends a piece so many times.
     pub fn put_times(&mut self, count: usize, piece: &str) {
         for _ in 0..count {
@@ -223,7 +231,7 @@ impl<'a> Text<'a> {
                 self.put(own);
                 self.put_list(it, items, word, ends);
             }
-            "variant" => self.put(own),
+            "variant" => self.put_ghost_name(name),
             // the constructors of shapes have these names
             "as" | "The" if !is_listed(own, "V0 V1 V2 V3 More This Other Last") => {}
             "as" => self.made.put_all(&[" as The", own]),
