@@ -57,19 +57,25 @@ impl<'a> Scopes<'a> {
     /// Whether a file is the root of a crate by its name or its folder's, unless it is in a folder of another's `src` but `bin`.
     pub(super) fn is_root(&self, file: usize) -> bool {
         let name = self.tokens.name_of_file(file);
+        let (folder, stem) = parts_of(name);
+        if !is_listed(stem, ROOTS)
+            && !is_listed(split_last(folder).1, "bin examples tests benches")
+        {
+            return false;
+        }
         for other in 0..self.tokens.files.len() {
-            let (folder, stem) = parts_of(self.tokens.name_of_file(other));
-            if is_listed(stem, ROOTS)
-                && split_last(folder).1 == "src"
-                && let Some(rest) = name.strip_prefix(folder)
+            let other = self.tokens.name_of_file(other);
+            // most files are beside it or below it
+            if let Some(rest) = name.strip_prefix(split_last(other).0)
                 && split_last(rest).0.starts_with('/')
                 && !rest.starts_with("/bin/")
+                && split_last(split_last(other).0).1 == "src"
+                && is_listed(parts_of(other).1, ROOTS)
             {
                 return false;
             }
         }
-        let (folder, stem) = parts_of(name);
-        is_listed(stem, ROOTS) || is_listed(split_last(folder).1, "bin examples tests benches")
+        true
     }
 
     /// Whether the files of a module's modules are in this folder.
