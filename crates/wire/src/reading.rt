@@ -69,15 +69,16 @@ impl Lines {
     }
 }
 
-/// Passes bytes on, and writes their lines.
+/// Passes bytes on, and writes their lines; out of memory those before what found none.
 fn receive(
     rt: &HostRuntime,
     receiver: &mut LinesOfFrames<'_>,
     bytes: &[u8],
     lines: &mut Lines,
 ) -> Result<(), Failure> {
-    receiver.push(bytes, &mut lines.lines)?;
-    lines.write(rt)
+    let pushed = receiver.push(bytes, &mut lines.lines);
+    lines.write(rt)?;
+    Ok(pushed?)
 }
 
 /// Passes bytes on as they come, writes the lines of each read at its end, and counts the bytes as progress.
