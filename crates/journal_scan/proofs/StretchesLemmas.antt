@@ -1,6 +1,6 @@
 -- The stretches that a scan found one after another.
-use Rattle.std.proofs.Common.{◌≡◌, ℕ, ◌+◌, ◌-◌, ◌^◌, ◌<◌, Bool, true, false, List, [], ◌∷◌, ◌++◌, length, take, Option, Some, None, Result, Ok, Err, refl, sym, ap, ◌∙◌, subst, inl, inr, append_assoc, arith}
-use Rattle.std.specs.Prelude.{IfSome, IfOk, IsTrue, ◌↔◌, if◌then◌else◌}
+use Rattle.std.proofs.Common.{◌≡◌, ℕ, ◌+◌, ◌-◌, ◌^◌, ◌<◌, Bool, true, false, List, [], ◌∷◌, ◌++◌, length, take, Option, Some, None, refl, sym, ap, ◌∙◌, subst, inl, inr, append_assoc, arith}
+use Rattle.std.specs.Prelude.{IfSome, IsTrue, ◌↔◌, if◌then◌else◌}
 use Rattle.std.specs.List.{Contains}
 use Rattle.std.proofs.lemmas.List.{append-nil, take_all, length-append}
 use Rattle.postcard_tree.specs.ReadingLaws.{WireForm}
@@ -100,11 +100,6 @@ needs_counted counted r a numbers e t h = subst (λ x. OneNeedsRange numbers (re
     go : (b : Bool) → b ≡ true → OneNeedsRange numbers (if b then r ∷ [] else [])
     go true q = h
     go false q = cc
-
--- what is said where there is a result, by what was
-pub ok_by : {A E : Type 0} {P Q : A → Type 0} (r : Result A E) → IfOk r P → ((x : A) → P x → Q x) → IfOk r Q
-ok_by (Ok x) h f = f x h
-ok_by (Err e) h f = tt
 
 -- whether the number of a record that counts was there before
 pub again_counted : {V : Type 0} (counted : ℕ → V → Bool) (r : ℕ × V) (a : Answer (ℕ × V)) (numbers : List ℕ) (again : Bool) → a ≡ Value r → counted r.0 r.1 ≡ true

@@ -1,17 +1,12 @@
 -- What a check without damage says of a log.
-use Rattle.std.proofs.Common.{◌≡◌, ℕ, Bool, true, List, [], ◌++◌, Option, Some, None, Result, Ok, Err, ap, subst, ◌∙◌, append-nil}
-use Rattle.std.specs.Prelude.{IfOk, IfSome}
+use Rattle.std.proofs.Common.{◌≡◌, ℕ, Bool, true, List, [], ◌++◌, Option, Some, None, ap, subst, ◌∙◌, append-nil}
+use Rattle.std.specs.Prelude.{IfSome}
 use Rattle.postcard_tree.specs.ReadingLaws.{WireForm}
 use Rattle.journal_scan.specs.Scanning.{with_zero}
 use Rattle.journal_scan.specs.Checks.{AreStretches, IsChecked, listed_rest, watched}
 use Rattle.journal_scan.specs.declared.checking.Report.{Report}
 use Rattle.records.specs.Checking.{SealedLine, HasKeptStretches, MissesNone, IsSoundLog, is_sealed_with, is_sound}
 use Rattle.records.specs.declared.checking.Printer.{Printer}
-
--- what is said where there is a result, by what was
-pub ok_by : {A E : Type 0} {P Q : A → Type 0} (r : Result A E) → IfOk r P → ((x : A) → P x → Q x) → IfOk r Q
-ok_by (Ok x) h f = f x h
-ok_by (Err e) h f = tt
 
 -- a printer that stays sound, nothing unfinished and nothing missing: the log is sound
 pub sound_log : (form : WireForm SealedLine) (limit : ℕ) (held : Option (List ℕ)) (halts : Printer → Type 0) (old new : Printer) (report : Report SealedLine)
