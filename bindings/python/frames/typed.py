@@ -60,9 +60,14 @@ def _object(pairs: List[Tuple[str, Any]]) -> Any:
     return held if len(held) == len(pairs) else Pairs(list(pair) for pair in pairs)
 
 
+def _are_members(pairs: Pairs) -> bool:
+    """Whether these are pairs whose keys are texts, as an object's are."""
+    return all(isinstance(pair, (list, tuple)) and len(pair) == 2 and isinstance(pair[0], str) for pair in pairs)
+
+
 def _as_objects(value: Any) -> Any:
     """A value in which all pairs of a map are an object again; of keys that are no texts, pairs: JSON would make texts of them, `None` "null"."""
-    if isinstance(value, Pairs):
+    if isinstance(value, Pairs) and _are_members(value):
         return _Members([(key, _as_objects(held)) for key, held in value])
     if isinstance(value, dict):
         if not all(isinstance(key, str) for key in value):
@@ -254,12 +259,19 @@ def write(declarations: _Path, type_name: str, values: Iterable[Any], sentinel: 
     dictionary in place of a list of values. Wrong declarations or a wrong type are an `OSError`; if there is neither the library nor the
     program, a `FileNotFoundError`.
     """
-    if isinstance(values, (str, dict, bytes, bytearray, memoryview)):  # whose letters, keys and bytes would be taken for values
+    if isinstance(values, (str, dict, Pairs, bytes, bytearray, memoryview)):  # whose letters, keys, pairs and bytes would be taken for values
         raise TypeError("a list of values is needed, not a value alone")
     values = list(values)
-    by_itself = {k: value for k, value in enumerate(values, 1) if isinstance(value, dict) and list(value) == ["value"]}
+    by_itself = {k: value for k, value in enumerate(values, 1) if _holds_value_alone(value)}
     _refuse_both(os.fsdecode(declarations), type_name, by_itself, wire)
     return _written(os.fsdecode(declarations), type_name, values, _byte(sentinel), wire)
+
+
+def _holds_value_alone(value: Any) -> bool:
+    """Whether its JSON is `{"value": ..}`."""
+    if isinstance(value, Pairs):
+        return len(value) == 1 and _are_members(value) and value[0][0] == "value"
+    return isinstance(value, dict) and list(value) == ["value"]
 
 
 def _refuse_both(declarations: str, type_name: str, values: Dict[int, Any], wire: Optional[str]) -> None:

@@ -817,6 +817,7 @@ def test_value_field(folder, wire):
         file.write("#[derive(Serialize, Deserialize)]\npub struct Node { pub value: Option<Box<Node>> }\n")
         file.write("#[derive(Serialize, Deserialize)]\npub struct Inner { pub value: u8 }\n")
         file.write("#[derive(Serialize, Deserialize)]\npub struct Outer { pub value: Inner }\n")
+        file.write("#[derive(Serialize, Deserialize)]\npub struct Named(pub BTreeMap<String, Named>);\n")
     none, one, two = {"value": None}, {"value": {"value": None}}, {"value": {"value": {"value": None}}}
 
     def written(type_name, *values):
@@ -840,6 +841,12 @@ def test_value_field(folder, wire):
         stream = b"\0" + frames.encode(body) + b"\0"
         answers = typed.TypedReceiver(path, type_name, wire=wire).answers(stream)
         assert written(type_name, *answers) == written(type_name, answers[0]["value"]) == stream, answers
+    # of pairs of one's own likewise: none is taken for another value, a key isn't made a text, and they are one value
+    assert "value 1: " in told_of(ValueError, written, "Named", typed.Pairs([["value", {}]])) and written("Named", [["value", {}]]) == b"\0\x08\1\5value\1\0"
+    assert all(refuses(ValueError, written, "BTreeMap<String, u8>", typed.Pairs([[key, 1], [key, 2]])) for key in (None, 1, True))
+    assert all(refuses(ValueError, written, "BTreeMap<String, u8>", typed.Pairs(it)) for it in ([[]], [["a"]], [["a", 1, 2]], ["ab"], [5]))
+    assert written("BTreeMap<u8, u8>", typed.Pairs([[1, 2], [1, 3]])) == written("BTreeMap<u8, u8>", typed.Pairs([["1", 2], ["1", 3]])) == b"\0\6\2\1\2\1\3\0"
+    assert refuses(TypeError, typed.write, path, "(String, u8)", typed.Pairs([["a", 1], ["a", 2]]), 0, wire)
     # what has one meaning goes out, by itself or as a receiver answers it; and nothing else does
     assert written("Inner", {"value": 7}) == written("Inner", {"value": {"value": 7}}) == b"\0\2\7\0"
     assert written("Outer", {"value": {"value": 7}}, {"value": {"value": {"value": 8}}}) == b"\0\2\7\0\2\x08\0"
