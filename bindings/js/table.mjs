@@ -1,15 +1,16 @@
 // Values of message types by the table that `wire check FILES json` prints: bytes of postcard as JSON, and JSON as bytes. What it prints and
 // refuses is what the program `wire` does; but a line that is two values, it refuses, and a value with more than 2^22 parts in a row that
-// take no byte, since a table can have those without end. It is tested against the vectors of `wire` and not proved; see README.md.
+// take no byte, since a table can have those without end. Of a line that isn't JSON it names the column from which it isn't; `wire` names that,
+// or one behind what follows a whole value. It is tested against the vectors of `wire` and not proved; see README.md.
 
 const TOO_DEEP = "the value is nested too deeply: `depth=` sets the limit";
 /** Of a line that is two values. */
 export const BOTH = '{"value": ..} is of the type, and what it holds is another value: `wrapped` says which is meant';
 
-/** Why a line of JSON isn't a value of the type: `why`, and the way to it, as `history[3].light.Lit`. */
+/** Why a line of JSON isn't a value of the type: `why`, and the way to it, as `history[3].light.Lit`; none if the whole is wrong. */
 export class Wrong extends Error {
-  constructor(why, path = "") {
-    super(path ? `${path}: ${why}` : why);
+  constructor(why, path) {
+    super(path === undefined ? why : `${path}: ${why}`);
     this.why = why;
     this.path = path;
   }
@@ -33,7 +34,8 @@ const isObject = (it) => typeof it === "object" && it !== null;
 const isInteger = (kind) => typeof kind === "string" && INTEGER.test(kind);
 /** The integer that a node is of, by its digits or of fixed width. */
 const integerIn = (node) => (node.kind === "fixed" ? node.integer : node.kind);
-const shown = (name) => name.replaceAll("\n", "\\n").replaceAll("\r", "\\r").replaceAll("\t", "\\t");
+/** A name in a message: what controls a terminal is escaped as in JSON. */
+const shown = (name) => name.replace(/[\0-\x1f\x7f-\x9f]/g, (it) => ({ "\n": "\\n", "\r": "\\r", "\t": "\\t" })[it] ?? `\\u${it.charCodeAt().toString(16).padStart(4, "0")}`);
 
 // ---- bytes
 
@@ -274,7 +276,8 @@ function onStack(step, tooDeep) {
 function inside(name, step) {
   try { return step(); } catch (error) {
     if (!(error instanceof Wrong)) throw error;
-    throw new Wrong(error.why, shown(name) + (error.path && error.path[0] !== "[" ? "." : "") + error.path);
+    const { why, path } = error;
+    throw new Wrong(why, shown(name) + (path === undefined || path[0] === "[" ? "" : ".") + (path ?? ""));
   }
 }
 

@@ -117,6 +117,12 @@ assert.throws(() => list.write(0, none, { wrapped: true }), /expected an object 
 assert.throws(() => of({ kind: "u8" }).write(0, "1", { wrapped: true }), /expected \{"value": \.\.\}/);
 assert.throws(() => of({ kind: "u8" }).write(0, '{"value":1}', { wrapped: false }), /expected a number/);
 assert.throws(() => list.write(0, none, { wrapped: 1 }), TypeError);
+// the way to what is wrong is as `wire` tells it: with escapes for what controls a terminal, also of a name without letters
+const lit = of({ kind: "enum", variants: [{ name: "Lit", node: 1 }] }, { kind: "map", node: 2, most: null }, { kind: "tuple", nodes: [3, 4] }, { kind: "text", most: null }, { kind: "u8" });
+for (const [json, said] of [['{"Lit":{"\\u0000\\b\\t\\u001b[0m\\u007f\\u0085\\u00a0\\\\":""}}', "Lit.\\u0000\\u0008\\t\\u001b[0m\\u007f\\u0085\u00a0\\: expected a number"],
+  ['{"Lit":{"":""}}', "Lit.: expected a number"], ['""', ": the type has no such variant"], ['{"Lit":{"[":{}}}', "Lit[: expected a number"], ["1", "expected a variant"]]) {
+  assert.throws(() => lit.write(0, json), { message: said });
+}
 // options that would be ignored, and bytes that a buffer has no room for any more
 for (const [options, said] of [[{ depht: 3 }, /no option is called depht: write depth/], [7, /options are an object/], [null, /options are an object/], [new Map(), /options are an object/],
   [{ hex: "no" }, /hex is true or false/], [{ empty: NaN }, /empty is a number/], [{ empty: "1" }, /empty is a number/]]) {
