@@ -3,8 +3,8 @@
 Into the wheel go the shared object, which FRAMES_LIBRARY names, and the program `wire` for typed messages, which WIRE names. If these aren't
 set, they are those that are stored in the clone for this processor. If no program is stored for it, as for aarch64, the library of typed
 messages goes in. With `--config-settings wire=no` both stay out. The wheel's tag says the earliest glibc that runs what is in it. A wheel
-without any of them is for every system, and looks for the library when it is first used. An editable install (`pip install -e`) points at this
-folder.
+without any of them is for every system, and looks for the library when it is first used. On Linux it is refused outside of a clone: before
+21.3 pip copies this folder, which then has no library beside it. An editable install (`pip install -e`) points at this folder.
 """
 import base64
 import hashlib
@@ -45,6 +45,9 @@ def files_of_package(with_wire):
                 yield f"frames/{name}", file.read(), 0o644
     library = of_this_machine("FRAMES_LIBRARY", os.path.join(folder, "libframes.so"), os.path.join(STORED, "libframes.so"),
                               os.path.join(HERE, "..", "c", "out", "libframes.so"))  # fmt: skip
+    if library is None and platform.system() == "Linux" and not os.path.isdir(os.path.dirname(STORED)):
+        raise FileNotFoundError(f"no libframes.so is stored beside {HERE}: pip before 21.3 copies this folder out of its clone; upgrade it by "
+                                "`pip install --upgrade pip`, or name the library by FRAMES_LIBRARY")  # fmt: skip
     wire = of_this_machine("WIRE", os.path.join(STORED, "wire")) if with_wire else None
     typed = of_this_machine("WIRE_LIBRARY", os.path.join(STORED, "libwire.so")) if with_wire and not wire else None
     for name, path in (("libframes.so", library), ("wire", wire), ("libwire.so", typed)):

@@ -16,6 +16,7 @@ import pathlib
 import pickle
 import random
 import select
+import shutil
 import signal
 import socket
 import struct
@@ -705,6 +706,16 @@ def test_wheel(folder):
         assert "UnsupportedOperation" in error.stderr and not os.listdir(os.path.join(folder, "source")), error.stderr
     else:
         raise AssertionError("not refused")
+    # nor would one of a copy of it alone, as pip makes it before 21.3: what to do is said
+    alone, made = os.path.join(folder, "alone", "python"), os.path.join(folder, "made-of-alone")
+    shutil.copytree(package, alone)
+    os.mkdir(made)
+    code = "import sys; sys.path.insert(0, sys.argv[1]); import build_frames; print(build_frames.build_wheel(sys.argv[2]))"
+    done = subprocess.run([sys.executable, "-B", "-c", code, alone, made], capture_output=True, text=True, env=environment)
+    assert done.returncode and "no libframes.so" in done.stderr and "--upgrade pip" in done.stderr and not os.listdir(made), (done.stdout, done.stderr)
+    named = {**environment, "FRAMES_LIBRARY": str(frames.library()._name)}
+    done = subprocess.run([sys.executable, "-B", "-c", code, alone, made], capture_output=True, text=True, env=named)
+    assert done.returncode == 0 and "frames/libframes.so" in zipfile.ZipFile(os.path.join(made, done.stdout.strip())).namelist(), done.stderr
     editable = built("build_editable", os.path.join(folder, "editable"))
     with zipfile.ZipFile(editable) as archive:
         pth = [archive.read(name).decode() for name in archive.namelist() if name.endswith(".pth")]
