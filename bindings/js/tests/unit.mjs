@@ -157,6 +157,19 @@ async function ends() {
     await soon();
     assert.deepEqual([(await within(waits)).done, released], [true, 1]);
   }
+  // a line error ends a port's stream, and the port has another one then: a receiver of one's own goes on there
+  {
+    const [one, broken] = open(), [two, whole] = open(), own = new frames.Receiver(8), found = [];
+    broken.enqueue(HI.subarray(0, 4));
+    const waits = frames.receive(one, own).next();
+    await soon();
+    broken.error(new Error("a framing error"));
+    await assert.rejects(within(waits), /a framing error/);
+    whole.enqueue(HI.subarray(4));
+    whole.close();
+    for await (const { kind } of frames.receive(two, own)) found.push(kind);
+    assert.deepEqual([one.locked, two.locked, found], [false, false, ["message"]]);
+  }
   // a signal between two events: neither is the next one given, nor is the stream kept
   const [stream, to] = open(), stop = new AbortController(), events = frames.receive(stream, 8, { signal: stop.signal });
   to.enqueue(Uint8Array.of(...HI, ...HI));
