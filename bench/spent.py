@@ -1,6 +1,7 @@
 """What a program took, for `journal` and `wire`."""
 import os
 import re
+import shutil
 import subprocess
 import tempfile
 import time
@@ -42,6 +43,8 @@ def instructions(words, source):
 
 def peer(top, name):
     """Compiles a plain program for x86-64-v2, as ours are, and returns where it is."""
+    if not shutil.which("rustc"):
+        raise SystemExit(f"rustc isn't on the PATH, which compiles bench/src/{name}.rs")
     os.makedirs(f"{top}/bench/out", exist_ok=True)
     made = f"{top}/bench/out/{name}"
     subprocess.run(["rustc", "--edition", "2021", "-O", "-C", "target-cpu=x86-64-v2", "-o", made, f"{top}/bench/src/{name}.rs"], check=True)
