@@ -1,10 +1,11 @@
 """Makes wheels of this package: it copies files, so that neither a compiler nor a network is needed.
 
 Into the wheel go the shared object, which FRAMES_LIBRARY names, and the program `wire` for typed messages, which WIRE names. If these aren't
-set, they are those that are stored in the clone for this processor. If no program is stored for it, as for aarch64, the library of typed
-messages goes in. With `--config-settings wire=no` both stay out. The wheel's tag says the earliest glibc that runs what is in it. A wheel
-without any of them is for every system, and looks for the library when it is first used. On Linux it is refused outside of a clone: before
-21.3 pip copies this folder, which then has no library beside it. An editable install (`pip install -e`) points at this folder.
+set, they are those that are stored in the clone for this processor. If no program is stored for it, as for aarch64, or this system's glibc is
+too early for it, so that pip would refuse the wheel, the library of typed messages goes in. With `--config-settings wire=no` both stay out.
+The wheel's tag says the earliest glibc that runs what is in it. A wheel without any of them is for every system, and looks for the library
+when it is first used. On Linux it is refused outside of a clone: before 21.3 pip copies this folder, which then has no library beside it. An
+editable install (`pip install -e`) points at this folder.
 """
 import base64
 import hashlib
@@ -36,6 +37,18 @@ def of_this_machine(variable, *places):
     return next((path for path in places if os.path.exists(path)), None)
 
 
+def glibc_of(content):
+    """The glibc that an ELF file is for, as the number behind `2.`: what it names, 17 at least."""
+    return max([17] + [int(it) for it in re.findall(rb"\x00GLIBC_2\.(\d+)(?=[\x00.])", content)])
+
+
+def is_for_here(path):
+    """Whether a program runs by this system's glibc; also where that isn't known."""
+    here = re.fullmatch(r"2\.(\d+).*", platform.libc_ver()[1])
+    with open(path, "rb") as file:
+        return here is None or glibc_of(file.read()) <= int(here[1])
+
+
 def files_of_package(with_wire):
     """What goes into a wheel: each file's name there, its bytes, and its mode."""
     folder = os.path.join(HERE, "frames")
@@ -49,6 +62,8 @@ def files_of_package(with_wire):
         raise FileNotFoundError(f"no libframes.so is stored beside {HERE}: pip before 21.3 copies this folder out of its clone; upgrade it by "
                                 "`pip install --upgrade pip`, or name the library by FRAMES_LIBRARY")  # fmt: skip
     wire = of_this_machine("WIRE", os.path.join(STORED, "wire")) if with_wire else None
+    if wire and not os.environ.get("WIRE") and not is_for_here(wire):
+        wire = None
     typed = of_this_machine("WIRE_LIBRARY", os.path.join(STORED, "libwire.so")) if with_wire and not wire else None
     for name, path in (("libframes.so", library), ("wire", wire), ("libwire.so", typed)):
         if path:
@@ -61,8 +76,7 @@ def tag_of(files):
     built = [content for _, content, _ in files if content[:4] == b"\x7fELF"]
     if not built:
         return "py3-none-any"
-    wanted = max([17] + [int(it) for content in built for it in re.findall(rb"\x00GLIBC_2\.(\d+)(?=[\x00.])", content)])
-    return f"py3-none-manylinux_2_{wanted}_{platform.machine()}"
+    return f"py3-none-manylinux_2_{max(map(glibc_of, built))}_{platform.machine()}"
 
 
 def written(folder, files):

@@ -14,6 +14,7 @@ import io
 import os
 import pathlib
 import pickle
+import platform
 import random
 import select
 import shutil
@@ -677,13 +678,14 @@ def test_wheel(folder):
     assert "-py3-none-manylinux_2_17_" in wheels[0], wheels[0]
     bare = built("build_wheel", os.path.join(folder, "bare"), "wire='no'")
     assert not {"frames/wire", "frames/libwire.so"} & set(zipfile.ZipFile(bare).namelist())
-    # for a processor without a stored program: the library of typed messages
-    code = "import platform, sys; platform.machine = lambda: 'aarch64'; sys.path.insert(0, sys.argv[1]); import build_frames; print(build_frames.build_wheel(sys.argv[2]))"
+    # for a processor without a stored program, and for a glibc before that of the program: the library of typed messages
     environment = {name: value for name, value in os.environ.items() if name not in ("FRAMES_LIBRARY", "WIRE", "WIRE_LIBRARY")}
     package = os.path.dirname(os.path.dirname(os.path.abspath(frames.__file__)))
-    other = subprocess.run([sys.executable, "-B", "-c", code, package, folder], check=True, capture_output=True, text=True, env=environment).stdout.strip()
-    names = zipfile.ZipFile(os.path.join(folder, other)).namelist()
-    assert "frames/libwire.so" in names and "frames/wire" not in names and other.endswith("manylinux_2_17_aarch64.whl"), (other, names)
+    for system, tag in (("platform.machine = lambda: 'aarch64'", "manylinux_2_17_aarch64.whl"), ("platform.libc_ver = lambda: ('glibc', '2.31')", f"manylinux_2_17_{platform.machine()}.whl")):
+        code = f"import platform, sys; {system}; sys.path.insert(0, sys.argv[1]); import build_frames; print(build_frames.build_wheel(sys.argv[2]))"
+        other = subprocess.run([sys.executable, "-B", "-c", code, package, folder], check=True, capture_output=True, text=True, env=environment).stdout.strip()
+        names = zipfile.ZipFile(os.path.join(folder, other)).namelist()
+        assert "frames/libwire.so" in names and "frames/wire" not in names and other.endswith(tag), (other, names)
     site = os.path.join(folder, "site")
     with zipfile.ZipFile(wheels[0]) as archive:
         archive.extractall(site)
