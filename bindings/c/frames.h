@@ -14,7 +14,8 @@
  * inside a frame, up to the next sentinel. Against both seal each message: frames_seal before it is sent, frames_unseal of what is
  * received.
  *
- * Targets: x86-64 and aarch64. A 32-bit microcontroller can't link the library; frames_small.h is for one.
+ * Targets: x86-64 and aarch64. A 32-bit microcontroller can't link the library; frames_small.h is for one. Without a system, first enable
+ * vector registers and unaligned access (README.md), and let an interrupt handler that calls the library save these registers.
  *
  * No call allocates, keeps a pointer, prints, waits, or stops the process. None has state of its own: what has to be remembered is in a
  * struct of yours. Calls on different structs and buffers may run at the same time.
