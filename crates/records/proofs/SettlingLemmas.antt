@@ -1,7 +1,7 @@
 -- Records that were appended since a line stood somewhere, and one more.
-use Rattle.std.proofs.Common.{◌≡◌, ℕ, ◌+◌, ◌<◌, Bool, true, List, [], ◌∷◌, ◌++◌, length, drop, Option, Some, Ok, Err, sym, ap, ◌∙◌, subst, append_assoc, append-nil, length-append, length-drop, take-append-drop, arith}
-use Rattle.line_io.specs.Device.{LineState, Wrote}
-use Rattle.line_io.specs.Calls.{Wrote-then}
+use Rattle.std.proofs.Common.{◌≡◌, ℕ, ◌+◌, ◌<◌, ◌≤◌, Bool, true, false, refl, List, [], ◌∷◌, ◌++◌, length, drop, Option, Some, Ok, Err, sym, ap, ◌∙◌, subst, append_assoc, append-nil, length-append, length-drop, take-append-drop, arith}
+use Rattle.line_io.specs.Device.{LineState, Wrote, Grew}
+use Rattle.line_io.specs.Calls.{Wrote-none, Wrote-then}
 use Rattle.postcard_tree.specs.Tree.{Tree, IsTree}
 use Rattle.link.specs.Run.{Send, IsSend, sent, written, completed}
 use Rattle.journal.specs.Records.{numbered}
@@ -9,6 +9,7 @@ use Rattle.journal.specs.Appending.{LogPlace, Appended, IsAppend}
 use Rattle.journal.specs.declared.log.AppendError.{AppendError}
 use Rattle.journal.specs.declared.log.AppendError.TheVariants.{Refused, Line, Spent, Full}
 use Rattle.records.specs.Settling.{records_from, HasGrown, IsTorn}
+use Rattle.records.specs.Lines.{HasOneMore, AreAppended, left_out_status}
 
 records_more : (n : ℕ) (vs : List Tree) (v : Tree) → records_from n vs ++ sent 0 true (numbered (n + length vs) v) ≡ records_from n (vs ++ v ∷ [])
 records_more n [] v = ap (λ m. sent 0 true (numbered m v)) (let e : n + 0 ≡ n = omega arith in e) ∙ sym (append-nil (sent 0 true (numbered n v)))
@@ -70,3 +71,75 @@ grew_by limit writes first behind e start old new values a h = (
     numbers = h.numbers;
   },
 )
+
+-- one that completed is one whole record more
+pub one_more : (limit : ℕ) (writes : Option Tree) (m : ℕ) (old new : LogPlace) → Appended limit writes (Ok m) old new → new.next ≡ old.next + 1
+    → HasOneMore old new
+one_more limit writes m old new a e = record {
+  value = a.is.1.0;
+  wrote = subst (λ x. Wrote old.line new.line (written 0 true x)) a.is.1.2 a.wrote;
+  next_is = e;
+}
+
+-- Lines that were appended, one after another
+
+-- of no lines each was appended
+pub none_appended : (log : LogPlace) (lines : ℕ) → AreAppended log log lines lines 0
+none_appended log lines = record {
+  values = [];
+  grown = record { wrote = Wrote-none log.line; numbers = omega arith };
+  all = λ e. omega arith;
+  fewer = λ e. absurd (omega (arith, e));
+}
+
+-- one line more was
+pub line_appended : (old mid new : LogPlace) (before lines status : ℕ) → AreAppended old mid before lines status → HasOneMore mid new
+    → AreAppended old new before (lines + 1) status
+line_appended old mid new before lines status a h =
+    let here : mid.next ≡ old.next + length a.values = a.grown.numbers in
+    let longer = length-append a.values (h.value ∷ []) in
+    record {
+      values = a.values ++ h.value ∷ [];
+      grown = record {
+        wrote = subst (λ b. Wrote old.line new.line b)
+            (ap (λ b. b ++ sent 0 true (numbered mid.next h.value)) (append-nil (records_from old.next a.values)) ∙ ap (λ m. records_from old.next a.values ++ sent 0 true (numbered m h.value)) here ∙ records_more old.next a.values h.value ∙ sym (append-nil (records_from old.next (a.values ++ h.value ∷ []))))
+            (Wrote-then _ _ _ _ _ a.grown.wrote h.wrote);
+        numbers = omega (arith, h.next_is, here, longer);
+      };
+      all = λ e. let f = a.all e in omega (arith, f, longer);
+      fewer = λ e. let f = a.fewer e in omega (arith, f, longer);
+    }
+
+-- how many were appended at most
+at_most : (old new : LogPlace) (before lines : ℕ) (left_out : Bool) (a : AreAppended old new before lines (left_out_status left_out)) → before + length a.values ≤ lines
+at_most old new before lines true a = let f = a.fewer refl in omega (arith, f)
+at_most old new before lines false a = let f = a.all refl in omega (arith, f)
+
+-- one line more was left out
+pub line_left_out : (old new : LogPlace) (before lines : ℕ) (left_out : Bool) → AreAppended old new before lines (left_out_status left_out)
+    → AreAppended old new before (lines + 1) 1
+line_left_out old new before lines left_out a =
+    let most = at_most old new before lines left_out a in
+    record {
+      values = a.values;
+      grown = a.grown;
+      all = λ e. absurd (omega (arith, e));
+      fewer = λ e. omega (arith, most);
+    }
+
+-- the log has the same bytes and the same next number, and no call was a fault
+pub same_appended : (old mid new : LogPlace) (before lines status : ℕ) → new.line.told ≡ mid.line.told → new.line.faults ≡ mid.line.faults → new.next ≡ mid.next
+    → AreAppended old mid before lines status → AreAppended old new before lines status
+same_appended old mid new before lines status told faults next a = record {
+  values = a.values;
+  grown = record {
+    wrote = record {
+      grew = subst (λ t. Grew old.line.told t old.line.faults new.line.faults (records_from old.next a.values ++ [])) (sym told)
+          (subst (λ f. Grew old.line.told mid.line.told old.line.faults f (records_from old.next a.values ++ [])) (sym faults) a.grown.wrote.grew);
+      more = omega (arith, faults, a.grown.wrote.more);
+    };
+    numbers = next ∙ a.grown.numbers;
+  };
+  all = a.all;
+  fewer = a.fewer;
+}

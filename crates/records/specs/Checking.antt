@@ -1,8 +1,8 @@
 -- What a check keeps of the stretches of a log.
-use Rattle.std.specs.Prelude.{◌≡◌, ℕ, max, Bool, true, ◌&&◌, ◌==◌, is_some, if◌then◌else◌, List, [], ◌∷◌, ◌++◌, Option, Some, None, String, codes, refl}
+use Rattle.std.specs.Prelude.{◌≡◌, ℕ, ◌-◌, ◌^◌, min, max, Bool, true, false, ◌&&◌, ◌==◌, is_some, if◌then◌else◌, List, [], ◌∷◌, ◌++◌, length, map, Option, Some, None, String, codes, refl}
 use Rattle.std.specs.Global.{Global}
 use Rattle.std.specs.List.{list_all}
-use Rattle.std.proofs.Common.{ap, ◌∙◌}
+use Rattle.std.proofs.Common.{ap, sym, ◌∙◌}
 use Rattle.std.proofs.lemmas.List.Folds.{list_all-append}
 use Rattle.link.specs.declared.receiver.Answer.{Answer}
 use Rattle.link.specs.declared.receiver.Answer.TheVariants.{Value, Damaged, TooLong, Cut}
@@ -11,8 +11,7 @@ use Rattle.journal.specs.Visits.{VisitorLaws}
 use Rattle.postcard_tree.specs.ReadingLaws.{WireForm}
 use Rattle.journal_scan.specs.declared.scanning.Stretch.{Stretch}
 use Rattle.journal_scan.specs.Scanning.{with_zero}
-use Rattle.journal_scan.specs.Tallies.{IsTally, AreMissing}
-use Rattle.journal_scan.specs.declared.tallies.Tally.{Tally}
+use Rattle.journal_scan.specs.Tallies.{AreMissing, behind_greatest}
 use Rattle.journal_scan.specs.Checks.{AreStretches, records_in, numbers_of}
 use Rattle.records.specs.declared.checking.Printer.{Printer}
 
@@ -53,9 +52,9 @@ greatest_number g (s ∷ ss) = greatest_number (greater_number g (sealed_number 
 abbrev pub does_print : Printer → Bool
 does_print p = is_some p.to
 
--- whether nothing is held against what it was told
-abbrev pub is_sound : Printer → Bool
-is_sound p = p.sound
+-- whether each stretch that it was told is a record with the sealed number
+abbrev pub has_only_sealed : Printer → Bool
+has_only_sealed p = p.only_sealed
 
 -- the greatest number that it was told of a sealed record
 abbrev pub greatest_told : Printer → Option ℕ
@@ -65,13 +64,15 @@ greatest_told p = p.greatest
 abbrev pub is_sealed_with : ℕ → SealedLine → Bool
 is_sealed_with n v = n == v.0.0
 
--- Of the numbers that were counted none is missing below the greatest.
-pub record MissesNone (tally : Tally) : Type 0 where
-  -- whichever numbers these are
-  pub none : (numbers : List ℕ) → IsTally numbers tally → AreMissing numbers []
+-- Each number up to the greatest of these is among them, and once, since they are no more than that.
+pub record AreEachOnce (numbers : List ℕ) : Type 0 where
+  -- none is missing below the greatest
+  pub none_missing : AreMissing numbers []
+  -- they are as many as the numbers up to the greatest; both are counted up to 2^64 - 1
+  pub as_many : min (length numbers) (2 ^ 64 - 1) ≡ behind_greatest numbers
 
--- All stretches of a log, with a zero after it, are records that are sealed with their own numbers, and of these numbers none is
--- missing below the greatest.
+-- All stretches of a log, with a zero after it, are records that are sealed with their own numbers, and these are all numbers up to
+-- the greatest, each once.
 pub record IsSoundLog (form : WireForm SealedLine) (limit : ℕ) (bytes : List ℕ) : Type 0 where
   -- the stretches
   pub stretches : List (Stretch SealedLine)
@@ -79,8 +80,18 @@ pub record IsSoundLog (form : WireForm SealedLine) (limit : ℕ) (bytes : List �
   pub are : AreStretches form limit (with_zero bytes) stretches
   -- each is a sealed record
   pub sealed : list_all is_sealed_record stretches ≡ true
-  -- no number is missing
-  pub none_missing : AreMissing (numbers_of (records_in is_sealed_with stretches)) []
+  -- their numbers are each there once
+  pub each_once : AreEachOnce (numbers_of (records_in is_sealed_with stretches))
+
+-- the number of a stretch, if it is a record that is sealed with it
+abbrev pub number_in : Stretch SealedLine → Option ℕ
+number_in s = sealed_number s.answer
+
+-- A log is read in one way: its bytes decide which of its stretches are records that are sealed with their numbers, and these numbers.
+abbrev pub HasOneReading : WireForm SealedLine → ℕ → Type 0
+HasOneReading form limit = (bytes : List ℕ) (us vs : List (Stretch SealedLine))
+    → AreStretches form limit bytes us → AreStretches form limit bytes vs
+    → map number_in us ≡ map number_in vs
 
 -- What a printer keeps of these stretches, which it was told in turn.
 pub record HasKeptStretches (old : Printer) (stretches : List (Stretch SealedLine)) (new : Printer) : Type 0 where
@@ -88,8 +99,8 @@ pub record HasKeptStretches (old : Printer) (stretches : List (Stretch SealedLin
   pub prints : does_print new ≡ does_print old
   -- the greatest number of a sealed record
   pub greatest : greatest_told new ≡ greatest_number (greatest_told old) stretches
-  -- nothing is held against a log only if all are sealed records
-  pub sound : is_sound new ≡ true → (is_sound old ≡ true) × (list_all is_sealed_record stretches ≡ true)
+  -- whether all are records with the sealed numbers
+  pub sealed : has_only_sealed new ≡ (has_only_sealed old && list_all is_sealed_record stretches)
 
 -- the greatest number of two lists in turn
 greatest_more : (g : Option ℕ) (a b : List (Stretch SealedLine))
@@ -97,14 +108,24 @@ greatest_more : (g : Option ℕ) (a b : List (Stretch SealedLine))
 greatest_more g [] b = refl
 greatest_more g (s ∷ a) b = greatest_more (greater_number g (sealed_number s.answer)) a b
 
+-- whether two facts hold in turn, or together
+all_more : (p a b : Bool) → ((p && a) && b) ≡ (p && (a && b))
+all_more true a b = refl
+all_more false a b = refl
+
+all_of_none : (p : Bool) → p ≡ (p && true)
+all_of_none true = refl
+all_of_none false = refl
+
 -- what is told in turn is told as one list
 pub keeps_laws : VisitorLaws HasKeptStretches
 keeps_laws = record {
-  nothing = λ p. record { prints = refl; greatest = refl; sound = λ e. (e, refl) };
+  nothing = λ p. record { prints = refl; greatest = refl; sealed = all_of_none (has_only_sealed p) };
   more = λ p q r a b h k. record {
     prints = k.prints ∙ h.prints;
     greatest = k.greatest ∙ (ap (λ g. greatest_number g b) h.greatest ∙ greatest_more (greatest_told p) a b);
-    sound = λ e. let f = k.sound e in let d = h.sound f.0 in
-        (d.0, list_all-append is_sealed_record a b ∙ (ap (λ x. x && list_all is_sealed_record b) d.1 ∙ f.1));
+    sealed = k.sealed ∙ (ap (λ x. x && list_all is_sealed_record b) h.sealed
+        ∙ (all_more (has_only_sealed p) (list_all is_sealed_record a) (list_all is_sealed_record b)
+        ∙ ap (λ x. has_only_sealed p && x) (sym (list_all-append is_sealed_record a b))));
   };
 }

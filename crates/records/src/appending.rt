@@ -1,9 +1,10 @@
 //! Appending lines to a log.
-ghost use Rattle.std.specs.Prelude.{◌≡◌, ◌⊎◌, ◌<◌, ◌≤◌, [], ◌∷◌, if◌then◌else◌, false, IfOk, IfErr};
+ghost use Rattle.std.specs.Prelude.{◌≡◌, ◌⊎◌, ◌<◌, ◌≤◌, ◌-◌, ◌^◌, ℕ, [], ◌∷◌, true, false, OnOk, IfOk, IfErr};
 ghost use Rattle.line_io.specs.Device.{Wrote};
 ghost use Rattle.journal.specs.Store.{Settles};
+ghost use Rattle.journal.specs.Appending.{LogPlace};
 ghost use Rattle.journal.specs.Logs.{store_of, next_of, spent_of, log_place};
-ghost use Rattle.records.specs.Lines.{AppendsRecord, AppendsNone, OnAppended, OnLeftOut, IfStops};
+ghost use Rattle.records.specs.Lines.{AppendsRecord, AppendsNone, HasOneMore, AreAppended, IsGroupAt, IsSafeWithout, left_out_status, OnAppended, OnLeftOut, IfStops};
 ghost use Rattle.records.specs.Settling.{first_of, behind_of};
 ghost use Rattle.records.specs.Statuses.{IsFaultStatus};
 
@@ -21,7 +22,7 @@ use memchr::memchr;
 use sealed::Sealed;
 use std::alloc::Global;
 use std::fs::{File, TryLockError};
-use std::io::{self, BufRead, BufReader, BufWriter, ErrorKind, Write};
+use std::io::{self, BufRead, BufReader, BufWriter, ErrorKind, Read, Write};
 
 // How many bytes are asked for in one read of the input: lines that arrive in one read share a sync.
 const ROOM: usize = 65536;
@@ -88,6 +89,10 @@ fn settle<S: Store>(to: Target<'_>, journal: &mut Journal<S, MOST>, group: Group
     ensures failed { IfOk result (λ status. 0 < status → IsFaultStatus status) }
     ensures settled { IfOk result (λ status. status ≡ 0 → (first_of group ≡ behind_of group)
         ⊎ Settles (S.line (store_of journal.new)).told (S.settled (store_of journal.new))) }
+    ensures empty { first_of group ≡ behind_of group
+        → store_of journal.new ≡ store_of journal.old }
+    ensures quiet { IfOk result (λ status. status ≡ 0
+        → (S.line (store_of journal.new)).faults ≡ (S.line (store_of journal.old)).faults) }
     ensures held { (S.line (store_of journal.new)).told ≡ (S.line (store_of journal.old)).told }
     ensures no_less { S.settled (store_of journal.old) ≤ S.settled (store_of journal.new) }
     ensures next { next_of journal.new ≡ next_of journal.old }
@@ -230,6 +235,11 @@ fn append_text<S: Store>(
         (log_place S.line S.settled journal.new)) }
     ensures failed { IfStops result (λ status. IsFaultStatus status) }
     ensures settled { S.settled (store_of journal.new) ≡ S.settled (store_of journal.old) }
+    ensures one { OnAppended result (HasOneMore (log_place S.line S.settled journal.old)
+        (log_place S.line S.settled journal.new)) }
+    ensures next { OnLeftOut result (next_of journal.new ≡ next_of journal.old) }
+    ensures first { first_of group.new ≡ first_of group.old }
+    ensures behind { OnAppended result (behind_of group.new ≡ next_of journal.new) }
 {
     let entry = Sealed((journal.next(), text));
     match group.append(journal, &entry) {
@@ -260,6 +270,11 @@ fn append_next<R: BufRead, S: Store>(
         (log_place S.line S.settled journal.new)) }
     ensures failed { IfStops result (λ status. IsFaultStatus status) }
     ensures settled { S.settled (store_of journal.new) ≡ S.settled (store_of journal.old) }
+    ensures one { OnAppended result (HasOneMore (log_place S.line S.settled journal.old)
+        (log_place S.line S.settled journal.new)) }
+    ensures next { OnLeftOut result (next_of journal.new ≡ next_of journal.old) }
+    ensures first { first_of group.new ≡ first_of group.old }
+    ensures behind { OnAppended result (behind_of group.new ≡ next_of journal.new) }
 {
     match next_text(to.rt, input, line) {
         Ok(Some(Some(text))) => append_text(to, journal, group, text, line),
@@ -274,39 +289,131 @@ fn append_next<R: BufRead, S: Store>(
 
 // The status at the end of the input: whether a line was left out.
 fn status_by(left_out: bool) -> u8
-    ensures { result ≡ (if left_out then 1 else 0) }
+    ensures { result ≡ left_out_status left_out }
 {
     if left_out { 1 } else { 0 }
 }
 
-// Appends each line of standard input but those that are too long. The log is synced, and the numbers are printed, before a read that
-// may wait: so lines that are there already share a sync.
-fn append_lines<S: Store + Drop>(to: Target<'_>, journal: Journal<S, MOST>) -> io::Result<u8>
-    ensures { IfOk result (λ status. status < 2 ⊎ IsFaultStatus status) }
+// Appends the next line of the input and counts it, and keeps whether one was left out. Returns whether the input has ended, or the
+// status if appending stops.
+fn append_counted<R: BufRead, S: Store>(
+    to: Target<'_>,
+    input: &mut R,
+    journal: &mut Journal<S, MOST>,
+    group: &mut Group,
+    lines: &mut u64,
+    left_out: &mut bool,
+) -> Result<bool, u8>
+    requires { lines.old < 2 ^ 64 - 1 }
+    ensures counted { OnOk result ((start : LogPlace) (before : ℕ)
+        → AreAppended start (log_place S.line S.settled journal.old) before lines.old
+        (left_out_status left_out.old)
+        → AreAppended start (log_place S.line S.settled journal.new) before lines.new
+        (left_out_status left_out.new)) }
+    ensures group { OnOk result (IsGroupAt group.old (log_place S.line S.settled journal.old)
+        → IsGroupAt group.new (log_place S.line S.settled journal.new)) }
+    ensures safe { OnOk result (IsGroupAt group.old (log_place S.line S.settled journal.old)
+        → IsSafeWithout group.old (log_place S.line S.settled journal.old)
+        → IsSafeWithout group.new (log_place S.line S.settled journal.new)) }
+    ensures on { IfOk result (λ is_ended. is_ended ≡ false → lines.old < lines.new) }
+    ensures failed { IfErr result (λ status. IsFaultStatus status) }
+{
+    match append_next(to, input, journal, group, *lines + 1) {
+        Next::Appended => {
+            *lines += 1;
+            Ok(false)
+        }
+        Next::LeftOut => {
+            *lines += 1;
+            *left_out = true;
+            Ok(false)
+        }
+        Next::Ended => Ok(true),
+        Next::Failed(failed) => Err(failed),
+    }
+}
+
+// Syncs what was appended, and prints its numbers, if that is due: then the group is empty. Returns the status.
+fn settle_if<S: Store>(
+    to: Target<'_>,
+    journal: &mut Journal<S, MOST>,
+    group: &mut Group,
+    is_due: bool,
+) -> io::Result<u8>
+    ensures counted { IfOk result (λ status. status ≡ 0
+        → (start : LogPlace) (before lines left_out : ℕ)
+        → AreAppended start (log_place S.line S.settled journal.old) before lines left_out
+        → AreAppended start (log_place S.line S.settled journal.new) before lines left_out) }
+    ensures group { IfOk result (λ status. status ≡ 0
+        → IsGroupAt group.old (log_place S.line S.settled journal.old)
+        → IsGroupAt group.new (log_place S.line S.settled journal.new)) }
+    ensures safe { IfOk result (λ status. status ≡ 0
+        → IsSafeWithout group.old (log_place S.line S.settled journal.old)
+        → IsSafeWithout group.new (log_place S.line S.settled journal.new)) }
+    ensures settled { IfOk result (λ status. status ≡ 0 → is_due ≡ true
+        → IsSafeWithout group.old (log_place S.line S.settled journal.old)
+        → Settles (S.line (store_of journal.new)).told (S.settled (store_of journal.new))) }
+    ensures failed { IfOk result (λ status. 0 < status → IsFaultStatus status) }
+{
+    if !is_due {
+        return Ok(0);
+    }
+    let status = settle(to, journal, *group)?;
+    *group = Group::new(journal);
+    Ok(status)
+}
+
+// Appends each line of the input but those that are too long, and counts the lines. The log is synced, and the numbers are printed,
+// before a read that may wait: so lines that are there already share a sync. Returns the status, and leaves the group of the records
+// whose numbers may still be printed.
+fn append_lines<R: Read, S: Store>(
+    to: Target<'_>,
+    input: &mut BufReader<R>,
+    journal: &mut Journal<S, MOST>,
+    group: &mut Group,
+    lines: &mut u64,
+) -> io::Result<u8>
+    ensures appended { IfOk result (λ status. status < 2 → AreAppended
+        (log_place S.line S.settled journal.old) (log_place S.line S.settled journal.new)
+        lines.old lines.new status) }
+    ensures settled { IfOk result (λ status. status < 2
+        → Settles (S.line (store_of journal.old)).told (S.settled (store_of journal.old))
+        → Settles (S.line (store_of journal.new)).told (S.settled (store_of journal.new))) }
+    ensures failed { IfOk result (λ status. 1 < status → IsFaultStatus status) }
+{
+    *group = Group::new(journal);
+    let mut left_out = false;
+    while *lines < u64::MAX {
+        let is_ended = match append_counted(to, input, journal, group, lines, &mut left_out) {
+            Ok(is_ended) => is_ended,
+            Err(failed) => return Ok(failed),
+        };
+        if is_ended {
+            return match settle_if(to, journal, group, true)? {
+                0 => Ok(status_by(left_out)),
+                failed => Ok(failed),
+            };
+        }
+        let is_due = memchr(b'\n', input.buffer()).is_none();
+        match settle_if(to, journal, group, is_due)? {
+            0 => {}
+            failed => return Ok(failed),
+        }
+    }
+    Ok(say_failed(to.rt, INPUT, &"too many lines"))
+}
+
+// Appends each line of standard input but those that are too long. Returns the status.
+fn append_input<S: Store + Drop>(to: Target<'_>, journal: Journal<S, MOST>) -> io::Result<u8>
+    ensures { IfOk result (λ status. 1 < status → IsFaultStatus status) }
 {
     let Ok(mut input) = BufReader::with_capacity(to.rt.alloc(), ROOM, to.rt.reader()) else {
         return Ok(say_no_memory(to.rt, INPUT));
     };
     let mut journal = journal;
     let mut group = Group::new(&journal);
-    let mut left_out = false;
-    let mut line = 0u64;
-    for _ in 0..u64::MAX {
-        line = line.saturating_add(1);
-        match append_next(to, &mut input, &mut journal, &mut group, line) {
-            Next::Appended => {}
-            Next::LeftOut => left_out = true,
-            Next::Ended => return settle_last(to, journal, group, status_by(left_out)),
-            Next::Failed(failed) => return settle_last(to, journal, group, failed),
-        }
-        if memchr(b'\n', input.buffer()).is_none() {
-            match settle(to, &mut journal, group)? {
-                0 => group = Group::new(&journal),
-                failed => return Ok(failed),
-            }
-        }
-    }
-    Ok(status_by(left_out))
+    let status = append_lines(to, &mut input, &mut journal, &mut group, &mut 0)?;
+    settle_last(to, journal, group, status)
 }
 
 // Takes the lock of a log's file, or writes why that failed. Returns the status.
@@ -320,30 +427,49 @@ fn lock(rt: &HostRuntime, path: &str, file: &File) -> u8
     }
 }
 
+// Whether what is written to this stream goes into the log.
+fn is_stream(to: Target<'_>, stream: &str) -> bool {
+    matches!(to.identity.has_moved(to.rt, stream), Ok(false))
+}
+
+// Makes sure that nothing else is written into the log, and that its name survives a crash, or writes why not. Returns the status.
+// What comes between two records damages the next one: so a message that standard error is the log isn't written either.
+fn prepare(to: Target<'_>, file: &File) -> u8
+    ensures { 0 < result → IsFaultStatus result }
+{
+    if is_stream(to, "/dev/stderr") {
+        return 3;
+    }
+    if is_stream(to, "/dev/stdout") {
+        return say_failed(to.rt, to.path, &"standard output goes into it");
+    }
+    match lock(to.rt, to.path, file) {
+        // also for a file that has bytes: the name of a copy, or of what `repair` wrote, may not be on the disk yet
+        0 => sync_folder(to.rt, to.path),
+        failed => failed,
+    }
+}
+
 /// Appends each line of standard input to a log that nobody else appends to, and prints its number once it is synced and the log's name
 /// still leads to it. Returns the status.
 pub fn append(rt: &HostRuntime, path: &str) -> io::Result<u8>
-    ensures { IfOk result (λ status. status < 2 ⊎ IsFaultStatus status) }
+    ensures { IfOk result (λ status. 1 < status → IsFaultStatus status) }
 {
     let file = match open_file(rt, path, true) {
         Ok(file) => file,
         Err(status) => return Ok(status),
     };
-    match lock(rt, path, &file) {
-        0 => {}
-        failed => return Ok(failed),
-    }
-    // also for a file that has bytes: the name of a copy, or of what `repair` wrote, may not be on the disk yet
-    match sync_folder(rt, path) {
-        0 => {}
-        failed => return Ok(failed),
-    }
     let identity = match Identity::of(&file) {
         Ok(identity) => identity,
         Err(e) => return Ok(say_error(rt, path, &e)),
     };
+    let to = Target { rt, path, identity };
+    match prepare(to, &file) {
+        0 => {}
+        failed => return Ok(failed),
+    }
     match open_log(rt, path, Stored::new(file)) {
-        Ok(journal) => append_lines(Target { rt, path, identity }, journal),
+        Ok(journal) => append_input(to, journal),
         Err(status) => Ok(status),
     }
 }

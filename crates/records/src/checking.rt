@@ -1,6 +1,10 @@
 //! Checking a log, and repairing one.
-ghost use Rattle.std.specs.Prelude.{◌≡◌, ◌↔◌, ◌⊎◌, ◌<◌, ◌==◌, ◌&&◌, not, is_some, true, false, None, [], ◌∷◌, IfOk, IfSome, OnOk, OnErr};
-ghost use Rattle.records.specs.Checking.{HasKeptStretches, keeps_laws, sealed_number, fault_word, greater_number, does_print, is_sound, greatest_told, is_sealed_record, MissesNone, IsSoundLog};
+ghost use Rattle.std.specs.Prelude.{◌≡◌, ◌↔◌, ◌<◌, ◌==◌, ◌&&◌, ℕ, is_some, true, false, None, List, [], ◌∷◌, IfOk, IfSome, OnOk, OnErr};
+ghost use Rattle.journal_scan.specs.Repairs.{IsRepaired};
+ghost use Rattle.journal_scan.specs.Scanning.{told_with_zero};
+ghost use Rattle.journal_scan.specs.Tallies.{IsTally, AreMissing};
+ghost use Rattle.journal_scan.specs.declared.repairing.Repaired.{Repaired};
+ghost use Rattle.records.specs.Checking.{HasKeptStretches, keeps_laws, sealed_number, fault_word, greater_number, does_print, has_only_sealed, greatest_told, is_sealed_record, AreEachOnce, IsSoundLog, HasOneReading};
 ghost use Rattle.records.specs.Statuses.{IsFaultStatus, check_status};
 
 use crate::entries::{
@@ -94,11 +98,12 @@ struct Printing<'a> {
     at: u64,
 }
 
-/// Prints the damage of a log as it is reported, or nothing; and keeps whether there was any, and the greatest number that counts.
+/// Prints the damage of a log as it is reported, or nothing; and keeps whether each stretch was a record with the sealed number, and
+/// the greatest number that counts. Which numbers come again or are missing, the tally of the check says.
 #[derive(Drop)]
 pub struct Printer<'a> {
     to: Option<Printing<'a>>,
-    sound: bool,
+    only_sealed: bool,
     greatest: Option<u64>,
 }
 
@@ -106,7 +111,7 @@ impl<'a> Printer<'a> {
     /// Prints to standard output, and shows the progress.
     fn new(rt: &'a HostRuntime) -> Printer<'a>
         ensures prints { does_print result ≡ true }
-        ensures sound { is_sound result ≡ true }
+        ensures sealed { has_only_sealed result ≡ true }
         ensures greatest { greatest_told result ≡ None }
     {
         Printer {
@@ -116,7 +121,7 @@ impl<'a> Printer<'a> {
                 progress: Progress::new(rt),
                 at: 0,
             }),
-            sound: true,
+            only_sealed: true,
             greatest: None,
         }
     }
@@ -124,19 +129,19 @@ impl<'a> Printer<'a> {
     /// Prints nothing.
     pub fn silent() -> Printer<'a>
         ensures prints { does_print result ≡ false }
-        ensures sound { is_sound result ≡ true }
+        ensures sealed { has_only_sealed result ≡ true }
         ensures greatest { greatest_told result ≡ None }
     {
         Printer {
             to: None,
-            sound: true,
+            only_sealed: true,
             greatest: None,
         }
     }
 
     // Takes the progress away.
     fn end(&mut self)
-        ensures sound { is_sound self.new ≡ is_sound self.old }
+        ensures sealed { has_only_sealed self.new ≡ has_only_sealed self.old }
         ensures greatest { greatest_told self.new ≡ greatest_told self.old }
     {
         if let Some(to) = &mut self.to {
@@ -147,7 +152,7 @@ impl<'a> Printer<'a> {
     // Shows how far the check is: it is at the end of a stretch.
     fn step(&mut self, at: u64)
         ensures prints { does_print self.new ≡ does_print self.old }
-        ensures sound { is_sound self.new ≡ is_sound self.old }
+        ensures sealed { has_only_sealed self.new ≡ has_only_sealed self.old }
         ensures greatest { greatest_told self.new ≡ greatest_told self.old }
     {
         if let Some(to) = &mut self.to {
@@ -161,18 +166,16 @@ impl<'a> Printer<'a> {
         ensures prints { does_print self.new ≡ does_print self.old }
         ensures greatest { greatest_told self.new
             ≡ greater_number (greatest_told self.old) (sealed_number answer.now) }
-        ensures sound { is_sound self.new ≡ (is_sound self.old
-            && (is_some (sealed_number answer.now) && not again)) }
+        ensures sealed { has_only_sealed self.new
+            ≡ (has_only_sealed self.old && is_some (sealed_number answer.now)) }
         ensures good { result ≡ None ↔ ((is_some (sealed_number answer.now) ≡ true)
             × (again ≡ false)) }
         ensures word { IfSome result (λ what. what.now ≡ fault_word answer.now) }
     {
-        self.greatest = greater(self.greatest, number_of(answer));
-        let what = held_against(answer, again);
-        if what.is_some() {
-            self.sound = false;
-        }
-        what
+        let number = number_of(answer);
+        self.only_sealed = self.only_sealed && number.is_some();
+        self.greatest = greater(self.greatest, number);
+        held_against(answer, again)
     }
 }
 
@@ -196,8 +199,8 @@ impl Watcher<Entry> for Printer<'_> {
     fn tell(&mut self, stretch: Stretch<Entry>, again: bool) -> Result<(), Halt>
         ensures told { OnOk result (HasKeptStretches self.old (stretch ∷ []) self.new) }
         ensures halts { OnErr result (does_print self.old ≡ true) }
-        ensures sound { is_sound self.new ≡ (is_sound self.old
-            && (is_sealed_record stretch && not again)) }
+        ensures sealed { has_only_sealed self.new
+            ≡ (has_only_sealed self.old && is_sealed_record stretch) }
     {
         self.step(stretch.to);
         let Some(what) = self.keep(&stretch.answer, again) else {
@@ -237,7 +240,8 @@ fn print_counted(rt: &HostRuntime, records: u64, greatest: Option<u64>) -> io::R
 
 // Whether no number is missing.
 fn misses_none(tally: &Tally) -> bool
-    ensures { result ≡ true → MissesNone tally.now }
+    ensures { (numbers : List ℕ) → IsTally numbers tally.now
+        → (result ≡ true) ↔ AreMissing numbers [] }
 {
     match tally.missing().next() {
         Some(_) => false,
@@ -245,17 +249,36 @@ fn misses_none(tally: &Tally) -> bool
     }
 }
 
+// Whether each number was counted once, up to the greatest.
+fn counts_each_once(tally: &Tally) -> bool
+    ensures { (numbers : List ℕ) → IsTally numbers tally.now
+        → (result ≡ true) ↔ AreEachOnce numbers }
+{
+    misses_none(tally) && tally.counted() == tally.next()
+}
+
+// Whether nothing is wrong with a log, all of whose stretches but the unfinished one may be records with the sealed numbers.
+fn is_sound(report: &Report<Entry>, only_sealed: bool) -> bool
+    ensures { (numbers : List ℕ) → IsTally numbers report.now.tally → (result ≡ true)
+        ↔ ((only_sealed ≡ true) × (report.now.unfinished ≡ None) × AreEachOnce numbers) }
+{
+    match &report.unfinished {
+        Some(_) => false,
+        None => only_sealed && counts_each_once(&report.tally),
+    }
+}
+
 // Prints the damage of the log as a whole, and how many records it has. Returns the status.
 fn sum_up(
     rt: &HostRuntime,
     report: &Report<Entry>,
-    sound: bool,
+    only_sealed: bool,
     greatest: Option<u64>,
 ) -> io::Result<u8>
-    ensures sound { IfOk result (λ status. status ≡ 0 → (sound ≡ true)
-        × (report.now.unfinished ≡ None) × MissesNone report.now.tally) }
-    ensures damaged { IfOk result (λ status. 0 < status → status ≡ 1) }
-    ensures unsound { IfOk result (λ status. sound ≡ false → status ≡ 1) }
+    ensures sound { IfOk result (λ status. (numbers : List ℕ) → IsTally numbers report.now.tally
+        → (status ≡ 0) ↔ ((only_sealed ≡ true) × (report.now.unfinished ≡ None)
+        × AreEachOnce numbers)) }
+    ensures status { IfOk result (λ status. status < 2) }
 {
     let colour = Colour::new(rt);
     if let Some(last) = &report.unfinished {
@@ -265,17 +288,32 @@ fn sum_up(
     }
     print_missing(rt, colour, &report.tally)?;
     print_counted(rt, report.tally.counted(), greatest)?;
-    let whole = report.unfinished.is_none() && misses_none(&report.tally);
-    if whole && sound { Ok(0) } else { Ok(1) }
+    if is_sound(report, only_sealed) {
+        Ok(0)
+    } else {
+        Ok(1)
+    }
 }
 
-fn check_in<S: Store>(rt: &HostRuntime, log: &str, store: &mut S) -> io::Result<u8>
-    ensures sound { IfOk result (λ status. status ≡ 0
-        → IfSome (S.line store.old).told
-        (λ bytes. IsSoundLog ⟦<Entry as Readable>⟧.form MOST bytes)) }
-    ensures held { (S.line store.new).told ≡ (S.line store.old).told }
-    ensures status { IfOk result (λ status. status < 2 ⊎ IsFaultStatus status) }
+// A log is read in one way. Does nothing: the contract is for the proof of `check_in`.
+fn one_reading()
+    ensures { HasOneReading ⟦<Entry as Readable>⟧.form MOST }
 {
+    cobs::laws::message_of_a_frame();
+    cobs::laws::frames_of_a_message();
+    postcard_tree::laws::short_is_a_spelling();
+}
+
+// Checks the log of a store, and prints what is wrong with it. Returns the status.
+fn check_in<S: Store>(rt: &HostRuntime, log: &str, store: &mut S) -> io::Result<u8>
+    ensures sound { IfOk result (λ status. status < 2 → IfSome (S.line store.old).told
+        (λ bytes. (status ≡ 0) ↔ IsSoundLog ⟦<Entry as Readable>⟧.form MOST bytes)) }
+    ensures failed { IfOk result (λ status. 1 < status → IsFaultStatus status) }
+    ensures quiet { IfOk result
+        (λ status. status < 2 → (S.line store.new).faults ≡ (S.line store.old).faults) }
+    ensures held { (S.line store.new).told ≡ (S.line store.old).told }
+{
+    one_reading();
     let mut printer = Printer::new(rt);
     let checked = journal_scan::check::<Entry, S, Printer<'_>>(
         rt.alloc(),
@@ -285,14 +323,14 @@ fn check_in<S: Store>(rt: &HostRuntime, log: &str, store: &mut S) -> io::Result<
     );
     printer.end();
     match checked {
-        Ok(report) => sum_up(rt, &report, printer.sound, printer.greatest),
+        Ok(report) => sum_up(rt, &report, printer.only_sealed, printer.greatest),
         Err(e) => Ok(status_at(rt, log, e)),
     }
 }
 
 /// Prints the damage of a log, the missing numbers and the count of records. Returns the status.
 pub fn check(rt: &HostRuntime, path: Option<&str>) -> io::Result<u8>
-    ensures { IfOk result (λ status. status < 2 ⊎ IsFaultStatus status) }
+    ensures { IfOk result (λ status. 1 < status → IsFaultStatus status) }
 {
     match path {
         Some(path) => match open_file(rt, path, false) {
@@ -307,7 +345,13 @@ pub fn check(rt: &HostRuntime, path: Option<&str>) -> io::Result<u8>
 }
 
 // Repairs a log into an empty one, and prints that.
-fn mend_to(rt: &HostRuntime, from: &mut MemoryStore, to: &mut MemoryStore) -> io::Result<u8> {
+fn mend_to(rt: &HostRuntime, from: &mut MemoryStore, to: &mut MemoryStore) -> io::Result<u8>
+    ensures repaired { IfOk result (λ status. status ≡ 0 → (r : Repaired)
+        × IsRepaired ⟦<Entry as Readable>⟧.form MOST
+        (told_with_zero (⟦<MemoryStore as Store>⟧.line from.old).told)
+        (⟦<MemoryStore as Store>⟧.line to.old) (⟦<MemoryStore as Store>⟧.line to.new) r) }
+    ensures failed { IfOk result (λ status. 0 < status → IsFaultStatus status) }
+{
     match journal_scan::repair::<Entry, MemoryStore, MemoryStore>(rt.alloc(), MOST, from, to) {
         Ok(repaired) => {
             if write_all(&mut Writes::new(rt.stdout()), to.bytes()).is_err() {
@@ -324,7 +368,9 @@ fn mend_to(rt: &HostRuntime, from: &mut MemoryStore, to: &mut MemoryStore) -> io
 }
 
 /// Repairs the log on standard input to standard output. Writes nothing unless all of it was read. Returns the status.
-pub fn mend(rt: &HostRuntime) -> io::Result<u8> {
+pub fn mend(rt: &HostRuntime) -> io::Result<u8>
+    ensures { IfOk result (λ status. 0 < status → IsFaultStatus status) }
+{
     match read_input(rt) {
         Ok(mut from) => mend_to(rt, &mut from, &mut MemoryStore::new(Vec::new(rt.alloc()))),
         Err(status) => Ok(status),

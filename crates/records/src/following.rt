@@ -1,6 +1,7 @@
 //! Following a log: printing it, and then what is appended to it.
-ghost use Rattle.std.specs.Prelude.{◌-◌, IsTrue};
+ghost use Rattle.std.specs.Prelude.{◌-◌, ◌<◌, IsTrue, IfOk, IfErr};
 ghost use Rattle.journal.specs.Store.{EndsBefore};
+ghost use Rattle.records.specs.Statuses.{IsFaultStatus};
 
 use crate::entries::{MOST, OUTPUT, open_file, say_error, say_failed, say_no_memory, status_of};
 use crate::naming::{Identity, MOVED};
@@ -81,7 +82,9 @@ fn look<S: Store>(
     scan: &mut Scan,
     store: &mut S,
     wanted: Wanted<'_>,
-) -> io::Result<Result<Seen, u8>> {
+) -> io::Result<Result<Seen, u8>>
+    ensures { IfOk result (λ seen. IfErr seen (λ status. IsFaultStatus status)) }
+{
     let rt = log.rt;
     let Ok(mut printed) = BufWriter::new(rt.alloc(), io::writer(rt)) else {
         return Ok(Err(say_no_memory(rt, OUTPUT)));
@@ -100,7 +103,9 @@ fn look<S: Store>(
 }
 
 // Writes that a log's name leads to another file, or to none, if it does. Returns the status.
-fn say_moved(log: Followed<'_>) -> u8 {
+fn say_moved(log: Followed<'_>) -> u8
+    ensures { 0 < result → IsFaultStatus result }
+{
     match log.identity.has_moved(log.rt, log.path) {
         Ok(false) => 0,
         Ok(true) => say_failed(log.rt, log.path, &MOVED),
@@ -114,7 +119,9 @@ fn follow_on<S: Store>(
     scan: &mut Scan,
     store: &mut S,
     wanted: Wanted<'_>,
-) -> io::Result<u8> {
+) -> io::Result<u8>
+    ensures { IfOk result (λ status. IsFaultStatus status) }
+{
     for _ in 0..u64::MAX {
         let seen = match look(log, scan, store, wanted)? {
             Ok(seen) => seen,
@@ -129,11 +136,13 @@ fn follow_on<S: Store>(
             return Ok(say_failed(log.rt, log.path, &what));
         }
     }
-    Ok(0)
+    Ok(say_failed(log.rt, log.path, &"looked at too often"))
 }
 
-/// Prints a log, and looks four times a second for what was appended to it. Returns the status.
-pub fn follow(rt: &HostRuntime, path: &str, wanted: Wanted<'_>) -> io::Result<u8> {
+/// Prints a log, and looks four times a second for what was appended to it. Returns the status, once that fails.
+pub fn follow(rt: &HostRuntime, path: &str, wanted: Wanted<'_>) -> io::Result<u8>
+    ensures { IfOk result (λ status. IsFaultStatus status) }
+{
     let file = match open_file(rt, path, false) {
         Ok(file) => file,
         Err(status) => return Ok(status),

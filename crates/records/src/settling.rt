@@ -88,6 +88,7 @@ impl Group {
         ensures untouched { Unless (numbered_by (next_of journal.old) result)
             (store_of journal.new ≡ store_of journal.old) }
         ensures first { first_of self.new ≡ first_of self.old }
+        ensures behind { OnOk result (behind_of self.new ≡ next_of journal.new) }
         ensures next { next_of journal.new
             ≡ next_after (next_of journal.old) (numbered_by (next_of journal.old) result) }
         ensures spent { spent_of journal.new
@@ -125,6 +126,8 @@ impl Group {
             (Settles (S.line (store_of journal.new)).told (S.settled (store_of journal.new))) }
         ensures cause { OnErr result ((spent_of journal.old ≡ true)
             ⊎ Failed (S.line (store_of journal.old)) (S.line (store_of journal.new))) }
+        ensures quiet { OnOk result
+            ((S.line (store_of journal.new)).faults ≡ (S.line (store_of journal.old)).faults) }
         ensures held { (S.line (store_of journal.new)).told
             ≡ (S.line (store_of journal.old)).told }
         ensures no_less { S.settled (store_of journal.old) ≤ S.settled (store_of journal.new) }

@@ -1,4 +1,7 @@
 //! Showing the records of a log.
+ghost use Rattle.std.specs.Prelude.{◌≡◌, ◌<◌, ℕ, List, length, Some, None, IfOk};
+ghost use Rattle.journal_scan.specs.Scanning.{IsScanning, offset_of};
+ghost use Rattle.records.specs.Statuses.{IsFaultStatus};
 
 use crate::entries::{Entry, INPUT, MOST, OUTPUT, open_file, read_input, say_no_memory, status_of};
 use crate::words::Wanted;
@@ -85,7 +88,14 @@ pub fn write_rest<S: Store, W: Write>(
     to: &mut W,
     wanted: Wanted<'_>,
     passed: &mut u64,
-) -> io::Result<Option<ScanError>> {
+) -> io::Result<Option<ScanError>>
+    ensures whole { IfOk result (λ stopped. stopped ≡ None → (limit : ℕ) (bytes : List ℕ)
+        → (S.line store.old).told ≡ Some bytes → IsScanning limit bytes scan.old
+        → IsScanning limit bytes scan.new × (offset_of scan.new ≡ length bytes)) }
+    ensures quiet { IfOk result (λ stopped. stopped ≡ None
+        → (S.line store.new).faults ≡ (S.line store.old).faults) }
+    ensures held { (S.line store.new).told ≡ (S.line store.old).told }
+{
     let alloc = rt.alloc();
     for _ in 0..u64::MAX {
         let from = scan.at();
@@ -109,7 +119,15 @@ fn show_rest<S: Store>(
     store: &mut S,
     wanted: Wanted<'_>,
     passed: &mut u64,
-) -> io::Result<u8> {
+) -> io::Result<u8>
+    ensures whole { IfOk result (λ status. status ≡ 0 → (limit : ℕ) (bytes : List ℕ)
+        → (S.line store.old).told ≡ Some bytes → IsScanning limit bytes scan.old
+        → IsScanning limit bytes scan.new × (offset_of scan.new ≡ length bytes)) }
+    ensures quiet { IfOk result (λ status. status ≡ 0
+        → (S.line store.new).faults ≡ (S.line store.old).faults) }
+    ensures held { (S.line store.new).told ≡ (S.line store.old).told }
+    ensures failed { IfOk result (λ status. 0 < status → IsFaultStatus status) }
+{
     let Ok(mut printed) = BufWriter::new(rt.alloc(), io::writer(rt)) else {
         return Ok(say_no_memory(rt, OUTPUT));
     };
@@ -123,7 +141,9 @@ fn show_rest<S: Store>(
 }
 
 // Prints what follows the last zero, if that is a record but for its zero, and is wanted.
-fn show_last(rt: &HostRuntime, scan: Scan, wanted: Wanted<'_>, passed: &mut u64) -> io::Result<u8> {
+fn show_last(rt: &HostRuntime, scan: Scan, wanted: Wanted<'_>, passed: &mut u64) -> io::Result<u8>
+    ensures { IfOk result (λ status. 0 < status → IsFaultStatus status) }
+{
     match scan.finish::<Entry>(rt.alloc()) {
         Ok(Some(stretch)) => {
             let answer = &stretch.answer;
@@ -142,7 +162,12 @@ fn show_from<S: Store>(
     store: &mut S,
     wanted: Wanted<'_>,
     passed: &mut u64,
-) -> io::Result<u8> {
+) -> io::Result<u8>
+    ensures quiet { IfOk result (λ status. status ≡ 0
+        → (S.line store.new).faults ≡ (S.line store.old).faults) }
+    ensures held { (S.line store.new).told ≡ (S.line store.old).told }
+    ensures failed { IfOk result (λ status. 0 < status → IsFaultStatus status) }
+{
     match Scan::new(rt.alloc(), MOST, 0) {
         Ok(mut scan) => match show_rest(rt, progress, &mut scan, store, wanted, passed) {
             Ok(0) => show_last(rt, scan, wanted, passed),
@@ -153,7 +178,12 @@ fn show_from<S: Store>(
 }
 
 // Shows a log. It is read twice if only the last records are wanted, so that none is kept.
-fn show_in<S: Store>(rt: &HostRuntime, store: &mut S, wanted: Wanted<'_>) -> io::Result<u8> {
+fn show_in<S: Store>(rt: &HostRuntime, store: &mut S, wanted: Wanted<'_>) -> io::Result<u8>
+    ensures quiet { IfOk result (λ status. status ≡ 0
+        → (S.line store.new).faults ≡ (S.line store.old).faults) }
+    ensures held { (S.line store.new).told ≡ (S.line store.old).told }
+    ensures failed { IfOk result (λ status. 0 < status → IsFaultStatus status) }
+{
     let mut passed = 0u64;
     let mut progress = Progress::new(rt);
     if let Some(last) = wanted.last {
@@ -168,7 +198,9 @@ fn show_in<S: Store>(rt: &HostRuntime, store: &mut S, wanted: Wanted<'_>) -> io:
 }
 
 /// Prints what is wanted of a log. Returns the status.
-pub fn show(rt: &HostRuntime, wanted: Wanted<'_>) -> io::Result<u8> {
+pub fn show(rt: &HostRuntime, wanted: Wanted<'_>) -> io::Result<u8>
+    ensures { IfOk result (λ status. 0 < status → IsFaultStatus status) }
+{
     match wanted.path {
         Some(path) => match open_file(rt, path, false) {
             Ok(file) => show_in(rt, &mut Stored::new(file), wanted),
