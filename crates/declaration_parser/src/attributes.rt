@@ -96,7 +96,6 @@ impl Tokens {
 
     /// The content of the marks after the first word. Between which they are is one to serde.
     pub fn held(&self, words: Words) -> Words {
-        let none = (Words::default(), words);
-        self.group(words.behind_first()).unwrap_or(none).0
+        self.group(words.behind_first()).unwrap_or_default().0
     }
 }

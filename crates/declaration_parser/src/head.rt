@@ -6,7 +6,7 @@ use crate::tokens::{Token, Tokens, Word, Words};
 
 /// What marks add up to.
 #[derive(Clone, Copy, Default, Drop)]
-pub struct Marking {
+pub struct Marking<'a> {
     pub marks: Marks,
     /// Those that comments make, and derives by their paths.
     pub sure: Marks,
@@ -18,32 +18,14 @@ pub struct Marking {
     pub is_conditional: bool,
     /// Whether derives alone mark.
     pub is_derived: bool,
-    /// The first comment of which a word marks nothing. Beside a derive that marks a comment may be a headline.
-    pub wrong: Option<Token>,
+    /// The line of the first comment of which a word marks nothing, and the word. Beside a derive that marks a comment may be a
+    /// headline.
+    pub wrong: Option<(usize, &'a str)>,
     /// A derive that is called otherwise than serde's, and so may send other bytes.
     pub other: Option<Token>,
 }
 
-/// The words after the colon of a comment that marks; without one it marks all.
-fn words_of(comment: &str) -> &str {
-    match comment.split_once(':') {
-        Some((_, words)) => words,
-        None => "Serialize, Deserialize",
-    }
-}
-
-/// The first word of a comment that marks nothing.
-pub fn wrong_word(comment: &str) -> Option<&str> {
-    for word in words_of(comment).split(',') {
-        match word.trim() {
-            "Serialize" | "Deserialize" => {}
-            wrong => return Some(wrong),
-        }
-    }
-    None
-}
-
-impl Marking {
+impl<'a> Marking<'a> {
     /// Adds what derives of these paths mark under a condition: all whose names begin as those of serde's traits.
     fn add_derived(&mut self, tokens: &Tokens, paths: Words, condition: Words) {
         let mut rest = paths;
@@ -72,14 +54,16 @@ impl Marking {
         }
     }
 
-    /// Adds what a comment marks, all if it has no words.
-    fn add_comment(&mut self, tokens: &Tokens, mark: Token) {
-        for word in words_of(tokens.text(mark.name)).split(',') {
+    /// Adds what a comment marks by the words after its colon, all if it has none.
+    fn add_comment(&mut self, tokens: &'a Tokens, mark: Token) {
+        let parts = tokens.text(mark.name).split_once(':');
+        let (_, words) = parts.unwrap_or(("", "Serialize, Deserialize"));
+        for word in words.split(',') {
             let is_written = match word.trim() {
                 "Serialize" => true,
                 "Deserialize" => false,
-                _ => {
-                    self.wrong = self.wrong.or(Some(mark));
+                wrong => {
+                    self.wrong = self.wrong.or(Some((mark.line, wrong)));
                     continue;
                 }
             };
@@ -90,7 +74,7 @@ impl Marking {
     }
 
     /// What attributes and comments mark.
-    pub fn of(tokens: &Tokens, attributes: Words) -> Marking {
+    pub fn of(tokens: &'a Tokens, attributes: Words) -> Marking<'a> {
         let mut marking = Marking {
             is_derived: true,
             ..Marking::default()

@@ -4,8 +4,8 @@ mod said;
 
 use crate::cursor::Cursor;
 use crate::declaration::{Body, Declaration, Field, Fields, Form, VariantOf};
-use crate::head::{Marking, wrong_word};
-use crate::items::{BODY, behind_public};
+use crate::head::Marking;
+use crate::items::{BODY, Item, behind_public};
 use crate::texts::is_listed;
 use crate::tokens::{NO_NAME, Name, Tokens, Word, Words};
 use crate::words::{
@@ -15,9 +15,6 @@ use crate::words::{
 use by_hand::Implemented;
 use std::alloc::Global;
 use std::collections::BTreeSet;
-
-/// What ends the type of a field.
-const ENDS: &[Word] = &[Word::Comma, Word::Greater, Word::Semicolon, Word::Equals];
 
 /// What declarations are read for.
 #[derive(Clone, Copy, Drop)]
@@ -43,20 +40,18 @@ pub struct Job<'a, 'b> {
 pub struct Parser<'a, 'b> {
     job: Job<'a, 'b>,
     /// What marks the declaration.
-    marking: Marking,
+    marking: Marking<'a>,
     /// What is read, and what is wrong with it.
     pub at: Cursor<'a>,
 }
 
 impl<'a, 'b> Parser<'a, 'b> {
     /// A parser of the words of a declaration, after the attributes and comments that mark it so.
-    pub fn new(job: Job<'a, 'b>, marking: Marking, head: Words, rest: Words) -> Self {
+    pub fn new(job: Job<'a, 'b>, marking: Marking<'a>, head: Words, rest: Words) -> Self {
         let mut at = Cursor::new(job.alloc, job.tokens, job.file, rest);
         at.line = job.tokens.last(head).line;
-        if let Some(mark) = marking.wrong
-            && let Some(word) = wrong_word(job.tokens.text(mark.name))
-        {
-            at.line = mark.line;
+        if let Some((line, word)) = marking.wrong {
+            at.line = line;
             at.wrong(&["`", word, NO_MARK]);
         }
         Parser { job, marking, at }
@@ -76,15 +71,13 @@ impl<'a, 'b> Parser<'a, 'b> {
 
     /// Takes attributes, and gives all of them.
     fn attributes(&mut self) -> Words {
-        let begun = self.at.rest;
-        for _ in 0..begun.len() {
-            let Some((words, behind)) = self.at.tokens.attribute(self.at.rest) else {
-                break;
-            };
-            self.at.line = self.at.tokens.first(words).line;
-            self.at.rest = behind;
+        let (tokens, begun) = (self.at.tokens, self.at.rest);
+        self.at.rest = tokens.behind_attributes(begun);
+        let attributes = begun.before(self.at.rest);
+        if !attributes.is_empty() {
+            self.at.line = tokens.last(attributes).line;
         }
-        begun.before(self.at.rest)
+        attributes
     }
 
     /// Takes a name that may be written `r#name`, and isn't one that the implementations use, if it can't be.
@@ -126,13 +119,9 @@ impl<'a, 'b> Parser<'a, 'b> {
     /// Takes a field; nothing if it isn't sent.
     fn item(&mut self, place: usize, named: bool) -> Option<Field> {
         let is_written = self.at.variant != NO_NAME && self.marking.marks.written;
-        let most = if is_written {
-            MOST_OF_VARIANT
-        } else {
-            MOST_FIELDS
-        };
+        let is_most = place == MOST_FIELDS || (is_written && place == MOST_OF_VARIANT);
         self.refuse_in_code(
-            place == most,
+            is_most,
             &["more than 36 fields, or than 5 in a variant: make some of them a struct"],
         );
         let tokens = self.at.tokens;
@@ -146,16 +135,15 @@ impl<'a, 'b> Parser<'a, 'b> {
         self.at.field = Some((place, name));
         let said = self.said(attributes);
         let is_left_out = self.is_left_out(said);
-        let of = self.at.take_up_to(ENDS);
+        let ends = &[Word::Comma, Word::Greater, Word::Semicolon, Word::Equals];
+        let of = self.at.take_up_to(ends);
         if of.is_empty() {
             self.at.wrong(&["a type is wanted"]);
         } else {
             self.at.line = tokens.last(of).line;
         }
         self.pass_value();
-        if !self.at.is_wrong {
-            self.at.field = None;
-        }
+        self.at.field = None;
         let field = Field {
             place,
             name,
@@ -242,10 +230,11 @@ impl<'a, 'b> Parser<'a, 'b> {
         variants
     }
 
-    /// Takes the lifetimes and type parameters, and adds them to these, and those that are lengths to the others.
-    fn parameters(&mut self, parameters: &mut Vec<Name>, lengths: &mut Vec<Name>) {
+    /// Takes the lifetimes and type parameters, and gives them, and those that are lengths.
+    fn parameters(&mut self) -> (Vec<Name>, Vec<Name>) {
+        let (mut parameters, mut lengths) = (Vec::new(self.job.alloc), Vec::new(self.job.alloc));
         if !self.at.take(Word::Less) {
-            return;
+            return (parameters, lengths);
         }
         for _ in 0..self.at.rest.len() {
             if matches!(self.at.peek(), Word::Greater) {
@@ -258,15 +247,16 @@ impl<'a, 'b> Parser<'a, 'b> {
                 _ => self.name_of(false),
             };
             self.at.take_up_to(&[Word::Comma, Word::Greater]);
-            self.at.keep(parameters, name);
+            self.at.keep(&mut parameters, name);
             if is_length {
-                self.at.keep(lengths, name);
+                self.at.keep(&mut lengths, name);
             }
             if !self.at.take(Word::Comma) {
                 break;
             }
         }
         self.at.owe(Word::Greater, "`>` is wanted");
+        (parameters, lengths)
     }
 
     /// Takes `where` and gives its bounds, in which there may be lengths in braces, up to the fields or a semicolon.
@@ -294,8 +284,8 @@ impl<'a, 'b> Parser<'a, 'b> {
         Body::Struct(fields)
     }
 
-    /// Takes a declaration, after its attributes.
-    pub fn declaration(&mut self, attributes: Words) -> Declaration {
+    /// Takes a declaration, which an item is and which has these words, after its attributes.
+    pub fn declaration(&mut self, item: &Item, words: Words) -> Declaration {
         let tokens = self.at.tokens;
         self.at.rest = behind_public(tokens, self.at.rest);
         let kind = self.at.peek();
@@ -307,11 +297,9 @@ impl<'a, 'b> Parser<'a, 'b> {
         let begun = self.at.rest;
         let ends = &[Word::Where, Word::Paren, Word::Brace, Word::Semicolon];
         let generics = begun.before(tokens.type_up_to(begun, ends));
-        let mut parameters = Vec::new(self.job.alloc);
-        let mut lengths = Vec::new(self.job.alloc);
-        self.parameters(&mut parameters, &mut lengths);
+        let (parameters, lengths) = self.parameters();
         self.at.line = line;
-        let said = self.said(attributes);
+        let said = self.said(item.attributes);
         if let Some(derive) = self.marking.other {
             self.at.line = derive.line;
             self.at.refuse(derive.name, OTHER_DERIVE);
@@ -322,11 +310,11 @@ impl<'a, 'b> Parser<'a, 'b> {
         self.at.line = line;
         self.check_transparent(said, &body);
         Declaration {
-            attributes,
-            words: Words::default(),
+            attributes: item.attributes,
+            words,
             name: self.at.name,
             file: self.at.file,
-            item: 0,
+            item: item.place,
             line,
             parameters,
             lengths,

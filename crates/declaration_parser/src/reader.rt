@@ -11,6 +11,9 @@ use std::alloc::{AllocError, Global};
 use unicode_ident::is_xid_start;
 use unicode_normalization::to_nfc;
 
+/// Words of attributes, and derives. They are no words of the language, so that they are the same behind `r#`.
+const OF_ATTRIBUTES: &str = "Deserialize Serialize cfg cfg_attr derive path serde with";
+
 /// What is said of a mark in what is skipped.
 const INSIDE: &str = "` stands in a comment or a text, where it marks nothing: take it out\n";
 
@@ -41,20 +44,6 @@ fn behind_shebang(text: &str) -> &str {
 /// Whether Rust takes a character as a blank: also marks of the direction of writing.
 fn is_blank(character: char) -> bool {
     character.is_whitespace() || matches!(character, '\u{200e}' | '\u{200f}')
-}
-
-/// Whether a word is an attribute's, or a derive.
-fn is_of_attributes(word: Word) -> bool {
-    matches!(
-        word,
-        Word::Condition
-            | Word::Conditional
-            | Word::Derive
-            | Word::OfSerde
-            | Word::Path
-            | Word::Serde
-            | Word::With
-    )
 }
 
 fn first_line(text: &str) -> &str {
@@ -115,25 +104,13 @@ fn behind_text(text: &str, wanted: Option<usize>) -> Option<&str> {
     None
 }
 
-/// What follows the first `'` in a text, or the end of its first line.
-fn behind_quote(text: &str) -> &str {
-    let mut rest = text;
-    for _ in 0..text.len() {
-        let first = first_letter(rest);
-        rest = behind_one(rest);
-        if matches!(first, Some('\'' | '\n')) {
-            break;
-        }
-    }
-    rest
-}
-
-/// What follows the character or the lifetime that begins a text with `'`.
+/// What follows the character or the lifetime that begins a text with `'`. What is escaped ends with its line at the latest.
 fn behind_quoted(text: &str) -> &str {
     let inside = behind(text, 1);
     let second = behind_one(inside);
     if inside.starts_with('\\') {
-        behind_quote(behind_one(second))
+        let ended = behind_one(second).split_once(['\'', '\n']);
+        ended.unwrap_or_default().1
     } else if second.starts_with('\'') {
         behind_one(second)
     } else {
@@ -220,15 +197,13 @@ impl<'a> Reader<'a> {
         let Some((equals, words)) = way_of(comment) else {
             return;
         };
-        if !self.is_behind_code {
-            self.put_way(equals, words);
-        } else if !equals.is_empty() {
-            self.refuse(comment, ALMOST_WAY);
-            self.faults.put("\n");
+        if self.is_behind_code {
+            if !equals.is_empty() {
+                self.refuse(comment, ALMOST_WAY);
+                self.faults.put("\n");
+            }
+            return;
         }
-    }
-
-    fn put_way(&mut self, equals: &str, words: &str) {
         for word in ["#", "[", "with", equals, words, "]"] {
             if !word.is_empty() {
                 self.put(word, None, self.line);
@@ -324,8 +299,7 @@ impl<'a> Reader<'a> {
         };
         let first = first_letter(text).unwrap_or(' ');
         let word = match word {
-            // they are no words of the language, so that they are the same either way
-            Some(Word::Raw) if is_of_attributes(word_of(name)) => word_of(name),
+            Some(Word::Raw) if is_listed(text, OF_ATTRIBUTES) => word_of(name),
             Some(word) => word,
             None if first == '\'' && !text.ends_with('\'') => Word::Lifetime,
             None => word_of(name),
@@ -354,15 +328,14 @@ impl<'a> Reader<'a> {
 
     /// Appends a token. One that ends a group says in the one that begins it how many tokens there are.
     fn push(&mut self, token: Token) {
-        if matches!(token.word, Word::Close) {
-            self.drop_comma();
-        }
-        let place = self.tokens.all.len();
         match token.word {
             Word::Paren | Word::Bracket | Word::Brace => {
-                self.faults.note(self.open.push(place).is_err());
+                self.faults
+                    .note(self.open.push(self.tokens.all.len()).is_err());
             }
             Word::Close => {
+                self.drop_comma();
+                let place = self.tokens.all.len();
                 let first = self.open.pop().unwrap_or(place);
                 if let Some(token) = self.tokens.all.get_mut(first) {
                     token.span = place.saturating_sub(first).saturating_add(1);

@@ -168,9 +168,7 @@ impl Reading {
         let to = tokens.behind(body).from;
         let words = Words { from, to };
         let mut parser = Parser::new(job, marking, attributes, words);
-        let mut declaration = parser.declaration(attributes);
-        declaration.item = item.place;
-        declaration.words = words;
+        let mut declaration = parser.declaration(item, words);
         declaration.wrong = parser.at.faults.apart_from(&mut self.faults);
         self.keep(declaration);
     }

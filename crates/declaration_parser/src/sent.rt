@@ -6,17 +6,6 @@ const PRIMITIVE: &str = "bool char f32 f64 i8 i16 i32 i64 i128 isize str u8 u16 
 
 /// The names of those that aren't read, and the type to write.
 const SENT_AS: &[&str] = &[
-    "AtomicBool: bool",
-    "AtomicI8 NonZeroI8: i8",
-    "AtomicI16 NonZeroI16: i16",
-    "AtomicI32 NonZeroI32: i32",
-    "AtomicI64 NonZeroI64: i64",
-    "AtomicIsize NonZeroIsize: isize",
-    "AtomicU8 NonZeroU8: u8",
-    "AtomicU16 NonZeroU16: u16",
-    "AtomicU32 NonZeroU32: u32",
-    "AtomicU64 NonZeroU64: u64",
-    "AtomicUsize NonZeroUsize: usize",
     "Bound: enum Bound<T> { Unbounded, Included(T), Excluded(T) }",
     "CStr: &'a [u8]",
     "CString: Vec<u8>",
@@ -25,8 +14,6 @@ const SENT_AS: &[&str] = &[
     "Ipv4Addr: [u8; 4]",
     "Ipv6Addr: [u8; 16]",
     "NonZero: T",
-    "NonZeroI128: i128",
-    "NonZeroU128: u128",
     "OsString: enum OsString { Unix(Vec<u8>), Windows(Vec<u16>) }",
     "Path: &'a str",
     "PathBuf: String",
@@ -37,8 +24,14 @@ const SENT_AS: &[&str] = &[
     "SocketAddrV6: ([u8; 16], u16)",
 ];
 
-/// As what a type is sent that isn't read, if that is known.
+/// As what a type is sent that isn't read, if that is known. `AtomicU8` and `NonZeroU8` are sent as `u8`, others of these names likewise.
 pub fn sent_as(word: &str) -> Option<&'static str> {
+    let number = word.strip_prefix("Atomic").or(word.strip_prefix("NonZero"));
+    for known in PRIMITIVE.split_whitespace() {
+        if known.eq_ignore_ascii_case(number.unwrap_or("")) {
+            return Some(known);
+        }
+    }
     row_of(SENT_AS, word)
 }
 

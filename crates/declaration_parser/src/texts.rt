@@ -1,10 +1,7 @@
 //! Texts: letters, and lists of words with blanks between them.
-use unicode_ident::is_xid_continue;
 
 /// Whether a character can be in a word or a number.
-pub fn is_of_word(character: char) -> bool {
-    is_xid_continue(character)
-}
+pub use unicode_ident::is_xid_continue as is_of_word;
 
 /// The first letter of a word.
 pub fn first_letter(word: &str) -> Option<char> {

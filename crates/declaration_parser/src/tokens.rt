@@ -8,6 +8,7 @@ pub type Name = usize;
 /// The empty text.
 pub const NO_NAME: Name = 0;
 
+// Those of serde's derives, and of what a macro's rules hand on.
 pub const SERIALIZE: Name = 1;
 
 pub const DESERIALIZE: Name = 2;
@@ -195,18 +196,21 @@ impl Words {
         self.to.saturating_sub(self.from)
     }
 
+    /// What follows so many of them.
+    pub fn skip(self, count: usize) -> Words {
+        let from = self.from.saturating_add(count).min(self.to);
+        Words { from, ..self }
+    }
+
     /// What follows the first alone.
     pub fn behind_first(self) -> Words {
-        let from = self.from.saturating_add(1).min(self.to);
-        Words { from, ..self }
+        self.skip(1)
     }
 
     /// What precedes the last of these words, which are the rest.
     pub fn before(self, rest: Words) -> Words {
-        Words {
-            to: rest.from,
-            ..self
-        }
+        let to = rest.from;
+        Words { to, ..self }
     }
 }
 
@@ -241,10 +245,7 @@ impl Tokens {
 
     /// The name of a text that a file has; none if no file has it.
     pub fn found_name(&self, text: &str) -> Name {
-        match self.names.get(text) {
-            Some(name) => *name,
-            None => NO_NAME,
-        }
+        self.names.get(text).copied().unwrap_or(NO_NAME)
     }
 
     /// The text of a name.
@@ -275,25 +276,20 @@ impl Tokens {
 
     /// The token at a place.
     pub fn at(&self, place: usize) -> Token {
-        match self.all.get(place) {
-            Some(token) => *token,
-            None => Token::default(),
-        }
-    }
-
-    /// The token after so many of these; none if there are fewer.
-    pub fn nth(&self, words: Words, count: usize) -> Token {
-        let place = words.from.saturating_add(count);
-        if place < words.to {
-            self.at(place)
-        } else {
-            Token::default()
-        }
+        self.all.get(place).copied().unwrap_or_default()
     }
 
     /// The first of these; none if there is none.
     pub fn first(&self, words: Words) -> Token {
-        self.nth(words, 0)
+        if words.is_empty() {
+            return Token::default();
+        }
+        self.at(words.from)
+    }
+
+    /// The token after so many of these; none if there are fewer.
+    pub fn nth(&self, words: Words, count: usize) -> Token {
+        self.first(words.skip(count))
     }
 
     /// The last of these.
@@ -323,23 +319,13 @@ impl Tokens {
         if span < 2 {
             return None;
         }
-        let close = words.from.saturating_add(span - 1).min(words.to);
-        let rest = Words {
-            from: close,
-            ..words
-        };
-        let inside = Words {
-            from: words.from.saturating_add(1),
-            to: close,
-        };
-        Some((inside, rest.behind_first()))
+        let close = words.skip(span - 1);
+        Some((words.behind_first().before(close), close.behind_first()))
     }
 
     /// What follows the first, or the group that it opens.
     pub fn behind(&self, words: Words) -> Words {
-        let span = self.first(words).span.max(1);
-        let from = words.from.saturating_add(span).min(words.to);
-        Words { from, ..words }
+        words.skip(self.first(words).span.max(1))
     }
 
     /// What begins with the first of these words that nothing encloses; nothing if none is there.

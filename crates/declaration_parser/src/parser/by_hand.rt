@@ -11,8 +11,6 @@ pub struct Implemented {
     names: Vec<Name>,
     /// Of each name whether it is such a one. If that of `$` is, macros implement the trait for what they are handed.
     types: Vec<bool>,
-    /// Whether something was found since this was last asked.
-    is_more: bool,
 }
 
 /// All names of one of serde's traits: its own, and those that a `use` gives it.
@@ -43,33 +41,36 @@ impl Implemented {
             name,
             names: names_of(alloc, name, tokens)?,
             types: vec![in alloc; false; tokens.texts.len()]?,
-            is_more: true,
         };
         for _ in &tokens.texts {
-            found.add_more(tokens);
+            if !found.add_more(tokens) {
+                break;
+            }
         }
         Ok(found)
     }
 
-    /// Adds the types that are found at each word, if there may be more.
-    fn add_more(&mut self, tokens: &Tokens) {
-        let to = if self.is_more { tokens.all.len() } else { 0 };
-        self.is_more = false;
+    /// Adds the types that are found at each word; whether there is one more.
+    fn add_more(&mut self, tokens: &Tokens) -> bool {
+        let to = tokens.all.len();
+        let mut is_more = false;
         for from in 0..to {
-            self.add(tokens, self.found_at(tokens, Words { from, to }));
+            let types = self.found_at(tokens, Words { from, to });
+            is_more = self.add(tokens, types) || is_more;
         }
+        is_more
     }
 
-    /// Adds these names of types.
-    fn add(&mut self, tokens: &Tokens, types: Words) {
+    /// Adds these names of types; whether one is new.
+    fn add(&mut self, tokens: &Tokens, types: Words) -> bool {
+        let mut is_more = false;
         for place in types.from..types.to {
-            if let Some(it) = self.types.get_mut(tokens.at(place).name)
-                && !*it
-            {
+            if let Some(it) = self.types.get_mut(tokens.at(place).name) {
+                is_more = is_more || !*it;
                 *it = true;
-                self.is_more = true;
             }
         }
+        is_more
     }
 
     /// Names of types that words say: another one of a type that was found, what a macro is handed, or what an `impl` is for.

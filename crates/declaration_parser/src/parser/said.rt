@@ -20,12 +20,6 @@ pub(super) struct Said {
     pub(super) layout: Layout,
 }
 
-/// What precedes the name of a type of these files.
-const OWN: &[Word] = &[Word::Struct, Word::Enum, Word::Alias, Word::As];
-
-/// The ways of arrays.
-const ARRAYS: &str = "BigArray serde_big_array::BigArray serde_arrays";
-
 /// How the bytes of a field are arranged, by the way that `with` names.
 fn layout_of(way: &str) -> Option<Layout> {
     let way = way.trim_matches('"');
@@ -33,7 +27,7 @@ fn layout_of(way: &str) -> Option<Layout> {
         "postcard::fixint::le" => Some(Layout::Little),
         "postcard::fixint::be" => Some(Layout::Big),
         "serde_bytes" => Some(Layout::Buffer),
-        way if is_listed(way, ARRAYS) => Some(Layout::Array),
+        "BigArray" | "serde_big_array::BigArray" | "serde_arrays" => Some(Layout::Array),
         _ => None,
     }
 }
@@ -41,11 +35,12 @@ fn layout_of(way: &str) -> Option<Layout> {
 /// How many of these fields a transparent type sends, as serde sees it: by the names of their types. One of these files called
 /// `PhantomData` counts too, since serde leaves it out.
 fn sent_of(tokens: &Tokens, fields: &[Field]) -> usize {
+    let declares = &[Word::Struct, Word::Enum, Word::Alias, Word::As];
     let mut count: usize = 0;
     for field in fields {
         let path = field.of.before(tokens.up_to(field.of, &[Word::Less]));
         let name = tokens.last(path).name;
-        if tokens.text(name) != "PhantomData" || tokens.follows(name, OWN) {
+        if tokens.text(name) != "PhantomData" || tokens.follows(name, declares) {
             count = count.saturating_add(1);
         }
     }
