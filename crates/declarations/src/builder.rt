@@ -200,16 +200,6 @@ impl<'a> Builder<'a> {
         self.words.push(names, text);
     }
 
-    /// Whether a type has parameters that are no lifetimes.
-    fn has_parameters(&self, it: &Declaration) -> bool {
-        for name in &it.parameters {
-            if !self.tokens.text(*name).starts_with('\'') {
-                return true;
-            }
-        }
-        false
-    }
-
     /// Gives the place of the type that words say which are asked for. Without words it begins the table with all declared types
     /// without parameters, and says what is wrong with the files, which `faults` says, and with the other types.
     pub fn begin(&mut self, words: Option<Words>, faults: &str) -> usize {
@@ -218,7 +208,10 @@ impl<'a> Builder<'a> {
         }
         self.words.faults.put(faults);
         for (index, it) in self.all.iter().enumerate() {
-            if self.has_parameters(it) {
+            // lifetimes precede other parameters
+            if let Some(last) = it.parameters.last()
+                && !self.tokens.text(*last).starts_with('\'')
+            {
                 self.is_refused(it);
                 continue;
             }
@@ -260,17 +253,20 @@ impl<'a> Builder<'a> {
             ]);
         } else if is_second {
             self.wrong(&["the file declares this name twice: leave out what isn't on the wire"]);
-        } else if it.is_by_use(SERIALIZE) && self.names.has_other_derive(scope, SERIALIZE) {
-            self.refuse(SERIALIZE, OF_OTHER_CRATE);
-        } else if it.is_by_use(DESERIALIZE) && self.names.has_other_derive(scope, DESERIALIZE) {
-            self.refuse(DESERIALIZE, OF_OTHER_CRATE);
-        } else {
-            let (node, names) = match &it.body {
-                Body::Struct(fields) => self.group(fields, depth),
-                Body::Enum(variants) => self.choice(variants, depth),
-            };
-            self.put(place, node, names);
         }
+        for derive in [SERIALIZE, DESERIALIZE] {
+            if it.is_by_use(derive) && self.names.has_other_derive(scope, derive) {
+                self.refuse(derive, OF_OTHER_CRATE);
+            }
+        }
+        if self.words.is_wrong {
+            return;
+        }
+        let (node, names) = match &it.body {
+            Body::Struct(fields) => self.group(fields, depth),
+            Body::Enum(variants) => self.choice(variants, depth),
+        };
+        self.put(place, node, names);
     }
 
     /// A struct of these fields.

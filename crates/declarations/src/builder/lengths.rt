@@ -37,8 +37,11 @@ struct Number {
     most: u64,
 }
 
-/// What waits for its second number: a product, a sum and a shift, by their operators and first numbers.
-type Waiting = [Option<(char, Number)>; 3];
+/// How many kinds of operators there are: those of products, of sums and of shifts. Each kind binds tighter than the next.
+const KINDS: usize = 3;
+
+/// A number, and the words after it; nothing if words are none.
+type Computed = Option<(Number, Words)>;
 
 /// What a type of numbers has at most, and how many bits: 0 if devices differ.
 fn width_of(word: &str) -> Option<(u64, u64)> {
@@ -55,7 +58,7 @@ fn number_of(value: u64, most: u64) -> Option<Number> {
     (value <= most).then_some(Number { value, most })
 }
 
-/// The operator at the start of words, its place among what waits, and the words after it.
+/// The operator at the start of words, the place of its kind, and the words after it.
 fn operator_at(tokens: &Tokens, words: Words) -> Option<(char, usize, Words)> {
     let (first, rest) = (tokens.first(words).name, words.behind_first());
     let is_double = tokens.first(rest).name == first;
@@ -66,17 +69,6 @@ fn operator_at(tokens: &Tokens, words: Words) -> Option<(char, usize, Words)> {
         '<' | '>' if is_double => Some((operator, 2, rest.behind_first())),
         _ => None,
     }
-}
-
-/// What a number completes of what waits up to a place.
-fn completed(waiting: &mut Waiting, place: usize, number: Number) -> Option<Number> {
-    let mut number = number;
-    for it in waiting.iter_mut().take(place.saturating_add(1)) {
-        if let Some((operator, first)) = it.take() {
-            number = computed_of(operator, first, number)?;
-        }
-    }
-    Some(number)
 }
 
 /// What an operator makes of two numbers, if their type has that. What a shift is by has a type of its own.
@@ -131,13 +123,13 @@ impl Builder<'_> {
     pub(super) fn length(&mut self, words: Words) -> u64 {
         self.left = MOST_NUMBERS;
         self.doubt = (NO_NAME, "");
-        let number = self.value(words, self.at, GREATEST, DEEPEST);
+        let number = self.value(words, self.at, GREATEST, KINDS, DEEPEST);
         let first = self.tokens.first(words);
         if !words.is_empty() {
             self.words.line = first.line;
         }
         match (number, self.doubt) {
-            (Some(number), _) => return number.value,
+            (Some((number, _)), _) => return number.value,
             (None, (NO_NAME, _)) if words.len() == 1 => self.refuse(
                 first.name,
                 "` is no length: write a number of at most 4294967295",
@@ -150,45 +142,41 @@ impl Builder<'_> {
         0
     }
 
-    /// The number that all these words compute there, if numbers have at most so much which don't say their type.
+    /// The number that words compute there up to an operator that is of none of so many kinds, and the words after it. Numbers have
+    /// at most so much which don't say their type.
     #[cycle(lengths)]
-    fn value(&mut self, words: Words, at: Context, most: u64, depth: u32) -> Option<Number> {
-        let (mut rest, mut number) = (words, None);
-        let mut waiting = [None; 3];
-        for _ in words.from..words.to {
-            if rest.is_empty() {
-                break;
-            }
-            let Some(it) = number else {
-                let (it, behind) = self.operand(rest, at, most, depth)?;
-                (number, rest) = (Some(it), behind);
-                continue;
-            };
-            if self.tokens.front(rest) == Word::As {
-                let of = rest.behind_first();
-                number = number_of(it.value, self.width(self.tokens.first(of).name)?.0);
-                rest = of.behind_first();
-                continue;
-            }
-            let (operator, place, behind) = operator_at(self.tokens, rest)?;
-            let it = completed(&mut waiting, place, it)?;
-            if let Some(first) = waiting.get_mut(place) {
-                *first = Some((operator, it));
-            }
-            (number, rest) = (None, behind);
-        }
-        completed(&mut waiting, 2, number?)
-    }
-
-    /// The number at the start, of digits, by a name, or in marks, and the words after it.
-    #[cycle(lengths)]
-    fn operand(
+    fn value(
         &mut self,
         words: Words,
         at: Context,
         most: u64,
+        kinds: usize,
         depth: u32,
-    ) -> Option<(Number, Words)> {
+    ) -> Computed {
+        let (mut number, mut rest) = self.operand(words, at, most, depth)?;
+        for _ in words.from..words.to {
+            if rest.is_empty() {
+                break;
+            }
+            if self.tokens.front(rest) == Word::As {
+                let of = rest.behind_first();
+                number = number_of(number.value, self.width(self.tokens.first(of).name)?.0)?;
+                rest = of.behind_first();
+                continue;
+            }
+            let (operator, kind, behind) = operator_at(self.tokens, rest)?;
+            if kind >= kinds {
+                break;
+            }
+            let (second, behind) = self.value(behind, at, most, kind, depth)?;
+            (number, rest) = (computed_of(operator, number, second)?, behind);
+        }
+        Some((number, rest))
+    }
+
+    /// The number at the start, of digits, by a name, or in marks, and the words after it.
+    #[cycle(lengths)]
+    fn operand(&mut self, words: Words, at: Context, most: u64, depth: u32) -> Computed {
         self.left = self.left.checked_sub(1)?;
         let depth = depth.checked_sub(1)?;
         if let Some((inside, rest)) = self.tokens.group(words)
@@ -196,7 +184,7 @@ impl Builder<'_> {
         {
             // nothing may say their type there, so that they are of `i32`
             let most = most.min(0x7FFF_FFFF);
-            return Some((self.value(inside, at, most, depth)?, rest));
+            return Some((self.value(inside, at, most, KINDS, depth)?.0, rest));
         }
         if let Some(number) = literal(self.tokens.first_text(words), most) {
             return Some((number, words.behind_first()));
@@ -214,7 +202,7 @@ impl Builder<'_> {
             return None;
         }
         let (words, at, most) = self.constant(at, &path, last)?;
-        let number = self.value(words, at, most, depth)?;
+        let (number, _) = self.value(words, at, most, KINDS, depth)?;
         Some((number_of(number.value, most)?, rest))
     }
 

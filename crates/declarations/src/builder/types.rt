@@ -32,10 +32,6 @@ const HANDED: &str =
 const CANNOT_BE_SENT: &str =
     "` begins a type that postcard can't send: leave the field out, or write the type that is on the wire";
 
-const LEFT_OUT: &str = "` is left out, and defaults aren't followed: write it";
-
-const MORE: &str = "` is an argument too many: leave it out";
-
 const BEHIND: &str = "` can't follow a type: leave it out, or write the type that is on the wire";
 
 const NO_ARGUMENTS: &str =
@@ -225,22 +221,11 @@ impl<'a> Builder<'a> {
         if self.words.is_wrong {
             return Said::Place(NOWHERE);
         }
-        // no declaration is there
-        let (index, place, depth) = (self.all.len().saturating_add(words.from), NOWHERE, 0);
-        let mut own = self.own_of(index, &given);
-        if own == NOWHERE && !given.is_empty() {
-            own = self.made.len();
-            let of = given;
-            self.words.push(
-                &mut self.made,
-                Made {
-                    index,
-                    of,
-                    place,
-                    depth,
-                },
-            );
-        }
+        let own = match given.is_empty() {
+            true => NOWHERE,
+            // no declaration is there
+            false => self.own_of(self.all.len().saturating_add(words.from), given, 0),
+        };
         Said::Other(of.behind_first(), Context { scope, own })
     }
 
@@ -394,19 +379,23 @@ impl<'a> Builder<'a> {
                 continue;
             }
             let Some(words) = rest.next() else {
-                self.refuse(*name, LEFT_OUT);
+                self.refuse(
+                    *name,
+                    "` is left out, and defaults aren't followed: write it",
+                );
                 break;
             };
             let it = self.given_by(*name, lengths.contains(name), *words);
             self.words.push(&mut given, it);
         }
         if let Some(words) = rest.next() {
-            self.refuse(self.tokens.first(*words).name, MORE);
+            let first = self.tokens.first(*words).name;
+            self.refuse(first, "` is an argument too many: leave it out");
         }
         given
     }
 
-    /// The place of a declared type, with what is in angle brackets after it. It is made later, and until then can't be read.
+    /// The place of a declared type, with what is in angle brackets after it.
     pub(super) fn instance(&mut self, index: usize, depth: u32) -> usize {
         let Some(it) = self.all.get(index) else {
             return NOWHERE;
@@ -415,11 +404,27 @@ impl<'a> Builder<'a> {
         if self.words.is_wrong {
             return NOWHERE;
         }
-        if let Some(made) = self.made.get(self.own_of(index, &of)) {
-            return made.place;
-        }
-        let place = self.add(Node::Option(NOWHERE), Names::Nothing);
         let depth = if of.is_empty() { DEEPEST } else { depth };
+        let own = self.own_of(index, of, depth);
+        match self.made.get(own) {
+            Some(made) => made.place,
+            None => NOWHERE,
+        }
+    }
+
+    /// Which of those that are made this one is, with the same words for its parameters. A new one is made later, and until then
+    /// can't be read.
+    fn own_of(&mut self, index: usize, of: Vec<Given>, depth: u32) -> usize {
+        let own = self.made.len();
+        for (own, made) in self.made.iter().enumerate() {
+            if made.index == index && self.are_same(&made.of, &of) {
+                return own;
+            }
+        }
+        let place = match self.all.get(index) {
+            Some(_) => self.add(Node::Option(NOWHERE), Names::Nothing),
+            None => NOWHERE,
+        };
         let made = Made {
             index,
             of,
@@ -427,17 +432,7 @@ impl<'a> Builder<'a> {
             depth,
         };
         self.words.push(&mut self.made, made);
-        place
-    }
-
-    /// Which of those that are made this one is, with the same words for its parameters.
-    fn own_of(&self, index: usize, of: &[Given]) -> usize {
-        for (own, made) in self.made.iter().enumerate() {
-            if made.index == index && self.are_same(&made.of, of) {
-                return own;
-            }
-        }
-        NOWHERE
+        own
     }
 
     /// Whether the same words stand for parameters.
@@ -500,17 +495,14 @@ impl<'a> Builder<'a> {
                     && self.tokens.text(self.tokens.last(words).name) == "u8" => {
                 self.holding(KnownForm::Bytes, places, None)
             }
-            KnownForm::Map | KnownForm::MapUpTo => self.pairs(form, places, most),
+            KnownForm::Map | KnownForm::MapUpTo => {
+                let pair = self.holding(KnownForm::Tuple, places, None);
+                let mut pairs = Vec::new(self.alloc);
+                self.words.push(&mut pairs, pair);
+                self.holding(form, pairs, most)
+            }
             _ => self.holding(form, places, most),
         }
-    }
-
-    /// The place of a map, by the places of its keys' type and its values'.
-    fn pairs(&mut self, form: KnownForm, places: Vec<usize>, most: Option<u64>) -> usize {
-        let pair = self.holding(KnownForm::Tuple, places, None);
-        let mut pairs = Vec::new(self.alloc);
-        self.words.push(&mut pairs, pair);
-        self.holding(form, pairs, most)
     }
 
     /// The place of an integer, which these words say, and whose bytes are sent in an order.
