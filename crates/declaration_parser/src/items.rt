@@ -248,12 +248,11 @@ impl<'a> Walk<'a> {
             ItemKind::Type => self.tokens.type_up_to(words, BODY),
             _ => self.tokens.up_to(words, &[Word::Semicolon]),
         };
-        let whole = words.before(rest);
         item.kind = kind;
-        item.words = whole;
+        item.words = words.before(rest);
         self.quiet = self.tokens.behind(rest).from;
         if has_value {
-            self.quiet = self.tokens.up_to(whole, &[Word::Equals]).from;
+            self.quiet = self.tokens.up_to(item.words, &[Word::Equals]).from;
             self.scope = self.add_scope(Kind::Body, NO_NAME, rest.from);
         }
     }

@@ -38,16 +38,8 @@ fn behind_shebang(text: &str) -> &str {
     if rest.starts_with('[') || rest.starts_with("//") || rest.starts_with("/*") {
         return text;
     }
-    behind(text, first_line(text).len())
-}
-
-/// Whether Rust takes a character as a blank: also marks of the direction of writing.
-fn is_blank(character: char) -> bool {
-    character.is_whitespace() || matches!(character, '\u{200e}' | '\u{200f}')
-}
-
-fn first_line(text: &str) -> &str {
-    text.lines().next().unwrap_or("")
+    let line = text.lines().next().unwrap_or("");
+    behind(text, line.len())
 }
 
 fn behind(text: &str, length: usize) -> &str {
@@ -171,7 +163,9 @@ impl<'a> Reader<'a> {
     fn read_next(&mut self) {
         let text = self.rest;
         match first_letter(text) {
-            Some(first) if is_blank(first) => _ = self.take_to(behind_one(text)),
+            Some(first) if first.is_whitespace() => _ = self.take_to(behind_one(text)),
+            // Rust takes marks of the direction of writing as blanks too
+            Some('\u{200e}' | '\u{200f}') => _ = self.take_to(behind_one(text)),
             Some('"') => self.read_text(text, None),
             Some('\'') => self.read_token(behind_quoted(text)),
             Some(first) if is_of_word(first) => self.read_word(),
@@ -184,7 +178,7 @@ impl<'a> Reader<'a> {
     /// Reads a comment up to the end of its line. One that marks what is after it is a token. What one says of how the field after
     /// it is sent is an attribute: `#[with = ".."]`, or, if it only seems meant to, `#[with ..]` with all its words as one token.
     fn read_comment(&mut self) {
-        let whole = first_line(self.rest);
+        let whole = self.rest.lines().next().unwrap_or("");
         self.rest = behind(self.rest, whole.len());
         let comment = whole.trim_end();
         if is_mark(comment) {
