@@ -16,7 +16,7 @@ use crate::text::Text;
 use declaration_parser::faults::Faults;
 use declaration_parser::parser::Purpose;
 use declaration_parser::reading::{AllDeclared, declarations};
-use declaration_parser::texts::{is_listed, is_of_word};
+use declaration_parser::texts::{first_letter, is_listed, is_of_word};
 use declaration_parser::tokens::Tokens;
 use help::{About, answer};
 use std::alloc::{AllocError, Global};
@@ -49,13 +49,8 @@ const KEYWORDS: &str =
 
 /// Whether a word begins with a letter or `_`, and has letters, digits and `_` after it.
 fn is_identifier(word: &str) -> bool {
-    for (place, character) in word.chars().enumerate() {
-        let fits = is_of_word(character);
-        if !fits || (place == 0 && character != '_' && !is_xid_start(character)) {
-            return false;
-        }
-    }
-    !word.is_empty()
+    let first = first_letter(word).unwrap_or(' ');
+    (first == '_' || is_xid_start(first)) && word.trim_start_matches(is_of_word).is_empty()
 }
 
 /// Why a word can't name a crate or a module, if it can't.

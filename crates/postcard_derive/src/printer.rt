@@ -62,7 +62,7 @@ impl%plain% Shaped for %name%%names%%where% {
 %fours%%singles%    ghost use Rattle.postcard_tree.specs.declared.variants.Last.TheVariants.{Last};
     type Shape = %name%Shape%names%;
     ghost shape = { λ v. elim v [
-@| %The%%variant%%binders% ↦ %More (%%Other (%%by% %held%%closes all%
+@| %own-%%variant%%binders% ↦ %More (%%Other (%%by% %held%%closes all%
 @    ] };
     fn from_shape(it: %name%Shape%names%) -> %name%%names% {
         match it {
@@ -200,11 +200,8 @@ impl Text<'_> {
         };
         self.count = count;
         let sent = if it.marks.written { sent } else { "" };
-        let schema = if it.marks.read && with_schemas {
-            SCHEMA
-        } else {
-            ""
-        };
+        let has_schema = it.marks.read && with_schemas;
+        let schema = if has_schema { SCHEMA } else { "" };
         for template in [shape, OF_ITS_SHAPE, sent, schema] {
             self.put_template(it, template);
         }

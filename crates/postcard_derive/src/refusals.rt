@@ -8,7 +8,6 @@ use declaration_parser::sent::{is_primitive, sent_as};
 use declaration_parser::texts::{first_letter, is_listed, row_of};
 use declaration_parser::tokens::{DESERIALIZE, NO_NAME, Name, SERIALIZE, Token, Word, Words};
 use std::alloc::{AllocError, Global};
-use std::collections::BTreeSet;
 
 // Why a type can't be in a message: what begins with a backtick follows its name, else it is what to write.
 const HOLDS_ITSELF: &str =
@@ -155,13 +154,10 @@ impl Text<'_> {
     /// Whether a type of this name holds itself, also by way of others.
     fn holds_itself(&self, alloc: Global, at: &mut Cursor, name: Name) -> bool {
         let mut held = Vec::new(alloc);
-        let mut met = BTreeSet::new(alloc);
         let mut by = name;
         for place in 0..=self.uses.len() {
             for (_, of) in self.uses.range((by, NO_NAME)..=(by, Name::MAX)) {
-                let inserted = met.insert(*of);
-                at.faults.note(inserted.is_err());
-                if let Ok(true) = inserted {
+                if !held.contains(of) {
                     at.push(&mut held, *of);
                 }
             }
@@ -170,7 +166,7 @@ impl Text<'_> {
                 None => break,
             }
         }
-        met.contains(&name)
+        held.contains(&name)
     }
 
     /// What can't be implemented of these declarations, which are in the text, a line each; nothing if all can.

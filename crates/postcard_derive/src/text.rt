@@ -232,9 +232,9 @@ impl<'a> Text<'a> {
                 self.put_list(it, items, word, ends);
             }
             "variant" => self.put_ghost_name(name),
-            // the constructors of shapes have these names
-            "as" | "The" if !is_listed(own, "V0 V1 V2 V3 More This Other Last") => {}
-            "as" => self.made.put_all(&[" as The", own]),
+            // the constructors of shapes have these names, and no name of Rust has a `-`
+            "as" | "own-" if !is_listed(own, "V0 V1 V2 V3 More This Other Last") => {}
+            "as" => self.made.put_all(&[" as own-", own]),
             "kind" => self.put(if items.is_empty() { "unit" } else { "newtype" }),
             "and" => self.put(match items {
                 [] => "",
