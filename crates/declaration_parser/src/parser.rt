@@ -71,13 +71,15 @@ impl<'a, 'b> Parser<'a, 'b> {
 
     /// Takes attributes, and gives all of them.
     fn attributes(&mut self) -> Words {
-        let (tokens, begun) = (self.at.tokens, self.at.rest);
-        self.at.rest = tokens.behind_attributes(begun);
-        let attributes = begun.before(self.at.rest);
-        if !attributes.is_empty() {
-            self.at.line = tokens.last(attributes).line;
+        let begun = self.at.rest;
+        for _ in 0..begun.len() {
+            let Some((words, behind)) = self.at.tokens.attribute(self.at.rest) else {
+                break;
+            };
+            self.at.line = self.at.tokens.first(words).line;
+            self.at.rest = behind;
         }
-        attributes
+        begun.before(self.at.rest)
     }
 
     /// Takes a name that may be written `r#name`, and isn't one that the implementations use, if it can't be.

@@ -4,6 +4,9 @@ use crate::texts::{is_listed, row_of};
 /// Types of the language.
 const PRIMITIVE: &str = "bool char f32 f64 i8 i16 i32 i64 i128 isize str u8 u16 u32 u64 u128 usize";
 
+/// Those that have a type in `std::sync::atomic` or `std::num` of their own.
+const WHOLE: &str = "bool i8 i16 i32 i64 i128 isize u8 u16 u32 u64 u128 usize";
+
 /// The names of those that aren't read, and the type to write.
 const SENT_AS: &[&str] = &[
     "Bound: enum Bound<T> { Unbounded, Included(T), Excluded(T) }",
@@ -27,7 +30,7 @@ const SENT_AS: &[&str] = &[
 /// As what a type is sent that isn't read, if that is known. `AtomicU8` and `NonZeroU8` are sent as `u8`, others of these names likewise.
 pub fn sent_as(word: &str) -> Option<&'static str> {
     let number = word.strip_prefix("Atomic").or(word.strip_prefix("NonZero"));
-    for known in PRIMITIVE.split_whitespace() {
+    for known in WHOLE.split_whitespace() {
         if known.eq_ignore_ascii_case(number.unwrap_or("")) {
             return Some(known);
         }
