@@ -15,7 +15,7 @@ use crate::scope::Origins;
 use crate::text::Text;
 use declaration_parser::faults::Faults;
 use declaration_parser::parser::Purpose;
-use declaration_parser::reading::{AllDeclared, declarations};
+use declaration_parser::reading::declarations;
 use declaration_parser::texts::{first_letter, is_listed, is_of_word};
 use declaration_parser::tokens::Tokens;
 use help::{About, answer};
@@ -104,15 +104,15 @@ fn run(
     *device = "standard input";
     let text = io::read_to_string(alloc, rt.reader())?;
     let tokens = Tokens::new(alloc)?.with_file(alloc, "", text.as_str())?;
-    let AllDeclared { all, faults, .. } = declarations(alloc, Purpose::Implementations, &tokens)?;
+    let declared = declarations(alloc, Purpose::Implementations, &tokens)?;
     let origins = Origins::of(alloc, &tokens)?;
     let mut implementations = Text::new(alloc, &origins, path);
-    for it in &all {
+    for it in &declared.all {
         implementations.put_declaration(it, with_schemas);
     }
-    let refused = implementations.refused(alloc, &all)?;
-    if !faults.is_empty() || !refused.is_empty() {
-        let said = eprint!(rt; "{faults}{refused}");
+    let refused = implementations.refused(alloc, &declared)?;
+    if !refused.is_empty() {
+        let said = eprint!(rt; "{refused}");
         return Ok(if said.is_ok() { 1 } else { 3 });
     }
     let text = implementations.finished(alloc)?;

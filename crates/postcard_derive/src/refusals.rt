@@ -4,6 +4,7 @@ use crate::text::Text;
 use declaration_parser::cursor::Cursor;
 use declaration_parser::declaration::{Body, Declaration, Field, Fields, Layout};
 use declaration_parser::derives::OF_OTHER_CRATE;
+use declaration_parser::reading::AllDeclared;
 use declaration_parser::sent::{is_primitive, sent_as};
 use declaration_parser::texts::{first_letter, is_listed, row_of};
 use declaration_parser::tokens::{DESERIALIZE, NO_NAME, Name, SERIALIZE, Token, Word, Words};
@@ -169,11 +170,12 @@ impl Text<'_> {
         held.contains(&name)
     }
 
-    /// What can't be implemented of these declarations, which are in the text, a line each; nothing if all can.
-    pub fn refused(&self, alloc: Global, all: &[Declaration]) -> Result<String, AllocError> {
+    /// What is wrong with a file, and can't be implemented of its declarations, which are in the text, a line each; nothing if all can.
+    pub fn refused(&self, alloc: Global, file: &AllDeclared<'_>) -> Result<String, AllocError> {
         let origins = self.origins;
         let mut at = Cursor::new(alloc, origins.tokens, 0, Words::default());
-        for it in all {
+        at.faults.put(file.faults.as_str());
+        for it in &file.all {
             if !it.wrong.is_empty() {
                 at.faults.put(it.wrong.as_str());
                 continue;

@@ -142,8 +142,7 @@ impl<'a> Text<'a> {
             _ if words.len() == 2 => " ",
             _ => " + ",
         };
-        self.put(before);
-        self.put(bound);
+        self.made.put_all(&[before, bound]);
     }
 
     /// Appends the parameters of a declaration, each as [`put_parameter`](Text::put_parameter) has it, or their `names`.
