@@ -14,10 +14,10 @@ pub use candidates::Space;
 use declaration_parser::declaration::Declaration;
 use declaration_parser::items::{self, Kind, Scope, Walk};
 use declaration_parser::tokens::{NO_NAME, Name, Tokens, Words};
+use meaning::Meaning;
 pub use path::Path;
 use std::alloc::{AllocError, Global};
 use std::collections::{BTreeMap, BTreeSet};
-use ways::Lead;
 
 /// What a name stands for where it is declared.
 #[derive(Clone, Copy, Drop)]
@@ -54,9 +54,8 @@ struct Import {
     is_crate: bool,
     is_public: bool,
     is_conditional: bool,
-    /// Whether it brings in a module or a type alone, as `self` does after a path.
-    is_module: bool,
-    lead: Lead,
+    /// What the names before the last mean, or the last one if it is alone; of a `*` what it brings all in of.
+    before: Meaning,
 }
 
 /// The names of files. If memory runs out for one, [`failed`](Scopes::failed) says so.
@@ -73,8 +72,6 @@ pub struct Scopes<'a> {
     named: BTreeSet<Name>,
     /// The names of items, modules and of what a `use` brings in, each with its scope; no name where a `*` is.
     members: BTreeSet<(Name, usize)>,
-    /// From which scope a `*` leads to which others, also by those of others; and from each to itself.
-    ways: BTreeSet<(usize, usize)>,
     /// The modules that begin with a condition.
     at_times: BTreeSet<usize>,
     /// The rules of macros, whose names are their third words, and calls that may declare something.
@@ -103,7 +100,6 @@ impl<'a> Scopes<'a> {
             imports: Vec::new(alloc),
             marked: BTreeMap::new(alloc),
             members: BTreeSet::new(alloc),
-            ways: BTreeSet::new(alloc),
             at_times: BTreeSet::new(alloc),
             rules: Vec::new(alloc),
             calls: Vec::new(alloc),
@@ -135,7 +131,6 @@ impl<'a> Scopes<'a> {
             if it.name != NO_NAME {
                 self.failed = self.members.insert((it.name, it.outer)).is_err() || self.failed;
             }
-            self.failed = self.ways.insert((place, place)).is_err() || self.failed;
         }
     }
 
@@ -158,7 +153,6 @@ impl<'a> Scopes<'a> {
         let place = self.scopes.len();
         let scope = self.scope(place);
         self.failed = self.scopes.push(scope).is_err() || self.failed;
-        self.failed = self.ways.insert((place, place)).is_err() || self.failed;
         place
     }
 

@@ -4,7 +4,7 @@ ghost use Rattle.declarations.specs.NameRule.{IsAnswerOf, IsAnsweredOrPassed, Is
 ghost use Rattle.declarations.specs.declared.names.candidates.Space.TheVariants as space;
 
 use super::candidates::{Only, Space, Step, is_within, only_of};
-use super::meaning::{BROUGHT_IN, BY_STAR, Meaning, RENAMED};
+use super::meaning::{BROUGHT_IN, BY_STAR, Meaning};
 use super::{Item, Kind, NO_NAME, Name, Path, Scopes, What};
 use crate::known::{is_known, is_primitive};
 use declaration_parser::faults::Faults;
@@ -81,7 +81,7 @@ impl<'a> Scopes<'a> {
             Meaning::Module(_) => Found::Wrong(
                 "` is a module here: write the type that is on the wire",
             ),
-            Meaning::Outside | Meaning::Lost => Found::Wrong(BROUGHT_IN),
+            Meaning::Outside => Found::Wrong(BROUGHT_IN),
             Meaning::Open => Found::Wrong(BY_STAR),
             Meaning::Wrong(why) => Found::Wrong(why),
             Meaning::Doubtful => Found::Two,
@@ -89,7 +89,8 @@ impl<'a> Scopes<'a> {
                 Only::Nothing if space == Space::Types && is_known(self.tokens.text(name)) =>
                     Found::Known(name),
                 Only::Nothing => Found::Not,
-                _ => Found::Wrong(BY_STAR),
+                Only::One(_) => Found::Wrong(BY_STAR),
+                Only::Two => Found::Two,
             },
         }
     }
@@ -103,12 +104,9 @@ impl<'a> Scopes<'a> {
             (Meaning::Module(_), Meaning::Nothing) => Found::Wrong(
                 "` isn't declared in the module that its path names: name the file of its declaration too",
             ),
-            (Meaning::Module(at), Meaning::Outside) if self.is_renamed(at, name) => Found::Wrong(
-                RENAMED,
-            ),
             (Meaning::Module(_) | Meaning::Wrong(_), it) => self.answered(it, name, space),
             (Meaning::Known(_), _) => Found::Known(name),
-            (Meaning::Open | Meaning::Doubtful, _) => Found::Two,
+            (Meaning::Doubtful, _) => Found::Two,
             _ => Found::Outside,
         }
     }

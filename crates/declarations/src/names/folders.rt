@@ -1,6 +1,6 @@
 //! Which file a module has, by the folders that both are in.
-use super::meaning::Meaning;
-use super::{Kind, Name, Scopes};
+use super::meaning::{LOST, Meaning};
+use super::{Kind, Name, Path, Scopes};
 use crate::known::is_known_crate;
 use declaration_parser::texts::is_listed;
 
@@ -34,13 +34,11 @@ fn without_last<'f>(folder: &'f str, name: &str) -> Option<&'f str> {
     if last == name { Some(before) } else { None }
 }
 
-/// The folder of the crate in whose `src` a file is; nothing if it is in none.
-fn crate_folder(file: &str) -> Option<&str> {
-    let (folder, _) = parts_of(file);
-    match folder.rsplit_once("/src/") {
-        _ if folder == "src" || folder.starts_with("src/") => Some(""),
-        Some((before, _)) => Some(before),
-        None => folder.strip_suffix("/src"),
+/// The path to the last `src` in the path of a file, and the path from there; no `src` if there is none.
+fn parts_at_src(file: &str) -> (&str, &str) {
+    match file.rsplit_once("/src/") {
+        Some(parts) => parts,
+        None => ("", file.strip_prefix("src/").unwrap_or("")),
     }
 }
 
@@ -54,28 +52,14 @@ pub fn module_of_file(file: &str) -> &str {
 }
 
 impl<'a> Scopes<'a> {
-    /// Whether a file is the root of a crate by its name or its folder's, unless it is in a folder of another's `src` but `bin`.
+    /// Whether a file is the root of a crate by its name or its folder's; in the folders of a `src` only if that is `bin`.
     pub(super) fn is_root(&self, file: usize) -> bool {
         let name = self.tokens.name_of_file(file);
         let (folder, stem) = parts_of(name);
-        if !is_listed(stem, ROOTS)
-            && !is_listed(split_last(folder).1, "bin examples tests benches")
-        {
-            return false;
-        }
-        for other in 0..self.tokens.files.len() {
-            let other = self.tokens.name_of_file(other);
-            // most files are beside it or below it
-            if let Some(rest) = name.strip_prefix(split_last(other).0)
-                && split_last(rest).0.starts_with('/')
-                && !rest.starts_with("/bin/")
-                && split_last(split_last(other).0).1 == "src"
-                && is_listed(parts_of(other).1, ROOTS)
-            {
-                return false;
-            }
-        }
-        true
+        let is_named = is_listed(stem, ROOTS)
+            || is_listed(split_last(folder).1, "bin examples tests benches");
+        let (_, path) = parts_at_src(name);
+        is_named && (!path.contains('/') || path.starts_with("bin/"))
     }
 
     /// Whether the files of a module's modules are in this folder.
@@ -123,6 +107,46 @@ impl<'a> Scopes<'a> {
         }
     }
 
+    /// How many names after `crate` lead to this file by its path in a `src`; none if they don't.
+    fn count_to(&self, file: &str, path: &Path) -> usize {
+        let (_, mut rest) = parts_at_src(file);
+        for place in 1..path.count {
+            match rest.strip_prefix(self.tokens.text(path.at(place))) {
+                Some(".rs" | "/mod.rs") => return place,
+                Some(more) => rest = more.strip_prefix('/').unwrap_or(""),
+                None => break,
+            }
+        }
+        0
+    }
+
+    /// The file to which the first names after `crate` lead by the folders of a scope's `src`, if no root of that is given; and how
+    /// many names these are.
+    pub(super) fn file_by_path(&self, scope: usize, path: &Path) -> (Meaning, usize) {
+        let (own, _) = parts_at_src(self.tokens.name_of_file(self.scope(scope).file));
+        let (mut found, mut least) = (Meaning::Wrong(LOST), path.count);
+        for file in 0..self.tokens.files.len() {
+            let name = self.tokens.name_of_file(file);
+            let (there, rest) = parts_at_src(name);
+            if there != own || rest.is_empty() {
+                continue;
+            }
+            let count = self.count_to(name, path);
+            if matches!(rest, "lib.rs" | "main.rs") {
+                return (Meaning::Wrong(LOST), 0);
+            } else if count > 0 && count <= least {
+                let is_twin = count == least && !matches!(found, Meaning::Wrong(_));
+                found = if is_twin {
+                    Meaning::Doubtful
+                } else {
+                    Meaning::Module(file)
+                };
+                least = count;
+            }
+        }
+        (found, least)
+    }
+
     /// What the name of a crate means to a scope: the only library whose folder has it, a known one, or what `extern crate` says.
     pub(super) fn crate_of(&self, scope: usize, name: Name) -> Meaning {
         let mut found = Meaning::Nothing;
@@ -143,31 +167,13 @@ impl<'a> Scopes<'a> {
                 let is_ours = self.root_of(scope) == Meaning::Module(it.scope);
                 let is_sure = is_ours && !it.is_conditional;
                 // elsewhere it may be another crate
-                if found.is_nothing() && it.lead.before.is_one() && !is_sure {
+                if found.is_nothing() && it.before.is_one() && !is_sure {
                     found = Meaning::Outside;
                 }
-                found = found.both(it.lead.before);
+                found = found.both(it.before);
             }
         }
         found
-    }
-
-    /// Whether a module may be where `crate` or `super` leads from a scope: its folder is round the scope's file.
-    pub(super) fn is_around(&self, module: usize, scope: usize) -> bool {
-        let (folder, _) = module_at(self.tokens.name_of_file(self.scope(module).file));
-        self.tokens
-            .name_of_file(self.scope(scope).file)
-            .starts_with(folder)
-    }
-
-    /// Whether two scopes are in the `src` of different folders.
-    pub(super) fn are_of_two_crates(&self, scope: usize, other: usize) -> bool {
-        let own = crate_folder(self.tokens.name_of_file(self.scope(scope).file));
-        let there = crate_folder(self.tokens.name_of_file(self.scope(other).file));
-        match (own, there) {
-            (Some(own), Some(there)) => own != there,
-            _ => false,
-        }
     }
 
     /// Whether a module may have a file that isn't where the module's name says.
@@ -210,7 +216,7 @@ impl<'a> Scopes<'a> {
         };
         match parent {
             Meaning::Module(_) => parent,
-            _ => Meaning::Lost,
+            _ => Meaning::Wrong(LOST),
         }
     }
 
@@ -221,13 +227,13 @@ impl<'a> Scopes<'a> {
         let own = self.scope(scope).file;
         let mut file = if count == 1 { 0 } else { own };
         for _ in 0..count {
-            let is_alone = count == 1 && crate_folder(self.tokens.name_of_file(file)).is_none();
+            let is_alone = count == 1 && parts_at_src(self.tokens.name_of_file(file)).1.is_empty();
             match (self.is_root(file) || is_alone, self.parent_of(file)) {
                 (true, Meaning::Nothing) if file < count => return Meaning::Module(file),
                 (false, Meaning::Module(module)) if file < count => file = self.scope(module).file,
                 _ => break,
             }
         }
-        Meaning::Lost
+        Meaning::Wrong(LOST)
     }
 }

@@ -2,7 +2,7 @@
 use super::candidates::{Only, Space, Step, is_within};
 use super::{Import, Kind, NO_NAME, Name, Path, Scopes};
 use crate::known::{is_everywhere, is_known, is_known_crate, sent_as};
-use declaration_parser::tokens::{Word, is_start, word_of};
+use declaration_parser::tokens::{Word, word_of};
 
 // What is said after a name that isn't taken.
 pub(super) const BROUGHT_IN: &str =
@@ -23,6 +23,9 @@ const MODULE_AT_TIMES: &str =
 pub(super) const RENAMED: &str =
     "` is another name that a `use` gives: write the name of the declaration, with its module before it";
 
+pub(super) const LOST: &str =
+    "` is reached through a module whose file isn't given, such as the crate's `lib.rs`: name that file too";
+
 const HANDED: &str =
     "` may be made by a macro that its module hands it to: write its path, or a `use` of it";
 
@@ -40,8 +43,6 @@ pub(super) enum Meaning {
     Outside,
     /// What a `*` may bring in that leads out of the files.
     Open,
-    /// A module that these files don't have round the one that uses it.
-    Lost,
     /// Not to be taken, for this reason.
     Wrong(&'static str),
     /// More than one thing.
@@ -53,6 +54,8 @@ impl Meaning {
     pub(super) fn both(self, other: Meaning) -> Meaning {
         match (self, other) {
             (Meaning::Nothing, it) | (it, Meaning::Nothing) => it,
+            (Meaning::Wrong(_), _) => self,
+            (_, Meaning::Wrong(_)) => other,
             _ if self.is_one() && other.is_one() && self == other => self,
             (Meaning::Open, Meaning::Open) => self,
             (it, Meaning::Open) | (Meaning::Open, it) if it.is_one() => Meaning::Wrong(BY_STAR),
@@ -73,6 +76,69 @@ impl Meaning {
     }
 }
 
+/// From how many scopes a name may come at most.
+const MOST: usize = 64;
+
+/// The scopes from which a name may come.
+#[derive(Clone, Copy, Drop)]
+pub(super) struct Places {
+    all: [usize; MOST],
+    count: usize,
+    /// Whether a `use` leads there by the name, or by a `*`.
+    is_by_name: bool,
+    is_by_star: bool,
+    /// Whether one has the name under a condition, and whether the name may mean another thing there without it.
+    is_conditional: bool,
+    may_differ: bool,
+    /// Whether there are more.
+    is_cut: bool,
+}
+
+impl Places {
+    fn of(scope: usize) -> Places {
+        Places {
+            all: [scope; MOST],
+            count: 1,
+            is_by_name: false,
+            is_by_star: false,
+            is_conditional: false,
+            may_differ: false,
+            is_cut: false,
+        }
+    }
+
+    /// The one after so many others.
+    fn nth(&self, index: usize) -> Option<usize> {
+        match self.all.get(index) {
+            Some(place) if index < self.count => Some(*place),
+            _ => None,
+        }
+    }
+
+    pub(super) fn has(&self, place: usize) -> bool {
+        for index in 0..self.count {
+            if self.nth(index) == Some(place) {
+                return true;
+            }
+        }
+        false
+    }
+
+    fn add(&mut self, place: usize) {
+        if self.has(place) {
+            return;
+        }
+        let count = self.count;
+        match self.all.get_mut(count) {
+            Some(it) => {
+                *it = place;
+                self.count = count.saturating_add(1);
+            }
+            None => self.is_cut = true,
+        }
+    }
+}
+
 impl<'a> Scopes<'a> {
     /// The module round a body; of others the scope itself.
     pub(super) fn module_of(&self, scope: usize) -> usize {
@@ -86,24 +152,11 @@ impl<'a> Scopes<'a> {
         at
     }
 
-    /// What a name means that isn't there without a condition, and may then mean another: at the start of a path a crate.
-    fn at_times(&self, scope: usize, name: Name, space: Space, found: Meaning) -> Meaning {
-        let is_root = space == Space::Roots;
-        let is_module = matches!(found, Meaning::Module(_));
-        let may_differ = (is_module || self.has(name))
-            && (is_known(self.tokens.text(name))
-                || self.is_inner(scope)
-                || self.has_star(scope)
-                || self.is_handed(scope, name));
-        match found {
-            _ if is_root && is_module => Meaning::Wrong(MODULE_AT_TIMES),
-            _ if found.is_one() && (is_root || may_differ) => Meaning::Wrong(AT_TIMES),
-            _ => found,
-        }
-    }
-
     /// What a scope declares under a name, and whether under a condition.
     fn declared(&self, scope: usize, name: Name, space: Space) -> (Meaning, bool) {
+        if !self.members.contains(&(name, scope)) {
+            return (Meaning::Nothing, false);
+        }
         let (item, is_conditional) = match self.only(Step::Scope(scope), name, space) {
             Only::Nothing => (Meaning::Nothing, false),
             Only::One(it) => (Meaning::Item(scope), it.is_conditional),
@@ -135,149 +188,132 @@ impl<'a> Scopes<'a> {
         (found, is_conditional || is_at_times)
     }
 
-    /// What a scope declares or brings in under a name.
-    pub(super) fn own(&self, scope: usize, name: Name, space: Space) -> Meaning {
-        if !self.members.contains(&(name, scope)) || name == NO_NAME {
-            return Meaning::Nothing;
-        }
-        let (mut found, mut is_conditional) = self.declared(scope, name, space);
-        for it in &self.imports {
-            if it.scope == scope && it.name == name {
-                found = found.both(it.meaning(space));
-                let is_same = it.is_crate && it.name == it.last;
-                is_conditional = is_conditional || (it.is_conditional && !is_same);
-            }
-        }
-        if is_conditional {
-            return self.at_times(scope, name, space, found);
-        }
-        found
-    }
-
-    /// The same where the name is used alone: a macro may make it there, and a `use` mayn't rename it.
-    fn own_or_made(&self, scope: usize, name: Name, space: Space) -> Meaning {
-        match self.own(scope, name, space) {
-            // of a module each macro that may make one is as a `*`
-            found
-                if space.is_way()
-                    && (!found.is_nothing()
-                        || !self.is_inner(scope)
-                        || is_known_crate(self.tokens.text(name))) => found,
-            Meaning::Outside if self.is_renamed(scope, name) => Meaning::Wrong(RENAMED),
-            Meaning::Nothing
-                if !is_everywhere(self.tokens.text(name)) && self.is_handed(scope, name) =>
-                Meaning::Wrong(HANDED),
-            found => found,
-        }
-    }
-
-    /// Whether a `use` of a scope gives this name to what these files declare by another one.
-    pub(super) fn is_renamed(&self, scope: usize, name: Name) -> bool {
-        for it in &self.imports {
-            if it.scope == scope && it.name == name && it.last != name && !it.leads_out() {
-                return true;
-            }
-        }
-        false
-    }
-
-    /// What all modules but this one have under a name, and whether a `*` of this one leads to one that has it.
-    fn of_others(&self, module: usize, name: Name, space: Space) -> (Meaning, bool) {
-        let (mut found, mut is_led) = (Meaning::Nothing, false);
-        for (_, there) in self.members.range((name, 0)..=(name, usize::MAX)) {
-            if *there == module || !is_within(&self.scopes, Step::All, *there) {
-                continue;
-            }
-            let is_there = self.leads_to(module, *there);
-            // what a module brings in isn't seen where no `*` leads to it
-            let it = if is_there {
-                self.own(*there, name, space)
-            } else {
-                self.declared(*there, name, space).0
-            };
-            is_led = is_led || (is_there && !it.is_nothing());
-            found = found.both(it);
-            if matches!(found, Meaning::Doubtful) {
+    /// What a scope has under a name: all that it and the modules say to which `use` leads that may bring the name in. And these.
+    pub(super) fn reached(&self, scope: usize, name: Name, space: Space) -> (Meaning, Places) {
+        let (mut found, mut places) = (Meaning::Nothing, Places::of(scope));
+        for index in 0..MOST {
+            let Some(place) = places.nth(index) else {
                 break;
-            }
+            };
+            found = found.both(self.said(&mut places, place, name, space));
         }
-        (found, is_led)
+        let is_module = matches!(found, Meaning::Module(_));
+        let may_differ = places.may_differ && (is_module || self.has(name));
+        let is_root = space == Space::Roots;
+        let found = match found {
+            _ if places.is_cut => Meaning::Doubtful,
+            Meaning::Nothing if places.is_by_name && space.is_way() => Meaning::Doubtful,
+            Meaning::Nothing if places.is_by_name => Meaning::Outside,
+            Meaning::Module(_) if is_root && places.is_conditional => Meaning::Wrong(
+                MODULE_AT_TIMES,
+            ),
+            _ if found.is_one() && (may_differ || is_root && places.is_conditional) =>
+                Meaning::Wrong(AT_TIMES),
+            _ => found,
+        };
+        (found, places)
     }
 
-    /// What `*` bring into a module under a name: what all modules have, if that is one thing, and one leads there.
-    fn by_stars(&self, module: usize, name: Name, space: Space) -> Meaning {
-        match self.of_others(module, name, space) {
-            (Meaning::Item(_) | Meaning::Module(_), false) => Meaning::Wrong(BY_STAR),
-            (found, _) => found
-                .both(self.by_open_stars(module, name, space))
-                .both(self.by_macros(module, name, space)),
+    /// What one scope says of a name. To which modules its `use` lead that may bring it in is added to the places.
+    fn said(&self, places: &mut Places, scope: usize, name: Name, space: Space) -> Meaning {
+        let (mut found, mut is_conditional) = self.declared(scope, name, space);
+        // one of the two may not be visible
+        if places.nth(0) != Some(scope) && self.is_of_two_kinds(scope, name) {
+            return Meaning::Doubtful;
         }
-    }
-
-    /// What a macro may make under a name in a module, or in those to which `*` lead.
-    fn by_macros(&self, module: usize, name: Name, space: Space) -> Meaning {
-        for call in &self.calls {
-            if self.tokens.has_name(call.inside, name)
-                && self.may_pass_on(module, call.scope, name, space)
-            {
-                return Meaning::Open;
-            }
-        }
-        Meaning::Nothing
-    }
-
-    /// What a name of a path means by the `*` of its module.
-    fn way_by_stars(&self, module: usize, name: Name, space: Space) -> Meaning {
-        let mut found = Meaning::Nothing;
+        let by = self.brought_in_by(scope, name, found);
         for it in &self.imports {
-            if it.scope == module && it.name == NO_NAME {
-                found = found.both(match it.lead.before {
-                    Meaning::Module(place) => self.way_by_star(it, place, name, space),
-                    Meaning::Item(_) | Meaning::Known(_) => Meaning::Nothing,
-                    _ => Meaning::Open,
-                });
+            if it.scope == scope && it.name == by {
+                found = found.both(self.brought(places, it, name, space));
+                let is_same = it.is_crate && it.name == it.last;
+                is_conditional = is_conditional || (by == name && it.is_conditional && !is_same);
             }
+        }
+        let text = self.tokens.text(name);
+        let is_handed = self.is_handed(scope, name);
+        let may_differ = is_known(text)
+            || self.is_inner(scope)
+            || self.has_star(scope)
+            || is_handed;
+        places.is_conditional = places.is_conditional || is_conditional;
+        places.may_differ = places.may_differ || (is_conditional && may_differ);
+        // of a module each macro that may make a module is as a `*`
+        if by == NO_NAME
+            && is_handed
+            && !(space.is_way() && (!self.is_inner(scope) || is_known_crate(text)))
+            && !is_everywhere(text)
+        {
+            return found.both(Meaning::Open);
         }
         found
     }
 
-    /// The same of one that leads to this module. What it may not see there, a crate may be.
-    fn way_by_star(&self, it: &Import, module: usize, name: Name, space: Space) -> Meaning {
+    /// Whether a scope declares a type or a module of a name, and a constant too.
+    fn is_of_two_kinds(&self, scope: usize, name: Name) -> bool {
+        let (of_type, _) = self.declared(scope, name, Space::Types);
+        let (constant, _) = self.declared(scope, name, Space::Constants);
+        !of_type.is_nothing() && !constant.is_nothing()
+    }
+
+    /// By which name a scope's `use` bring in a name: by itself if one does or the scope declares it, else as `*` do.
+    fn brought_in_by(&self, scope: usize, name: Name, declared: Meaning) -> Name {
+        if !declared.is_nothing() {
+            return name;
+        }
+        if self.members.contains(&(name, scope)) {
+            for it in &self.imports {
+                if it.scope == scope && it.name == name && !it.before.is_nothing() {
+                    return name;
+                }
+            }
+        }
+        NO_NAME
+    }
+
+    /// What a `use` brings in under a name, unless a module says it, which is added to the places.
+    fn brought(&self, places: &mut Places, it: &Import, name: Name, space: Space) -> Meaning {
+        let is_star = it.name == NO_NAME;
+        match it.before {
+            Meaning::Nothing | Meaning::Wrong(_) => it.before,
+            before if it.path.count == 0 && !is_star => before,
+            Meaning::Module(next)
+                if is_star && space == Space::Roots && !self.is_seen(places, it, next, name) =>
+                Meaning::Open,
+            Meaning::Module(next) if is_star || it.last == it.name => {
+                if !is_star || self.may_have(next, name) {
+                    places.add(next);
+                }
+                places.is_by_star = places.is_by_star || is_star;
+                places.is_by_name = places.is_by_name || !is_star;
+                Meaning::Nothing
+            }
+            Meaning::Module(next) if space.is_way() => match self.declared(next, it.last, space).0 {
+                Meaning::Nothing => Meaning::Doubtful,
+                found => found,
+            },
+            Meaning::Module(_) => Meaning::Wrong(RENAMED),
+            Meaning::Known(_) if is_star => self.of_known_crate(name, space),
+            Meaning::Known(_) if space != Space::Constants => Meaning::Known(it.last),
+            Meaning::Item(_) if is_star && space != Space::Constants => Meaning::Nothing,
+            _ if is_star => Meaning::Open,
+            _ => Meaning::Outside,
+        }
+    }
+
+    /// Whether a module may have a name, or have it from elsewhere.
+    fn may_have(&self, module: usize, name: Name) -> bool {
+        self.members.contains(&(name, module))
+            || self.has_star(module)
+            || self.is_handed(module, name)
+    }
+
+    /// Whether a `*` surely sees what begins a path in a module: if that is round the module that is gone out from, or the root.
+    /// Else a crate may be called so.
+    fn is_seen(&self, places: &Places, it: &Import, module: usize, name: Name) -> bool {
         let there = Meaning::Module(module);
-        let is_seen = space == Space::Modules
-            || self.around_module(it.scope) == there
-            || self.root_of(it.scope) == there;
-        match self.own(module, name, space) {
-            Meaning::Nothing if self.has_star(module) => Meaning::Open,
-            Meaning::Nothing => Meaning::Nothing,
-            found
-                if is_seen && !it.is_conditional && self.declared(module, name, space).0 == found =>
-                found,
-            _ => Meaning::Doubtful,
-        }
-    }
-
-    /// Whether a module has what another one's `*` or macro makes under a name: not if that one has another.
-    fn may_pass_on(&self, module: usize, scope: usize, name: Name, space: Space) -> bool {
-        self.leads_to(module, scope)
-            && (scope == module || self.own(scope, name, space).is_nothing())
-    }
-
-    /// What those `*` may bring in that lead out of the files, of a module and of those to which others lead.
-    fn by_open_stars(&self, module: usize, name: Name, space: Space) -> Meaning {
-        let mut found = Meaning::Nothing;
-        for it in &self.imports {
-            if it.name != NO_NAME || !self.may_pass_on(module, it.scope, name, space) {
-                continue;
-            }
-            found = found.both(match it.lead.before {
-                Meaning::Module(_) => Meaning::Nothing,
-                Meaning::Item(_) if space != Space::Constants => Meaning::Nothing,
-                Meaning::Known(_) => self.of_known_crate(name, space),
-                _ => Meaning::Open,
-            });
-        }
-        found
+        let is_round = self.around_module(it.scope) == there || self.root_of(it.scope) == there;
+        let is_first = places.nth(0) == Some(it.scope) && is_round && !it.is_conditional;
+        is_first || !self.may_have(module, name)
     }
 
     /// What a known crate may have under a name.
@@ -286,65 +322,45 @@ impl<'a> Scopes<'a> {
         match (space, is_known(text)) {
             (Space::Types, true) if !self.has(name) => Meaning::Known(name),
             (Space::Types, false) if sent_as(text).is_none() => Meaning::Nothing,
+            (Space::Roots | Space::Modules, _) => Meaning::Nothing,
             _ => Meaning::Open,
         }
     }
 
-    /// Whether a `*` of a module may hide what every file has under a name, which some file gives to another thing.
-    fn may_be_hidden(&self, module: usize, name: Name) -> bool {
-        if !self.has_star(module) || !self.has(name) {
-            return false;
-        }
-        for (_, there) in self.members.range((name, 0)..=(name, usize::MAX)) {
-            if self.leads_to(module, *there) {
-                return true;
-            }
-        }
-        !self.by_open_stars(module, name, Space::Types).is_nothing()
-            || !self.by_macros(module, name, Space::Types).is_nothing()
-    }
-
     /// What a name means where a scope uses it: what the scope has, or else what is round it.
     pub(super) fn seen(&self, scope: usize, name: Name, space: Space) -> Meaning {
-        let is_everywhere = is_everywhere(self.tokens.text(name));
         let mut at = scope;
         for _ in 0..=self.scopes.len() {
-            let found = self.own_or_made(at, name, space);
+            let (found, places) = self.reached(at, name, space);
             let is_inner = self.is_inner(at);
+            // what a `*` brings in may not be visible, and something else be meant
+            let is_everywhere = is_everywhere(self.tokens.text(name));
+            let is_doubtful = places.is_by_star && (is_inner || is_everywhere);
+            let is_made = self.is_handed(at, name) && !self.members.contains(&(name, at));
             match found {
                 Meaning::Nothing if !is_inner => return self.beyond(at, name, space),
-                Meaning::Nothing => {}
+                Meaning::Nothing => at = self.scope(at).outer,
                 _ if is_inner && space == Space::Roots => return Meaning::Doubtful,
+                Meaning::Open if space == Space::Roots && !self.has_namesake(name, false) =>
+                    return self.beyond(at, name, space),
+                Meaning::Item(_) | Meaning::Open if is_doubtful => return Meaning::Wrong(BY_STAR),
+                Meaning::Open | Meaning::Wrong(_) if is_made && !is_everywhere =>
+                    return Meaning::Wrong(HANDED),
                 found => return found,
             }
-            if self.has_star(at) && (self.has(name) || !is_everywhere) {
-                return Meaning::Wrong(BY_STAR);
-            }
-            at = self.scope(at).outer;
         }
         Meaning::Doubtful
     }
 
-    /// What a name means that its module doesn't have: what a `*` brings in, beside a crate, or what every file has.
+    /// What a name means that its module doesn't have: a crate, or what every file has.
     fn beyond(&self, module: usize, name: Name, space: Space) -> Meaning {
-        let is_everywhere = space == Space::Types && is_everywhere(self.tokens.text(name));
-        if is_everywhere && self.may_be_hidden(module, name) {
-            return Meaning::Wrong(BY_STAR);
-        }
-        if is_everywhere {
-            return Meaning::Known(name);
-        }
-        if space != Space::Roots {
-            return self.by_stars(module, name, space);
-        }
-        match (
-            self.crate_of(module, name),
-            self.way_by_stars(module, name, space),
-        ) {
-            (Meaning::Nothing, Meaning::Open | Meaning::Doubtful | Meaning::Nothing) =>
-                Meaning::Outside,
-            (it, Meaning::Open) if !self.has_namesake(name, false) => it,
-            (it, found) => it.both(found),
+        match space {
+            Space::Types if is_everywhere(self.tokens.text(name)) => Meaning::Known(name),
+            Space::Roots => match self.crate_of(module, name) {
+                Meaning::Nothing => Meaning::Outside,
+                found => found,
+            },
+            _ => Meaning::Nothing,
         }
     }
 
@@ -352,10 +368,7 @@ impl<'a> Scopes<'a> {
     fn root(&self, scope: usize, name: Name, is_absolute: bool) -> Meaning {
         let module = self.module_of(scope);
         match word_of(name) {
-            _ if is_absolute => match self.crate_of(module, name) {
-                Meaning::Nothing => Meaning::Outside,
-                found => found,
-            },
+            _ if is_absolute => self.beyond(module, name, Space::Roots),
             Word::Own => Meaning::Module(module),
             Word::Super => self.around_module(module),
             Word::Crate => self.root_of(module),
@@ -369,11 +382,7 @@ impl<'a> Scopes<'a> {
             (Meaning::Module(_), Word::Own) => before,
             (Meaning::Module(module), Word::Super) => self.around_module(module),
             (Meaning::Module(_), _) if name == NO_NAME => Meaning::Doubtful,
-            (Meaning::Module(module), _) => match self.own(module, name, space) {
-                Meaning::Nothing if space.is_way() => self.way_by_stars(module, name, space),
-                Meaning::Nothing => self.by_stars(module, name, space),
-                found => found,
-            },
+            (Meaning::Module(module), _) => self.reached(module, name, space).0,
             (Meaning::Known(_), _) if space != Space::Constants => Meaning::Known(name),
             (Meaning::Known(_) | Meaning::Item(_) | Meaning::Nothing, _) => Meaning::Outside,
             _ => before,
@@ -382,56 +391,14 @@ impl<'a> Scopes<'a> {
 
     /// What the names before the last of a path mean; without them, what the last one does.
     pub(super) fn way(&self, scope: usize, path: &Path, last: Name) -> Meaning {
-        let mut before = path.first(last);
-        let mut found = self.root(scope, before, path.is_absolute);
-        for place in 1..path.count {
-            let name = path.at(place);
-            found = match found {
-                Meaning::Lost => self.only_module(scope, before, name),
-                found => self.next(found, name, Space::Modules),
-            };
-            before = name;
+        let (mut found, mut count) = (self.root(scope, path.first(last), path.is_absolute), 0);
+        if matches!(found, Meaning::Wrong(_)) && word_of(path.root()) == Word::Crate {
+            (found, count) = self.file_by_path(scope, path);
+        }
+        for place in count.saturating_add(1)..path.count {
+            found = self.next(found, path.at(place), Space::Modules);
         }
         found
-    }
-
-    /// What a name means after a module that these files don't have: the only module of that name.
-    fn only_module(&self, scope: usize, before: Name, name: Name) -> Meaning {
-        let mut found = Meaning::Nothing;
-        for (place, it) in self.scopes.iter().enumerate() {
-            if it.kind == Kind::Misnamed && it.name == name {
-                return Meaning::Wrong(MISNAMED);
-            }
-            if is_within(&self.scopes, Step::Module(name), place)
-                && !self.are_of_two_crates(scope, place)
-            {
-                found = found.both(Meaning::Module(place));
-            }
-        }
-        match (found, self.only(Step::All, name, Space::Types)) {
-            (Meaning::Nothing, Only::Nothing) => Meaning::Lost,
-            (Meaning::Nothing, _) => Meaning::Item(self.scopes.len()),
-            (Meaning::Module(_), _) if self.is_passed_on(name) => Meaning::Doubtful,
-            (Meaning::Module(it), _) => match (is_start(before), self.around_module(it)) {
-                (true, Meaning::Module(outer)) if self.is_root(outer) => found,
-                (true, Meaning::Lost) if self.is_around(it, scope) => found,
-                (false, Meaning::Lost) => found,
-                _ => Meaning::Doubtful,
-            },
-            _ => Meaning::Doubtful,
-        }
-    }
-
-    /// Whether a `use` may make a module of this name one of its own that isn't in these files, or is called otherwise.
-    fn is_passed_on(&self, name: Name) -> bool {
-        for it in &self.imports {
-            let is_renamed = it.name == name && it.last != name;
-            let may_be = it.name == name || (it.name == NO_NAME && it.is_public);
-            if is_renamed || (may_be && it.leads_out()) {
-                return true;
-            }
-        }
-        false
     }
 
     /// Whether a module of this name is there, which may be a crate.

@@ -1,12 +1,20 @@
 //! What `use` brings into a scope, name by name; and derives from other crates than serde by the names of serde's.
+use super::candidates::Space;
 use super::meaning::Meaning;
-use super::{Import, NO_NAME, Name, Path, Scopes, Words};
+use super::{Import, NO_NAME, Name, Scopes, Words};
 use crate::known::is_known_crate;
 use declaration_parser::derives::{has_own, has_serdes};
 use declaration_parser::tokens::{DESERIALIZE, SERIALIZE, Word, word_of};
 
 /// What stands for the names of a file that isn't read: no text has this name.
 const INCLUDED: Name = Name::MAX;
+
+impl Import {
+    /// Whether it may bring in what isn't in these files.
+    pub(super) fn leads_out(&self) -> bool {
+        !matches!(self.before, Meaning::Module(_) | Meaning::Item(_))
+    }
+}
 
 impl<'a> Scopes<'a> {
     /// Adds what a `use` brings in by these words, or an `extern crate`.
@@ -39,7 +47,6 @@ impl<'a> Scopes<'a> {
         if matches!(word_of(last), Word::Own) && import.path.count > 0 {
             import.last = import.path.before();
             import.path.count = import.path.count.saturating_sub(1);
-            import.is_module = true;
         }
         let by = words.behind_first();
         let is_renamed = matches!(self.tokens.front(words), Word::As) && !by.is_empty();
@@ -99,35 +106,8 @@ impl<'a> Scopes<'a> {
         name
     }
 
-    /// Whether a scope may pass on what another has under a name: it is the other, or `use` leads there.
-    fn may_lead_to(&self, from: usize, place: usize, name: Name) -> bool {
-        for it in &self.imports {
-            let is_way =
-                matches!(it.lead.before, Meaning::Module(next) if self.leads_to(next, place));
-            if is_way && it.name == name {
-                return true;
-            }
-        }
-        self.leads_to(from, place)
-    }
-
-    /// Whether the derive of this name that a scope has may be another crate's; nothing if no `use` says it. What the scope itself
-    /// brings in by the name hides what a `*` brings in.
-    fn derive_in(&self, scope: usize, derive: Name) -> Option<bool> {
-        let (mut is_serdes, mut is_led) = (false, false);
-        for it in &self.imports {
-            let is_own = it.name == derive && it.scope == scope;
-            let is_other = (it.name == derive || it.name == NO_NAME) && self.brings_other(it);
-            if is_own && is_other {
-                return Some(true);
-            }
-            is_serdes = is_serdes || (is_own && it.leads_out());
-            is_led = is_led || (is_other && self.may_lead_to(scope, it.scope, derive));
-        }
-        (is_serdes || is_led).then_some(!is_serdes)
-    }
-
-    /// Whether the derive of this name that a scope uses may be another crate's. What a body brings in hides what is round it.
+    /// Whether the derive of this name that a scope uses may be another crate's, by a `use` that may bring it in there. What a body
+    /// brings in hides what is round it.
     pub fn has_other_derive(&self, scope: usize, derive: Name) -> bool {
         let mut at = scope;
         for _ in 0..self.scopes.len() {
@@ -138,5 +118,21 @@ impl<'a> Scopes<'a> {
             }
         }
         false
+    }
+
+    /// Whether the derive of this name that a scope has may be another crate's; nothing if no `use` says it.
+    fn derive_in(&self, scope: usize, derive: Name) -> Option<bool> {
+        let (_, places) = self.reached(scope, derive, Space::Types);
+        let mut is_brought = false;
+        for it in &self.imports {
+            let is_own = it.scope == scope && it.name == derive;
+            let is_star = it.name == NO_NAME && !self.members.contains(&(derive, it.scope));
+            let is_one = it.name == derive || is_star;
+            if is_one && places.has(it.scope) && self.brings_other(it) {
+                return Some(true);
+            }
+            is_brought = is_brought || (is_own && it.leads_out());
+        }
+        is_brought.then_some(false)
     }
 }
