@@ -52,7 +52,6 @@ struct Import {
     last: Name,
     scope: usize,
     is_crate: bool,
-    is_public: bool,
     is_conditional: bool,
     /// What the names before the last mean, or the last one if it is alone; of a `*` what it brings all in of.
     before: Meaning,

@@ -74,7 +74,6 @@ impl<'a> Scopes<'a> {
                 let mut import = Import::default();
                 import.scope = scope;
                 import.is_crate = item.kind == ItemKind::Crate;
-                import.is_public = item.is_public || import.is_crate;
                 import.is_conditional = is_conditional;
                 return self.read_use(import, item.words);
             }

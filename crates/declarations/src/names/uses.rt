@@ -76,7 +76,6 @@ impl<'a> Scopes<'a> {
         let mut import = Import::default();
         import.scope = scope;
         import.last = INCLUDED;
-        import.is_public = true;
         self.put_import(import);
     }
 
