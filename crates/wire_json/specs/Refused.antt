@@ -1,6 +1,7 @@
 -- When nothing is read.
 use Rattle.std.specs.Prelude.{◌≡◌, ℕ, List, [], ◌∷◌, ◌++◌, Option, Some, None, Result, IfErr, String, codes, decimal, string_bytes}
 use Rattle.std.specs.Global.{Global}
+use Rattle.std.specs.Option.{option_map}
 use Rattle.schema_table.specs.declared.node.Node.{Node}
 use Rattle.schema_table.specs.declared.node.Node.TheVariants as node
 use Rattle.wire_json.specs.declared.wrong.Wrong.{Wrong as Fault}
@@ -11,6 +12,20 @@ use Rattle.wire_json.specs.declared.wrong.ParseError.TheVariants.{Wrong, OutOfMe
 abbrev pub IsWrong : ParseError → Type 0
 IsWrong (Wrong w) = Unit {0}
 IsWrong OutOfMemory = ⊥
+
+-- the error is this fault: the path to it, if it has one, and what is wrong
+abbrev pub IsFault : Option (List ℕ) → List ℕ → ParseError → Type 0
+IsFault path why (Wrong w) = (option_map string_bytes w.path ≡ path) × (w.why.now ≡ why)
+IsFault path why OutOfMemory = ⊥
+
+-- the error is this fault, or that the path to it couldn't be allocated
+abbrev pub IsFaultAt : List ℕ → List ℕ → ParseError → Type 0
+IsFaultAt path why OutOfMemory = Unit {0}
+IsFaultAt path why e = IsFault (Some path) why e
+
+-- the path of a line that isn't JSON from this column on
+abbrev pub column_path : ℕ → List ℕ
+column_path column = codes "column " ++ decimal column
 
 -- the line that refuses the line of that number, with what is wrong
 abbrev pub refusal_text : ℕ → List ℕ → List ℕ

@@ -1,6 +1,6 @@
 //! What is wrong with a line, and the path to it.
-ghost use Rattle.std.specs.Prelude.{◌≡◌, ◌+◌, ◌<◌, ◌++◌, [], length, get_or, string_bytes, string_capacity, string_len, OnOk, OnErr};
-ghost use Rattle.wire_json.specs.Refused.{AppendsFront, IsWrong, fault_line, line_parts};
+ghost use Rattle.std.specs.Prelude.{◌≡◌, ◌+◌, ◌<◌, ◌++◌, [], None, codes, length, get_or, string_bytes, string_capacity, string_len, OnOk, OnErr};
+ghost use Rattle.wire_json.specs.Refused.{AppendsFront, IsFault, IsFaultAt, IsWrong, column_path, fault_line, line_parts};
 ghost use Rattle.wire_json.specs.declared.wrong.ParseError.TheVariants.{OutOfMemory};
 
 use itoa::Buffer;
@@ -41,7 +41,9 @@ impl<T: Drop> From<AllocFailed<T>> for ParseError {
 }
 
 /// Returns the error for a fault of the whole value.
-pub fn refusal(why: &'static str) -> ParseError {
+pub fn refusal(why: &'static str) -> ParseError
+    ensures { IsFault None why.now result }
+{
     ParseError::Wrong(Wrong { path: None, why })
 }
 
@@ -118,7 +120,9 @@ pub fn inside_element(alloc: Global, index: usize, error: ParseError) -> ParseEr
 ///
 /// # Allocates
 /// The path.
-pub fn at_column(alloc: Global, column: usize) -> ParseError {
+pub fn at_column(alloc: Global, column: usize) -> ParseError
+    ensures { IsFaultAt (column_path column) (codes "the line isn't JSON") result }
+{
     match format!(in alloc; "column {column}") {
         Ok(path) => ParseError::Wrong(Wrong {
             path: Some(path),
