@@ -6,7 +6,7 @@ use Rattle.link.specs.declared.receiver.Answer.{Answer}
 use Rattle.wire_lib.specs.declared.receive.Reading.{Reading}
 use Rattle.wire_lib.specs.declared.receive.LinesOfFrames.{LinesOfFrames}
 use Rattle.wire_lib.specs.declared.send.Sending.{Sending}
-use Rattle.wire_lib.specs.Received.{HasTold, held_by, read_by, reading_of, added_at_end, TellsEach, TellsEnd}
+use Rattle.wire_lib.specs.Received.{HasGot, held_by, read_by, reading_of, added_at_end, TellsEach, TellsEnd}
 use Rattle.wire_c.specs.declared.terms.WireTerms.{WireTerms}
 use Rattle.wire_c.specs.Flags.{is_set}
 use Rattle.wire_c.specs.Streams.{skipped_in, TellsLast, TellsStream, ReadsStream}
@@ -16,14 +16,14 @@ use Rattle.wire_c.specs.Texts.{MakesFrames, WritesFrames, RefusesLines}
 pub stream_told : (r old : Reading) (new : LinesOfFrames) (ends : Bool) (passed skip : ℕ)
     (stream lines before after : List ℕ) (more : List (Answer Value))
     → old ≡ r → reading_of new ≡ old → skip ≡ passed → lines ≡ []
-    → HasTold new passed (drop skip stream) more
+    → HasGot new passed (drop skip stream) more
     → TellsEach old passed (drop skip stream) [] more lines before
     → TellsLast r ends passed (drop passed stream) before after
     → TellsStream r passed ends stream after
 stream_told r old new ends passed skip stream lines before after more e en es el h t l = record {
   answers = more;
   given = subst (λ x. HasGiven (held_by x) (read_by x) 65536 x.sentinel more (drop passed stream)) (en ∙ e)
-      (subst (λ k. HasGiven (held_by new.reading) (read_by new.reading) 65536 new.reading.sentinel more (drop k stream)) es h.hears.given);
+      (subst (λ k. HasGiven (held_by new.reading) (read_by new.reading) 65536 new.reading.sentinel more (drop k stream)) es h.given);
   before_end = before;
   told = subst (λ xs. TellsEach r passed (drop passed stream) [] more xs before) el
       (subst (λ k. TellsEach r passed (drop k stream) [] more lines before) es

@@ -17,7 +17,7 @@ use Rattle.wire_lib.specs.declared.receive.Reading.{Reading}
 use Rattle.wire_lib.specs.declared.watching.table.Table.{Table}
 use Rattle.wire_lib.specs.Received.{held_by, read_by, place_from}
 use Rattle.wire_lib.specs.Fronts.{most_kept, kept_behind, damage_said}
-use Rattle.wire_lib.specs.Tables.{last_of}
+use Rattle.wire_lib.specs.Tables.{StaysAs, last_of}
 use Rattle.wire_lib.specs.Damages.{IsDamageWord, first_bytes, IsTextAt, IsTextOf, HasTexts, AreTextsOf, HasKept, HasKeptAll}
 use Rattle.wire_lib.specs.Seen.{KeepsDamage, KeepsText}
 
@@ -70,7 +70,7 @@ kept_stream s a =
         ∙ ap (λ t. if t then [] else take most_kept (kept_behind s [] y ++ s ∷ [])) (eq-eqb s s refl)
 
 -- a text is one of a longer stream too
-text_on : (r : Reading) (stream later : List ℕ) (earlier : List (Answer Value)) (a : Answer Value)
+pub text_on : (r : Reading) (stream later : List ℕ) (earlier : List (Answer Value)) (a : Answer Value)
     (text : List ℕ) → IsTextOf r stream earlier a text → IsTextOf r (stream ++ later) earlier a text
 text_on r stream later earlier a text h = record {
   front = h.front;
@@ -223,14 +223,14 @@ module _ (r : Reading) (at at' used n : ℕ) (stream rest front front' before la
   }
 
   -- the text of a result that isn't a message
-  text_of : (what : List ℕ) (a : Answer Value) (text : String Global) → HasKept r at front old stream answers
+  pub text_of : (what : List ℕ) (a : Answer Value) (text : List ℕ) → HasKept r at front old stream answers
       → HasGiven (held_by r) (read_by r) 65536 r.sentinel answers (stream ++ before)
       → HasGiven (held_by r) (read_by r) 65536 r.sentinel (answers ++ a ∷ []) (stream ++ take used rest)
       → at' ≡ min (at + used) (2 ^ 64 - 1) → take used rest ≡ before ++ last → length last ≡ 1
       → length before + 1 ≡ used
       → n ≡ length (unfinished r.sentinel (stream ++ before)) → IsDamageWord a what
-      → string_bytes text ≡ damage_said what (at' - 1 - n) n (kept_behind r.sentinel front before)
-      → IsTextOf r (stream ++ take used rest) answers a (string_bytes text)
+      → text ≡ damage_said what (at' - 1 - n) n (kept_behind r.sentinel front before)
+      → IsTextOf r (stream ++ take used rest) answers a text
   text_of what a text h g g' e f one many size word said =
       let s = r.sentinel in
       let prefix = stream ++ before in
@@ -292,7 +292,7 @@ module _ (r : Reading) (at at' used n : ℕ) (stream rest front front' before la
           → HasGiven (held_by r) (read_by r) 65536 r.sentinel (answers ++ x ∷ []) stream'
           → (k : KeepsDamage what (at' - 1 - n) n (kept_behind r.sentinel front before) old new)
           → IsTextOf r stream' answers x (string_bytes k.0)
-      damage x what word given k = text_of what x k.0 h g given e f one many size word k.1
+      damage x what word given k = text_of what x (string_bytes k.0) h g given e f one many size word k.1
 
       kept_text : (text : String Global) → new.damages.items ≡ last_of 3 (old.damages.items ++ text ∷ [])
           → map string_bytes new.damages.items ≡ last_of 3 (h.texts ++ string_bytes text ∷ [])
@@ -323,6 +323,23 @@ all_plain r at front table stream answers added e h =
       last = h.last ∙ ap (last_of 3) (sym (append-nil h.texts));
     })
 
+-- the text of a partial frame
+pub cut_text : (r : Reading) (at at' n : ℕ) (front : List ℕ) (table : Table) (stream : List ℕ)
+    (answers : List (Answer Value)) (text : List ℕ) → HasKept r at front table stream answers
+    → at' ≡ min (at + 1) (2 ^ 64 - 1) → n ≡ length (unfinished r.sentinel stream)
+    → text ≡ damage_said (codes "cut") (at' - 1 - n) n front → IsTextAt r.sentinel stream answer.Cut text
+cut_text r at at' n front table stream answers text h came size said =
+    let s = r.sentinel in
+    let what = codes "cut" in record {
+      what = what;
+      word = refl;
+      from = at' - 1 - n;
+      is = said ∙ ap (λ m. damage_said what (at' - 1 - n) m front) size
+          ∙ ap (damage_said what (at' - 1 - n) (length (unfinished s stream)))
+          (h.behind ∙ kept_stream s stream);
+      place = λ bound. omega (arith, bound, came, h.came, size);
+    }
+
 pub all_cut : (r : Reading) (at at' n : ℕ) (front : List ℕ) (old new : Table) (stream : List ℕ)
     (answers added : List (Answer Value)) → added ≡ answer.Cut ∷ []
     → HasKept r at front old stream answers → at' ≡ min (at + 1) (2 ^ 64 - 1)
@@ -330,18 +347,8 @@ pub all_cut : (r : Reading) (at at' n : ℕ) (front : List ℕ) (old new : Table
     → (length old.damages.items ≤ 3 → KeepsDamage (codes "cut") (at' - 1 - n) n front old new)
     → HasKeptAll r new stream answers added
 all_cut r at at' n front old new stream answers added e h came size keeps =
-    let s = r.sentinel in
     let k = keeps (few old h.texts h.last) in
-    let what = codes "cut" in
-    let text : IsTextAt s stream answer.Cut (string_bytes k.0) = record {
-      what = what;
-      word = refl;
-      from = at' - 1 - n;
-      is = k.1 ∙ ap (λ m. damage_said what (at' - 1 - n) m front) size
-          ∙ ap (damage_said what (at' - 1 - n) (length (unfinished s stream)))
-          (h.behind ∙ kept_stream s stream);
-      place = λ bound. omega (arith, bound, came, h.came, size);
-    } in
+    let text = cut_text r at at' n front old stream answers (string_bytes k.0) h came size k.1 in
     subst (HasKeptAll r new stream answers) (sym e) (record {
       texts = h.texts;
       told = h.told;
@@ -349,6 +356,17 @@ all_cut r at at' n front old new stream answers added e h came size keeps =
       cut = (text, tt);
       last = kept_more old new h.texts k.0 h.last k.2;
     })
+
+-- what a table keeps that stays as it is
+pub kept_still : (r : Reading) (at : ℕ) (front : List ℕ) (old new : Table) (stream : List ℕ) (answers : List (Answer Value))
+    → StaysAs old new → HasKept r at front old stream answers → HasKept r at front new stream answers
+kept_still r at front old new stream answers s h = record {
+  came = h.came;
+  behind = h.behind;
+  texts = h.texts;
+  told = h.told;
+  last = ap (map string_bytes) s.damages ∙ h.last;
+}
 
 -- how many bytes are begun, where some are
 pub begun_is : (s n : ℕ) (stream : List ℕ) → n ≡ begun_length (begun 65536 s stream) → 0 < n

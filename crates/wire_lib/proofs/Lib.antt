@@ -14,3 +14,4 @@ pub mod ShownLemmas
 pub mod SizesLemmas
 pub mod TableJsonLemmas
 pub mod ToldLemmas
+pub mod WatchedLemmas

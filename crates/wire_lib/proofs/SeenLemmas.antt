@@ -13,7 +13,7 @@ use Rattle.wire_lib.specs.Rates.{capped}
 use Rattle.wire_lib.specs.Kinds.{kind_in}
 use Rattle.wire_lib.specs.Seen.{damages_among, messages_among, HaveCounted, HasCounted, CountsToo, KeepsDamage, HasSeen, as_answer}
 use Rattle.wire_lib.specs.Fronts.{damage_said}
-use Rattle.wire_lib.specs.Tables.{IsNoted, last_of}
+use Rattle.wire_lib.specs.Tables.{IsNoted, StaysAs, last_of}
 use Rattle.wire_lib.specs.declared.watching.table.Row.{Row}
 use Rattle.wire_lib.specs.declared.watching.table.Table.{Table}
 use Rattle.wire_lib.specs.declared.watching.viewer.Viewer.{Viewer}
@@ -144,6 +144,13 @@ adds_none (kept []) e = refl
 adds_none (kept (x ∷ p)) e = absurd (omega (arith, e))
 adds_none over e = refl
 
+-- a table that stays as it is has counted what it had
+pub counted_still : (old new : Table) (xs : List (Answer Value)) → StaysAs old new → HasCounted old xs → HasCounted new xs
+counted_still old new xs s h = record {
+  damaged = s.damaged ∙ h.damaged;
+  rows = subst (λ r. HaveCounted r.items xs) (sym s.rows) h.rows;
+}
+
 -- the same behind a call that may find no memory
 pub damage_told : {A E : Type 0} (r : Result A E) (old new : Table) (a : Answer Value) → damages_among (a ∷ []) ≡ 1 → ((k : ℕ) → messages_among k (a ∷ []) ≡ 0)
     → OnOk r (new.damaged ≡ capped (old.damaged + 1)) → new.rows ≡ old.rows → OnOk r (CountsToo a old new)
@@ -157,6 +164,11 @@ pub damage_kept : {A E : Type 0} (r : Result A E) (what : List ℕ) (from place 
 damage_kept (Ok x) what from place count front bytes old new text at is said holds =
     (text, said ∙ ap (λ n. damage_said what n count front) at ∙ ap (λ b. damage_said what place count b) is, holds)
 damage_kept (Err e) what from place count front bytes old new text at is said holds = tt
+
+-- what holds, holds at a success
+pub at_ok : {T E P : Type 0} (r : Result T E) → P → OnOk r P
+at_ok (Ok x) p = p
+at_ok (Err e) p = tt
 
 -- an end in a stretch is no value
 pub cut_is_bad : (xs : List (Answer Value)) → false ≡ are_all_values (xs ++ answer.Cut ∷ [])

@@ -1,9 +1,10 @@
 -- What is shown of lines.
-use Rattle.std.proofs.Common.{◌≡◌, ◌∙◌, ℕ, ◌+◌, ◌-◌, ◌<◌, List, [], ◌∷◌, ◌++◌, length, take, drop, get_or, refl, sym, ap, subst, append_assoc, append-nil, take-append-drop, arith}
+use Rattle.std.proofs.Common.{◌≡◌, ◌∙◌, ◌&&◌, not, Bool, true, if◌then◌else◌, Option, ℕ, ◌+◌, ◌-◌, ◌<◌, List, [], ◌∷◌, ◌++◌, length, take, drop, get_or, refl, sym, ap, subst, append_assoc, append-nil, take-append-drop, arith}
 use Rattle.std.specs.List.{flat_map}
 use Rattle.std.proofs.lemmas.List.{drop-drop, length-drop, take_all, take_more}
 use Rattle.std.proofs.lemmas.Grind.{flat_map-append}
 use Rattle.wire_lib.specs.Sent.{LacksFeed, IsTextOf, last_line}
+use Rattle.wire_lib.specs.Shown.{is_line_shown, is_value_line, line_coloured, line_shown, line_timed}
 use Rattle.wire_lib.proofs.SentLemmas.{text_on, text_ended}
 
 -- one line more was appended as it is shown
@@ -12,6 +13,14 @@ pub shown_then : (f : List ℕ → List ℕ) (out out' out'' line : List ℕ) (l
 shown_then f out out' out'' line ls e g =
     g ∙ ap (λ x. x ++ f line) e ∙ append_assoc out (flat_map f ls) (f line)
     ∙ ap (λ x. out ++ x) (ap (λ x. flat_map f ls ++ x) (sym (append-nil (f line))) ∙ sym (flat_map-append f ls (line ∷ [])))
+
+-- a line that is shown was appended
+pub shown_as : (only : Option (List ℕ)) (colour own : Bool) (time : Option ℕ) (line out out' : List ℕ) → is_line_shown only line ≡ true → own ≡ colour
+    → out' ≡ out ++ (line_coloured (own && not (is_value_line line)) (line_timed time line) ++ 10 ∷ [])
+    → out' ≡ out ++ line_shown only colour time line
+shown_as only colour own time line out out' e f g =
+    g ∙ ap (λ c. out ++ (line_coloured (c && not (is_value_line line)) (line_timed time line) ++ 10 ∷ [])) f
+    ∙ ap (λ b. out ++ (if b then line_coloured (colour && not (is_value_line line)) (line_timed time line) ++ 10 ∷ [] else [])) (sym e)
 
 -- a line was ended
 pub line_ended : (done line : List ℕ) (ls : List (List ℕ)) → IsTextOf done ls [] → LacksFeed line

@@ -17,3 +17,4 @@ pub mod Sizes
 pub mod Summed
 pub mod TableJson
 pub mod Tables
+pub mod Watched

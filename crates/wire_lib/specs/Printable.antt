@@ -26,11 +26,6 @@ shown_character c = if nat_le 32 c && nat_le c 126 then c ∷ [] else flat_map e
 abbrev pub shown_text : List ℕ → List ℕ
 shown_text text = flat_map shown_character (chars text)
 
--- A line of printable bytes was appended to others, with a line feed after it.
-pub record AddsPrintableLine (lines lines' : List ℕ) : Type 0 where
-  -- the line
-  pub line : List ℕ
-  -- all of its bytes are printable
-  pub printable : ArePrintable line
-  -- and nothing else was appended
-  pub appended : lines' ≡ lines ++ line ++ 10 ∷ []
+-- a text as a line of printable ASCII, with its line feed
+abbrev pub shown_line : List ℕ → List ℕ
+shown_line text = shown_text text ++ 10 ∷ []

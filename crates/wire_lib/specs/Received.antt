@@ -11,7 +11,7 @@ use Rattle.link.specs.Judged.{HoldsBy}
 use Rattle.link.specs.Pushes.{finished, IsLeast}
 use Rattle.link.specs.Receivers.{IsBehind}
 use Rattle.link.specs.Decoding.{in_owner}
-use Rattle.link.specs.Listening.{Hears, HasGiven}
+use Rattle.link.specs.Listening.{HasGiven}
 use Rattle.link.specs.declared.receiver.Answer.{Answer}
 use Rattle.link.specs.declared.receiver.Answer.TheVariants as answer
 use Rattle.wire_lib.specs.declared.receive.Reading.{Reading}
@@ -47,17 +47,25 @@ are_all_values [] = true
 are_all_values (answer.Value v ∷ answers) = are_all_values answers
 are_all_values (_ ∷ answers) = false
 
--- After `passed` bytes that are skipped the receiver got this stream, these were its results, and it knows whether all are values
--- and how many bytes came.
-pub record HasTold (r : LinesOfFrames) (passed : ℕ) (stream : List ℕ)
-    (answers : List (Answer Value)) : Type 0 where
-  -- these are the results of the stream
-  pub hears : Hears in_owner (held_by r.reading) (read_by r.reading)
-      65536 r.reading.sentinel r.receiver answers stream
-  -- whether all are values
-  pub good : r.is_good ≡ are_all_values answers
+-- whether all results so far were values, and none was lost
+abbrev pub good_so_far : LinesOfFrames → Bool
+good_so_far r = r.is_good
+
+-- After `passed` bytes that are skipped the receiver got this stream.
+pub record HasCome (r : LinesOfFrames) (passed : ℕ) (stream : List ℕ) : Type 0 where
+  -- the receiver continues after the stream
+  pub after : IsBehind in_owner 65536 r.reading.sentinel r.receiver stream
   -- how many bytes came, with those that are skipped
   pub came : r.at ≡ min (passed + length stream) (2 ^ 64 - 1)
+
+-- After `passed` bytes that are skipped the receiver got this stream, and these are the results of the stream, whether or not one was
+-- lost.
+pub record HasGot (r : LinesOfFrames) (passed : ℕ) (stream : List ℕ)
+    (answers : List (Answer Value)) : Type 0 where
+  -- these are all results of the stream
+  pub given : HasGiven (held_by r.reading) (read_by r.reading) 65536 r.reading.sentinel answers stream
+  -- the receiver continues after it
+  pub come : HasCome r passed stream
 
 -- Memory ran out at the next result: these are the results of the stream, and the receiver got the bytes behind it up to the first
 -- that brings another one, or all of them.
@@ -70,9 +78,9 @@ pub record HasStopped (r : LinesOfFrames) (passed : ℕ) (stream rest : List ℕ
   -- fewer of them bring no result: so at most one is lost
   pub least : IsLeast (held_by r.reading) 65536 r.reading.sentinel stream rest used
   -- the receiver continues after them
-  pub after : IsBehind in_owner 65536 r.reading.sentinel r.receiver (stream ++ take used rest)
-  -- how many bytes came, with those that are skipped
-  pub came : r.at ≡ min (passed + length (stream ++ take used rest)) (2 ^ 64 - 1)
+  pub come : HasCome r passed (stream ++ take used rest)
+  -- it knows that one was lost
+  pub lost : r.is_good ≡ false
 
 -- the result as a list of one, or an empty list
 abbrev pub as_list : Option (Answer Value) → List (Answer Value)

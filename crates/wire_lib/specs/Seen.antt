@@ -1,11 +1,12 @@
 -- What a viewer has seen of a stream: each result is counted once.
-use Rattle.std.specs.Prelude.{◌≡◌, ◌==◌, ◌<◌, ℕ, ◌+◌, List, [], ◌∷◌, ◌++◌, length, slice_index_or, String, string_bytes, if◌then◌else◌}
+use Rattle.std.specs.Prelude.{◌≡◌, ◌==◌, ◌<◌, ℕ, ◌+◌, Bool, true, false, List, [], ◌∷◌, ◌++◌, length, take, slice_index_or, String, string_bytes, if◌then◌else◌}
 use Rattle.std.specs.Global.{Global}
 use Rattle.schema_table.specs.declared.value.Value.{Value}
 use Rattle.link.specs.Stream.{begun}
-use Rattle.link.specs.Pushes.{finished}
+use Rattle.link.specs.Pushes.{finished, IsLeast}
+use Rattle.link.specs.Receivers.{IsBehind}
 use Rattle.link.specs.Decoding.{in_owner}
-use Rattle.link.specs.Listening.{Hears}
+use Rattle.link.specs.Listening.{Hears, HasGiven}
 use Rattle.link.specs.declared.receiver.Answer.{Answer}
 use Rattle.link.specs.declared.receiver.Answer.TheVariants as answer
 use Rattle.wire_lib.specs.Received.{held_by, read_by, as_list}
@@ -14,7 +15,7 @@ use Rattle.wire_lib.specs.Kinds.{kind_in}
 use Rattle.wire_lib.specs.Rates.{capped}
 use Rattle.wire_lib.specs.Damages.{IsDamageWord, HasKept, HasKeptAll}
 use Rattle.wire_lib.specs.Fronts.{damage_said}
-use Rattle.wire_lib.specs.Tables.{last_of}
+use Rattle.wire_lib.specs.Tables.{last_of, row_names}
 use Rattle.wire_lib.specs.declared.watching.table.Row.{Row}
 use Rattle.wire_lib.specs.declared.watching.table.Table.{Table}
 use Rattle.wire_lib.specs.declared.watching.viewer.Viewer.{Viewer}
@@ -72,7 +73,15 @@ KeepsText a from count bytes old new = (what : List ℕ) × IsDamageWord a what 
 abbrev pub reading_of : Viewer → Reading
 reading_of v = v.reading
 
--- The viewer's type, limits, receiver, position and partial frame are unchanged.
+-- the names of the kinds
+abbrev pub names_of : Viewer → List (List ℕ)
+names_of v = row_names v.table.rows.items
+
+-- whether no result was lost
+abbrev pub missed_none : Viewer → Bool
+missed_none v = v.is_whole
+
+-- The viewer's type, limits, receiver, position, partial frame, and whether a result was lost, are unchanged.
 pub record StandsStill (old new : Viewer) : Type 0 where
   -- how frames are read
   pub reading : new.reading ≡ old.reading
@@ -82,6 +91,8 @@ pub record StandsStill (old new : Viewer) : Type 0 where
   pub at : new.at ≡ old.at
   -- the first bytes of the partial frame
   pub front : new.front ≡ old.front
+  -- whether a result was lost
+  pub whole : new.is_whole ≡ old.is_whole
 
 -- The viewer got this stream, these were its results, and its table has counted them and keeps the last damages.
 pub record HasSeen (v : Viewer) (stream : List ℕ) (answers : List (Answer Value)) : Type 0 where
@@ -92,6 +103,31 @@ pub record HasSeen (v : Viewer) (stream : List ℕ) (answers : List (Answer Valu
   pub counted : HasCounted v.table answers
   -- the last damages, with their positions and bytes
   pub kept : HasKept v.reading v.at v.front.items v.table stream answers
+  -- none was lost
+  pub whole : v.is_whole ≡ true
+
+-- The viewer got this stream, and its table has counted these of its results and keeps the last damages among them.
+pub record HasFollowed (v : Viewer) (stream : List ℕ) (answers : List (Answer Value)) : Type 0 where
+  -- the receiver continues after the stream
+  pub after : IsBehind in_owner 65536 v.reading.sentinel v.receiver stream
+  -- the table has counted them
+  pub counted : HasCounted v.table answers
+  -- the last damages, with their positions and bytes
+  pub kept : HasKept v.reading v.at v.front.items v.table stream answers
+
+-- Memory ran out at the next result: these are the results of the stream, and the viewer got the bytes behind it up to the first
+-- that brings another one, or all of them. That one isn't counted.
+pub record HasLost (v : Viewer) (stream rest : List ℕ) (answers : List (Answer Value)) : Type 0 where
+  -- these are all results of the stream
+  pub given : HasGiven (held_by v.reading) (read_by v.reading) 65536 v.reading.sentinel answers stream
+  -- how many of the bytes behind it came
+  pub used : ℕ
+  -- fewer of them bring no result: so at most one is lost
+  pub least : IsLeast (held_by v.reading) 65536 v.reading.sentinel stream rest used
+  -- the viewer continues after them, and has counted these results
+  pub follows : HasFollowed v (stream ++ take used rest) answers
+  -- it knows that one was lost
+  pub lost : v.is_whole ≡ false
 
 -- the results that the end of such a stream adds
 abbrev pub added_by_end : Viewer → List ℕ → List (Answer Value)

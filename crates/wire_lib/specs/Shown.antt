@@ -1,7 +1,7 @@
 -- Which lines of a stream are shown, with their time, and in which colour.
-use Rattle.std.specs.Prelude.{◌≡◌, ℕ, ◌/◌, ◌%◌, Bool, true, false, ◌&&◌, ◌||◌, not, List, [], ◌∷◌, ◌++◌, length, take, flat_map, Option, Some, None, Vec, bytes_eq, codes, decimal, if◌then◌else◌}
+use Rattle.std.specs.Prelude.{◌≡◌, ◌<◌, ℕ, ◌/◌, ◌%◌, Bool, true, false, ◌&&◌, ◌||◌, not, List, [], ◌∷◌, ◌++◌, length, take, All, flat_map, Option, Some, None, Vec, bytes_eq, codes, decimal, if◌then◌else◌}
 use Rattle.std.specs.Global.{Global}
-use Rattle.wire_lib.specs.Sent.{IsTextOf, last_line}
+use Rattle.wire_lib.specs.Sent.{IsTextOf, LacksFeed, last_line, with_feed}
 use Rattle.wire_lib.specs.declared.shown.Shown.{Shown}
 use Rattle.wire_lib.specs.declared.watching.screen.TheConstants.{RED, PLAIN}
 
@@ -69,3 +69,15 @@ pub record PutsShown (only : Option (List ℕ)) (colour : Bool) (time : Option �
   pub parts : IsTextOf text lines begun
   -- nothing else was appended
   pub appended : out' ≡ out ++ flat_map (line_shown only colour time) (lines ++ last_line begun)
+
+-- What is shown of the first lines of a text was appended, and nothing of what is behind them.
+pub record PutsFirst (only : Option (List ℕ)) (colour : Bool) (time : Option ℕ) (text out out' : List ℕ) : Type 0 where
+  -- the first lines of the text, and what is behind them
+  pub lines : List (List ℕ)
+  pub rest : List ℕ
+  pub parts : text ≡ flat_map with_feed lines ++ rest
+  pub apart : All LacksFeed lines
+  -- there is something behind them
+  pub some : 0 < length rest
+  -- nothing else was appended
+  pub appended : out' ≡ out ++ flat_map (line_shown only colour time) lines

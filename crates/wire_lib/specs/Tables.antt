@@ -3,6 +3,7 @@ use Rattle.std.specs.Prelude.{◌≡◌, ℕ, ◌+◌, ◌-◌, List, ◌∷◌,
 use Rattle.std.specs.Global.{Global}
 use Rattle.wire_lib.specs.Rates.{capped, HasTimed, newest}
 use Rattle.wire_lib.specs.declared.watching.table.Row.{Row}
+use Rattle.wire_lib.specs.declared.watching.table.Table.{Table}
 
 -- A message with this text was counted in a row, in this window of time.
 pub record IsNoted (text : String Global) (window : ℕ) (old new : Row) : Type 0 where
@@ -23,3 +24,12 @@ last_of n xs = drop (length xs - n) xs
 -- the names of the kinds that rows are of
 abbrev pub row_names : List Row → List (List ℕ)
 row_names rows = map (λ row. string_bytes row.name) rows
+
+-- A table counts and keeps what it did before.
+pub record StaysAs (old new : Table) : Type 0 where
+  -- the kinds, with their numbers and last messages
+  pub rows : new.rows ≡ old.rows
+  -- the number of damages
+  pub damaged : new.damaged ≡ old.damaged
+  -- the texts of the last ones
+  pub damages : new.damages.items ≡ old.damages.items

@@ -1,12 +1,12 @@
 //! A stream of frames as lines of JSON.
-ghost use Rattle.std.specs.Prelude.{◌≡◌, ℕ, ◌<◌, ◌≤◌, ◌-◌, List, [], ◌++◌, length, take, drop, IfOk, OnOk, OnErr};
+ghost use Rattle.std.specs.Prelude.{◌≡◌, ℕ, ◌<◌, ◌≤◌, ◌-◌, List, [], ◌++◌, length, take, drop, ◌&&◌, true, IfOk, OnOk, OnErr};
 ghost use Rattle.link.specs.Decoding.{in_owner};
 ghost use Rattle.link.specs.Receivers.{IsBehind, SameTerms};
 ghost use Rattle.link.specs.Pushes.{Answered, IsStretchOf};
 ghost use Rattle.link.specs.declared.receiver.Answer.{Answer as Answers};
 ghost use Rattle.schema_table.specs.declared.value.Value.{Value as Values};
 ghost use Rattle.wire_lib.specs.Said.{OnlyAppended, IsTextFor, value_line, stretch_line, known_to, end_said, SaysLine};
-ghost use Rattle.wire_lib.specs.Received.{HasStopped, HasTold, held_by, read_by, reading_of, skip_of, is_a_value, are_all_values, added_at_end, TellsEach, TellsEnd};
+ghost use Rattle.wire_lib.specs.Received.{HasCome, HasGot, HasStopped, good_so_far, held_by, read_by, reading_of, skip_of, is_a_value, are_all_values, added_at_end, TellsEach, TellsEnd};
 
 use crate::table::TableReader;
 use cobs::before_sentinel;
@@ -75,7 +75,7 @@ pub struct LinesOfFrames<'a> {
     skip: u64,
     /// How many bytes of the stream came, with those that are skipped.
     at: u64,
-    /// Whether all results were values.
+    /// Whether all results were values, and none was lost.
     is_good: bool,
     /// A buffer for a value's text, which is reused.
     text: Vec<u8>,
@@ -90,7 +90,8 @@ impl<'a> LinesOfFrames<'a> {
     /// # Allocates
     /// A buffer of [`LIMIT`] bytes.
     pub fn new(reading: Reading<'a>, from: u64) -> Result<LinesOfFrames<'a>, AllocError>
-        ensures told { IfOk result (λ r. HasTold r from [] []) }
+        ensures got { IfOk result (λ r. HasGot r from [] []) }
+        ensures good { IfOk result (λ r. good_so_far r ≡ true) }
         ensures reading { IfOk result (λ r. reading_of r ≡ reading.entry) }
         ensures skip { IfOk result (λ r. skip_of r ≡ from) }
     {
@@ -148,13 +149,14 @@ impl<'a> LinesOfFrames<'a> {
     /// Processes bytes up to the first result, appends its line, and returns how many were processed.
     fn push_one(&mut self, rest: &[u8], lines: &mut Vec<u8>) -> Result<usize, AllocError>
         ensures told { IfOk result (λ used. (passed : ℕ) (stream : List ℕ)
-            (answers : List (Answers Values)) → HasTold self.old passed stream answers
+            (answers : List (Answers Values)) → HasGot self.old passed stream answers
             → (more : List (Answers Values))
-            × HasTold self.new passed (stream ++ take used rest.now) (answers ++ more)
+            × HasGot self.new passed (stream ++ take used rest.now) (answers ++ more)
+            × (good_so_far self.new ≡ (good_so_far self.old && are_all_values more))
             × TellsEach (reading_of self.old) passed (stream ++ rest.now) answers more
             lines.old.items lines.new.items) }
         ensures stopped { OnErr result ((passed : ℕ) (stream : List ℕ)
-            (answers : List (Answers Values)) → HasTold self.old passed stream answers
+            (answers : List (Answers Values)) → HasGot self.old passed stream answers
             → HasStopped self.new passed stream rest.now answers) }
         ensures unchanged { OnErr result (lines.new.items ≡ lines.old.items) }
         ensures only { OnlyAppended lines.old.items lines.new.items }
@@ -173,23 +175,29 @@ impl<'a> LinesOfFrames<'a> {
         match answer {
             Ok(None) => Ok(used),
             Ok(Some(answer)) => {
-                self.is_good = self.is_good & is_value(&answer);
+                let is_good = self.is_good & is_value(&answer);
+                self.is_good = false;
                 self.say(&answer, stretch, left, lines)?;
+                self.is_good = is_good;
                 Ok(used)
             }
-            Err(NoMemory) => Err(AllocError),
+            Err(NoMemory) => {
+                self.is_good = false;
+                Err(AllocError)
+            }
         }
     }
 
     /// Processes bytes that aren't skipped.
     fn push_all(&mut self, piece: &[u8], lines: &mut Vec<u8>) -> Result<(), AllocError>
         ensures told { OnOk result ((passed : ℕ) (stream : List ℕ) (answers : List (Answers Values))
-            → HasTold self.old passed stream answers → (more : List (Answers Values))
-            × HasTold self.new passed (stream ++ piece.now) (answers ++ more)
+            → HasGot self.old passed stream answers → (more : List (Answers Values))
+            × HasGot self.new passed (stream ++ piece.now) (answers ++ more)
+            × (good_so_far self.new ≡ (good_so_far self.old && are_all_values more))
             × TellsEach (reading_of self.old) passed (stream ++ piece.now) answers more
             lines.old.items lines.new.items) }
         ensures stopped { OnErr result ((passed : ℕ) (stream : List ℕ)
-            (answers : List (Answers Values)) → HasTold self.old passed stream answers
+            (answers : List (Answers Values)) → HasGot self.old passed stream answers
             → (done rest : List ℕ) × (piece.now ≡ done ++ rest) × (more : List (Answers Values))
             × HasStopped self.new passed (stream ++ done) rest (answers ++ more)
             × TellsEach (reading_of self.old) passed (stream ++ piece.now) answers more
@@ -211,7 +219,8 @@ impl<'a> LinesOfFrames<'a> {
     fn behind_skipped<'b>(&mut self, piece: &'b [u8]) -> &'b [u8]
         ensures rest { result.now ≡ drop (skip_of self.old) piece.now }
         ensures told { (passed : ℕ) (stream : List ℕ) (answers : List (Answers Values))
-            → HasTold self.old passed stream answers → HasTold self.new passed stream answers }
+            → HasGot self.old passed stream answers → HasGot self.new passed stream answers }
+        ensures good { good_so_far self.new ≡ good_so_far self.old }
         ensures reading { reading_of self.new ≡ reading_of self.old }
         ensures skip { skip_of self.new ≡ skip_of self.old - length piece.now }
     {
@@ -228,19 +237,20 @@ impl<'a> LinesOfFrames<'a> {
     ///
     /// # Errors
     /// Out of memory: the lines of all results before the one for which there was none have been appended, and no part of that one's.
-    /// The next call continues after it: that result is lost, with the rest of the chunk.
+    /// The next call continues after it: that result is lost, with the rest of the chunk, and [`finish`](Self::finish) returns `false`.
     ///
     /// # Allocates
     /// What `lines` grows by. A value at a time is freed.
     pub fn push(&mut self, piece: &[u8], lines: &mut Vec<u8>) -> Result<(), AllocError>
         ensures told { OnOk result ((passed : ℕ) (stream : List ℕ) (answers : List (Answers Values))
-            → HasTold self.old passed stream answers → (more : List (Answers Values))
-            × HasTold self.new passed (stream ++ drop (skip_of self.old) piece.now)
+            → HasGot self.old passed stream answers → (more : List (Answers Values))
+            × HasGot self.new passed (stream ++ drop (skip_of self.old) piece.now)
             (answers ++ more)
+            × (good_so_far self.new ≡ (good_so_far self.old && are_all_values more))
             × TellsEach (reading_of self.old) passed (stream ++ drop (skip_of self.old) piece.now)
             answers more lines.old.items lines.new.items) }
         ensures stopped { OnErr result ((passed : ℕ) (stream : List ℕ)
-            (answers : List (Answers Values)) → HasTold self.old passed stream answers
+            (answers : List (Answers Values)) → HasGot self.old passed stream answers
             → (done rest : List ℕ) × (drop (skip_of self.old) piece.now ≡ done ++ rest)
             × (more : List (Answers Values))
             × HasStopped self.new passed (stream ++ done) rest (answers ++ more)
@@ -254,7 +264,8 @@ impl<'a> LinesOfFrames<'a> {
         self.push_all(rest, lines)
     }
 
-    /// Ends the stream: appends a line `cut` if a frame was begun, and returns whether all results were values.
+    /// Ends the stream: appends a line `cut` if a frame was begun, and returns whether all results were values; `false` if one was lost,
+    /// out of memory.
     ///
     /// # Errors
     /// Out of memory; `lines` is unchanged.
@@ -263,10 +274,9 @@ impl<'a> LinesOfFrames<'a> {
     /// What `lines` grows by.
     pub fn finish(self, lines: &mut Vec<u8>) -> Result<bool, AllocError>
         ensures good { IfOk result (λ good. (passed : ℕ) (stream : List ℕ)
-            (answers : List (Answers Values)) → HasTold self.entry passed stream answers
-            → good ≡ are_all_values (answers ++ added_at_end self.entry stream)) }
-        ensures told { OnOk result ((passed : ℕ) (stream : List ℕ) (answers : List (Answers Values))
-            → HasTold self.entry passed stream answers
+            → HasCome self.entry passed stream → good
+            ≡ (good_so_far self.entry && are_all_values (added_at_end self.entry stream))) }
+        ensures told { OnOk result ((passed : ℕ) (stream : List ℕ) → HasCome self.entry passed stream
             → TellsEnd (reading_of self.entry) passed stream (added_at_end self.entry stream)
             lines.old.items lines.new.items) }
         ensures unchanged { OnErr result (lines.new.items ≡ lines.old.items) }

@@ -1,10 +1,11 @@
 //! Which lines of a stream are shown, with their time, and in which colour.
-ghost use Rattle.std.specs.Prelude.{◌≡◌, ◌++◌, ◌∷◌, [], ◌&&◌, not, ℕ, Bool, List, Option, true, false, codes, string_bytes, IfOk, OnOk};
+ghost use Rattle.std.specs.Prelude.{◌≡◌, ◌++◌, ◌∷◌, [], ◌&&◌, not, ℕ, Bool, List, Option, true, false, codes, string_bytes, IfOk, OnOk, OnErr};
 ghost use Rattle.std.specs.Option.{option_map};
 ghost use Rattle.schema_table.specs.Telling.{names_at};
 ghost use Rattle.wire_json.specs.Meant.{IsOneOf};
 ghost use Rattle.wire_lib.specs.Kinds.{HasVariantNamed};
-ghost use Rattle.wire_lib.specs.Shown.{PutsShown, ShowsBy, is_line_shown, line_shown, line_timed, time_front as front_of};
+ghost use Rattle.wire_lib.specs.Said.{OnlyAppended};
+ghost use Rattle.wire_lib.specs.Shown.{PutsFirst, PutsShown, ShowsBy, is_line_shown, is_value_line, line_coloured, line_shown, line_timed, time_front as front_of};
 
 use crate::watching::screen::{PLAIN, RED};
 use cobs::before_sentinel;
@@ -100,13 +101,29 @@ impl Shown {
 
     /// Appends a line, if it is shown.
     fn put_line(&self, line: &[u8], time: Option<u64>, out: &mut Vec<u8>) -> Result<(), AllocError>
-        ensures { OnOk result ((only : Option (List ℕ)) (colour : Bool)
+        ensures line { OnOk result ((only : Option (List ℕ)) (colour : Bool)
             → ShowsBy self.now only colour
             → out.new.items ≡ out.old.items ++ line_shown only colour time line.now) }
+        ensures unchanged { OnErr result (out.new.items ≡ out.old.items) }
     {
         if !self.is_shown(line) {
             return Ok(());
         }
+        let before = out.len();
+        let put = self.put_parts(line, time, out);
+        if put.is_err() {
+            out.truncate(before);
+        }
+        put
+    }
+
+    /// Appends a line that is shown; out of memory maybe a part of it.
+    fn put_parts(&self, line: &[u8], time: Option<u64>, out: &mut Vec<u8>) -> Result<(), AllocError>
+        ensures line { OnOk result (out.new.items ≡ out.old.items
+            ++ (line_coloured (self.now.colour && not (is_value_line line.now))
+            (line_timed time line.now) ++ 10 ∷ [])) }
+        ensures only { OnlyAppended out.old.items out.new.items }
+    {
         let is_red = self.colour && !line.starts_with(VALUE);
         if is_red {
             out.extend_from_slice(RED)?;
@@ -121,14 +138,17 @@ impl Shown {
     /// Appends those of the lines that are shown. With a `time` in milliseconds each line begins with the member `"time"`, in seconds.
     ///
     /// # Errors
-    /// Out of memory; the lines before that have been appended, and maybe a part of one more.
+    /// Out of memory; what is shown of the lines before that has been appended, and no part of one more.
     ///
     /// # Allocates
     /// What `out` grows by. With a `time` a text at a time is freed.
     pub fn put(&self, lines: &[u8], time: Option<u64>, out: &mut Vec<u8>) -> Result<(), AllocError>
-        ensures { OnOk result ((only : Option (List ℕ)) (colour : Bool)
+        ensures shown { OnOk result ((only : Option (List ℕ)) (colour : Bool)
             → ShowsBy self.now only colour
             → PutsShown only colour time lines.now out.old.items out.new.items) }
+        ensures stopped { OnErr result ((only : Option (List ℕ)) (colour : Bool)
+            → ShowsBy self.now only colour
+            → PutsFirst only colour time lines.now out.old.items out.new.items) }
     {
         let mut rest = lines;
         while !rest.is_empty() {
@@ -160,7 +180,8 @@ fn put_timed(
     time: Option<u64>,
     out: &mut Vec<u8>,
 ) -> Result<(), AllocError>
-    ensures { OnOk result (out.new.items ≡ out.old.items ++ line_timed time line.now) }
+    ensures line { OnOk result (out.new.items ≡ out.old.items ++ line_timed time line.now) }
+    ensures only { OnlyAppended out.old.items out.new.items }
 {
     let Some(time) = time else {
         return out.extend_from_slice(line);

@@ -1,7 +1,7 @@
 //! What is kept of a stream: of each kind of messages the number, the rate and the last one's text; and the last damages.
-ghost use Rattle.std.specs.Prelude.{◌≡◌, ℕ, ◌+◌, ◌<◌, ◌≤◌, List, [], ◌∷◌, ◌++◌, length, slice_set, slice_index_or, OnOk};
+ghost use Rattle.std.specs.Prelude.{◌≡◌, ℕ, ◌+◌, ◌<◌, ◌≤◌, List, [], ◌∷◌, ◌++◌, length, slice_set, slice_index_or, OnOk, OnErr};
 ghost use Rattle.wire_lib.specs.Rates.{capped, HasTimed};
-ghost use Rattle.wire_lib.specs.Tables.{IsNoted, last_of, row_names};
+ghost use Rattle.wire_lib.specs.Tables.{IsNoted, StaysAs, last_of, row_names};
 
 use crate::watching::rate::Rate;
 use std::alloc::{AllocError, Global};
@@ -77,20 +77,22 @@ impl Table {
     /// Counts a damage, and keeps its text.
     ///
     /// # Errors
-    /// Out of memory; the damage is counted, and the oldest text may be gone.
+    /// Out of memory; nothing is changed.
     ///
     /// # Allocates
     /// What the list of damages grows by.
     pub fn note_damage(&mut self, told: String) -> Result<(), AllocError>
-        ensures damaged { self.new.damaged ≡ capped (self.old.damaged + 1) }
+        ensures damaged { OnOk result (self.new.damaged ≡ capped (self.old.damaged + 1)) }
         ensures damages { length self.old.damages.items ≤ 3 → OnOk result
             (self.new.damages.items ≡ last_of 3 (self.old.damages.items ++ told ∷ [])) }
         ensures rows { self.new.rows ≡ self.old.rows }
+        ensures unchanged { OnErr result (StaysAs self.old self.new) }
     {
-        self.damaged = self.damaged.saturating_add(1);
-        if self.damages.len() >= DAMAGES {
+        self.damages.push(told)?;
+        if self.damages.len() > DAMAGES {
             let _ = self.damages.remove(0);
         }
-        Ok(self.damages.push(told)?)
+        self.damaged = self.damaged.saturating_add(1);
+        Ok(())
     }
 }

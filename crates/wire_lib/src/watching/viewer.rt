@@ -1,5 +1,5 @@
 //! A stream of frames as a table of what came, and each result as a line.
-ghost use Rattle.std.specs.Prelude.{◌≡◌, ℕ, ◌-◌, ◌<◌, ◌≤◌, List, [], ◌++◌, length, take, string_bytes, IfOk, OnOk};
+ghost use Rattle.std.specs.Prelude.{◌≡◌, ℕ, ◌-◌, ◌<◌, ◌≤◌, Bool, false, List, [], ◌++◌, length, take, string_bytes, IfOk, OnOk, OnErr};
 ghost use Rattle.link.specs.Decoding.{in_owner};
 ghost use Rattle.link.specs.Receivers.{IsBehind};
 ghost use Rattle.link.specs.Pushes.{Answered};
@@ -8,18 +8,19 @@ ghost use Rattle.schema_table.specs.declared.value.Value.{Value as Values};
 ghost use Rattle.wire_lib.specs.Damages.{IsDamageWord};
 ghost use Rattle.wire_lib.specs.Fronts.{dots_after, damage_said};
 ghost use Rattle.wire_lib.specs.Kinds.{kinds_of};
-ghost use Rattle.wire_lib.specs.Printable.{AddsPrintableLine, ArePrintable};
+ghost use Rattle.wire_lib.specs.Printable.{shown_line};
 ghost use Rattle.wire_lib.specs.Said.{OnlyAppended};
-ghost use Rattle.wire_lib.specs.Tables.{row_names};
+ghost use Rattle.wire_lib.specs.Tables.{StaysAs, row_names};
 ghost use Rattle.wire_lib.specs.Received.{held_by, read_by, are_all_values};
 ghost use Rattle.wire_lib.specs.Rates.{CountsOneMore};
-ghost use Rattle.wire_lib.specs.Seen.{HasSeen, HasCounted, CountsToo, CountsMessage, KeepsDamage, KeepsText, KeepsAll, StandsStill, reading_of, added_by_end};
+ghost use Rattle.wire_lib.specs.Seen.{HasSeen, HasLost, HasFollowed, HasCounted, CountsToo, CountsMessage, KeepsDamage, KeepsText, KeepsAll, StandsStill, reading_of, names_of, missed_none, added_by_end};
+ghost use Rattle.wire_lib.specs.Watched.{AddsText, IsMessageText, SeesEach, SeesEnd, kind_name, message_said};
 
 use crate::receive::{LIMIT, Reading, push_next};
-use crate::watching::front::keep_front;
+use crate::watching::front::{Front, keep_front};
 use crate::watching::kinds::{kind_of, rows_of, text_of};
 use crate::watching::printable::printable;
-use crate::watching::table::Table;
+use crate::watching::table::{Row, Table};
 use link::{Answer, NoMemory, OwnedReceiver, Pushed};
 use schemas::Value;
 use std::alloc::{AllocError, Global};
@@ -43,9 +44,11 @@ pub struct Viewer<'a> {
     receiver: OwnedReceiver,
     is_deep: Cell<bool>,
     /// The first bytes of the partial frame.
-    front: Vec<u8>,
+    front: Front,
     /// How many bytes came.
     at: u64,
+    /// Whether no result was lost for want of memory.
+    is_whole: bool,
     /// The counts, the last messages and the last damages.
     pub table: Table,
 }
@@ -71,8 +74,9 @@ impl<'a> Viewer<'a> {
                 reading,
                 receiver,
                 is_deep: Cell::new(false),
-                front: Vec::new(alloc),
+                front: Front::new(),
                 at: 0,
+                is_whole: true,
                 table: Table {
                     rows: rows_of(alloc, reading.schema, reading.place)?,
                     damaged: 0,
@@ -91,17 +95,19 @@ impl<'a> Viewer<'a> {
         lines: &mut Vec<u8>,
     ) -> Result<(), AllocError>
         ensures counted { OnOk result (CountsMessage value.now self.old.table self.new.table) }
+        ensures line { OnOk result ((text : List ℕ)
+            × IsMessageText (reading_of self.old) (names_of self.old) value.now text
+            × (lines.new.items ≡ lines.old.items ++ shown_line text)) }
         ensures kinds { row_names self.new.table.rows.items ≡ row_names self.old.table.rows.items }
         ensures damages { self.new.table.damages ≡ self.old.table.damages }
-        ensures only { OnlyAppended lines.old.items lines.new.items }
+        ensures uncounted { OnErr result (StaysAs self.old.table self.new.table) }
+        ensures unchanged { OnErr result (lines.new.items ≡ lines.old.items) }
         ensures same { StandsStill self.old self.new }
     {
         let alloc = self.reading.alloc;
         let kind = kind_of(value);
         let text = text_of(self.reading, value)?;
-        if let Some(row) = self.table.rows.get(kind) {
-            put_line(alloc, lines, &[row.name.as_str(), text.as_str()])?;
-        }
+        put_message(alloc, lines, name_of(&self.table.rows, kind), text.as_str())?;
         self.table.note(kind, text, window);
         Ok(())
     }
@@ -119,18 +125,22 @@ impl<'a> Viewer<'a> {
             (self.old.at - 1 - stretch) stretch self.old.front.items self.old.table
             self.new.table) }
         ensures rows { self.new.table.rows ≡ self.old.table.rows }
-        ensures line { OnOk result (AddsPrintableLine lines.old.items lines.new.items) }
-        ensures only { OnlyAppended lines.old.items lines.new.items }
+        ensures line { OnOk result (lines.new.items ≡ lines.old.items ++ shown_line
+            (damage_said what.now (self.old.at - 1 - stretch) stretch self.old.front.items)) }
+        ensures uncounted { OnErr result (StaysAs self.old.table self.new.table) }
+        ensures unchanged { OnErr result (lines.new.items ≡ lines.old.items) }
         ensures same { StandsStill self.old self.new }
     {
         let alloc = self.reading.alloc;
         let from = self.at.saturating_sub(1).saturating_sub(stretch as u64);
-        let told = damage_text(alloc, what, from, stretch, &self.front)?;
-        put_line(alloc, lines, &[told.as_str()])?;
-        self.table.note_damage(told)
+        let told = damage_text(alloc, what, from, stretch, self.front.as_slice())?;
+        let line = line_of(alloc, told.as_str())?;
+        lines.reserve(line.len())?;
+        self.table.note_damage(told)?;
+        lines.extend_from_slice(&line)
     }
 
-    /// Counts a result, whose stretch is the last `stretch` bytes before the newest one.
+    /// Counts a result, whose stretch is the last `stretch` bytes before the newest one, and appends its line.
     fn hear(
         &mut self,
         answer: &Answer<Value>,
@@ -142,8 +152,12 @@ impl<'a> Viewer<'a> {
         ensures kept { OnOk result (length self.old.table.damages.items ≤ 3 → KeepsText answer.now
             (self.old.at - 1 - stretch) stretch self.old.front.items self.old.table
             self.new.table) }
+        ensures line { OnOk result (AddsText (reading_of self.old) (names_of self.old)
+            (λ what. damage_said what (self.old.at - 1 - stretch) stretch self.old.front.items)
+            answer.now lines.old.items lines.new.items) }
         ensures kinds { row_names self.new.table.rows.items ≡ row_names self.old.table.rows.items }
-        ensures only { OnlyAppended lines.old.items lines.new.items }
+        ensures uncounted { OnErr result (StaysAs self.old.table self.new.table) }
+        ensures unchanged { OnErr result (lines.new.items ≡ lines.old.items) }
         ensures same { StandsStill self.old self.new }
     {
         match answer {
@@ -157,7 +171,7 @@ impl<'a> Viewer<'a> {
         }
     }
 
-    /// Processes bytes up to the first result, counts it, and returns how many were processed.
+    /// Processes bytes up to the first result, counts it and appends its line, and returns how many were processed.
     fn push_one(
         &mut self,
         rest: &[u8],
@@ -167,9 +181,15 @@ impl<'a> Viewer<'a> {
         requires { 0 < length rest.now }
         ensures seen { IfOk result (λ used. (stream : List ℕ) (answers : List (Answers Values))
             → HasSeen self.old stream answers → (more : List (Answers Values))
-            × HasSeen self.new (stream ++ take used rest.now) (answers ++ more)) }
+            × HasSeen self.new (stream ++ take used rest.now) (answers ++ more)
+            × SeesEach (reading_of self.old) (names_of self.old) (stream ++ rest.now) answers more
+            lines.old.items lines.new.items) }
+        ensures lost { OnErr result ((stream : List ℕ) (answers : List (Answers Values))
+            → HasSeen self.old stream answers → HasLost self.new stream rest.now answers) }
+        ensures unchanged { OnErr result (lines.new.items ≡ lines.old.items) }
         ensures reading { reading_of self.new ≡ reading_of self.old }
         ensures kinds { row_names self.new.table.rows.items ≡ row_names self.old.table.rows.items }
+        ensures missed { missed_none self.old ≡ false → missed_none self.new ≡ false }
         ensures only { OnlyAppended lines.old.items lines.new.items }
         ensures within { IfOk result (λ used. used ≤ length rest.now) }
         ensures forward { IfOk result (λ used. 0 < used) }
@@ -183,18 +203,26 @@ impl<'a> Viewer<'a> {
         self.at = self.at.saturating_add(used as u64);
         let (taken, _) = rest.split_at(used);
         let (before, last) = taken.split_at(used - 1);
-        keep_front(&mut self.front, sentinel, before)?;
+        keep_front(&mut self.front, sentinel, before);
         match answer {
             Ok(None) => {
-                keep_front(&mut self.front, sentinel, last)?;
+                keep_front(&mut self.front, sentinel, last);
                 Ok(used)
             }
             Ok(Some(answer)) => {
-                self.hear(&answer, stretch, window, lines)?;
-                keep_front(&mut self.front, sentinel, last)?;
+                let is_whole = self.is_whole;
+                self.is_whole = false;
+                let heard = self.hear(&answer, stretch, window, lines);
+                keep_front(&mut self.front, sentinel, last);
+                heard?;
+                self.is_whole = is_whole;
                 Ok(used)
             }
-            Err(NoMemory) => Err(AllocError),
+            Err(NoMemory) => {
+                keep_front(&mut self.front, sentinel, last);
+                self.is_whole = false;
+                Err(AllocError)
+            }
         }
     }
 
@@ -202,16 +230,26 @@ impl<'a> Viewer<'a> {
     /// line for it. Chunk boundaries don't matter.
     ///
     /// # Errors
-    /// Out of memory; the table may have counted only some of the chunk's results. What `lines` held is unchanged.
+    /// Out of memory: the results before the one for which there was none are counted and have their lines, that one isn't and has no
+    /// part of one. The next call continues after it: that result is lost, with the rest of the chunk.
     ///
     /// # Allocates
     /// What `lines` and the table grow by. A value at a time is freed.
     pub fn push(&mut self, piece: &[u8], window: u64, lines: &mut Vec<u8>) -> Result<(), AllocError>
         ensures seen { OnOk result ((stream : List ℕ) (answers : List (Answers Values))
             → HasSeen self.old stream answers → (more : List (Answers Values))
-            × HasSeen self.new (stream ++ piece.now) (answers ++ more)) }
+            × HasSeen self.new (stream ++ piece.now) (answers ++ more)
+            × SeesEach (reading_of self.old) (names_of self.old) (stream ++ piece.now) answers more
+            lines.old.items lines.new.items) }
+        ensures lost { OnErr result ((stream : List ℕ) (answers : List (Answers Values))
+            → HasSeen self.old stream answers → (done rest : List ℕ) × (piece.now ≡ done ++ rest)
+            × (more : List (Answers Values))
+            × HasLost self.new (stream ++ done) rest (answers ++ more)
+            × SeesEach (reading_of self.old) (names_of self.old) (stream ++ piece.now) answers more
+            lines.old.items lines.new.items) }
         ensures reading { reading_of self.new ≡ reading_of self.old }
         ensures kinds { row_names self.new.table.rows.items ≡ row_names self.old.table.rows.items }
+        ensures missed { missed_none self.old ≡ false → missed_none self.new ≡ false }
         ensures only { OnlyAppended lines.old.items lines.new.items }
     {
         let mut rest = piece;
@@ -223,32 +261,49 @@ impl<'a> Viewer<'a> {
         Ok(())
     }
 
-    /// Ends the stream: counts a partial frame as damage, and returns whether all results were messages.
+    /// Ends the stream: counts a partial frame as damage and appends its line, and returns whether all results were messages; `false`
+    /// if one was lost, out of memory.
     ///
     /// # Errors
-    /// Out of memory. What `lines` held is unchanged.
+    /// Out of memory; the table and `lines` are unchanged.
     ///
     /// # Allocates
     /// What `lines` and the table grow by.
     pub fn finish(&mut self, lines: &mut Vec<u8>) -> Result<bool, AllocError>
         ensures counted { OnOk result ((stream : List ℕ) (answers : List (Answers Values))
-            → HasSeen self.old stream answers
+            → HasFollowed self.old stream answers
             → HasCounted self.new.table (answers ++ added_by_end self.old stream)) }
         ensures good { IfOk result (λ good. (stream : List ℕ) (answers : List (Answers Values))
             → HasSeen self.old stream answers
             → good ≡ are_all_values (answers ++ added_by_end self.old stream)) }
+        ensures missed { missed_none self.old ≡ false → IfOk result (λ good. good ≡ false) }
         ensures kept { OnOk result ((stream : List ℕ) (answers : List (Answers Values))
-            → HasSeen self.old stream answers → KeepsAll self.old self.new.table stream answers) }
+            → HasFollowed self.old stream answers → KeepsAll self.old self.new.table stream answers) }
+        ensures line { OnOk result ((stream : List ℕ) (answers : List (Answers Values))
+            → HasFollowed self.old stream answers → SeesEnd (reading_of self.old).sentinel stream
+            (added_by_end self.old stream) lines.old.items lines.new.items) }
+        ensures uncounted { OnErr result (StaysAs self.old.table self.new.table) }
+        ensures unchanged { OnErr result (lines.new.items ≡ lines.old.items) }
         ensures rows { self.new.table.rows ≡ self.old.table.rows }
         ensures only { OnlyAppended lines.old.items lines.new.items }
     {
         let begun = self.receiver.begun_bytes();
         if begun == 0 {
-            return Ok(self.table.damaged == 0);
+            return Ok(self.is_whole & (self.table.damaged == 0));
         }
         self.at = self.at.saturating_add(1);
         self.hear_damage("cut", begun, lines)?;
         Ok(false)
+    }
+}
+
+/// The name of a row; empty if there is no such row.
+fn name_of(rows: &[Row], kind: usize) -> &str
+    ensures { result.now ≡ kind_name (row_names rows.now) kind }
+{
+    match rows.get(kind) {
+        Some(row) => row.name.as_str(),
+        None => "",
     }
 }
 
@@ -284,26 +339,32 @@ fn damage_text(
     Ok(text)
 }
 
-/// These words as one printable line, with a blank between two of them.
-fn line_of(alloc: Global, words: &[&str]) -> Result<Vec<u8>, AllocError>
-    ensures { IfOk result (λ line. ArePrintable line.items) }
+/// A text as a printable line, with its line feed.
+fn line_of(alloc: Global, text: &str) -> Result<Vec<u8>, AllocError>
+    ensures { IfOk result (λ line. line.items ≡ shown_line text.now) }
 {
-    let mut text = String::new(alloc);
-    for word in words {
-        if !text.is_empty() && !word.is_empty() {
-            text.push(' ')?;
-        }
-        text.push_str(word)?;
-    }
-    printable(alloc, text.as_str(), usize::MAX)
+    let mut line = printable(alloc, text, usize::MAX)?;
+    line.push(b'\n')?;
+    Ok(line)
 }
 
-/// Appends a printable line of these words.
-fn put_line(alloc: Global, lines: &mut Vec<u8>, words: &[&str]) -> Result<(), AllocError>
-    ensures line { OnOk result (AddsPrintableLine lines.old.items lines.new.items) }
-    ensures only { OnlyAppended lines.old.items lines.new.items }
+/// Appends the line of a message, by the name of its kind and the text beside it.
+fn put_message(alloc: Global, lines: &mut Vec<u8>, name: &str, text: &str) -> Result<(), AllocError>
+    ensures line { OnOk result
+        (lines.new.items ≡ lines.old.items ++ shown_line (message_said name.now text.now)) }
+    ensures unchanged { OnErr result (lines.new.items ≡ lines.old.items) }
 {
-    let line = line_of(alloc, words)?;
-    lines.extend_from_slice(&line)?;
-    Ok(lines.push(b'\n')?)
+    let said = message_text(alloc, name, text)?;
+    let line = line_of(alloc, said.as_str())?;
+    lines.extend_from_slice(&line)
+}
+
+/// What a message's line says: the name of its kind, and after a blank the text beside it.
+fn message_text(alloc: Global, name: &str, text: &str) -> Result<String, AllocError>
+    ensures { IfOk result (λ said. string_bytes said ≡ message_said name.now text.now) }
+{
+    if text.is_empty() {
+        return String::from_str(alloc, name);
+    }
+    format!(in alloc; "{name} {text}")
 }

@@ -1,8 +1,8 @@
-use Rattle.std.proofs.Common.{◌≡◌, ◌∙◌, ◌<◌, [], ◌∷◌, ◌++◌, length, take, refl, sym, ap, append-nil, arith, rules}
+use Rattle.std.proofs.Common.{◌≡◌, ◌∙◌, ◌<◌, Bool, Option, ℕ, List, [], ◌∷◌, ◌++◌, length, take, refl, sym, ap, append-nil, arith, rules}
 use Rattle.std.proofs.lemmas.List.{take_all}
 use Rattle.wire_lib.specs.Sent.{LacksFeed}
-use Rattle.wire_lib.specs.Shown.{line_shown}
-use Rattle.wire_lib.proofs.SentLemmas.{lacks_take}
+use Rattle.wire_lib.specs.Shown.{PutsFirst, ShowsBy, line_shown}
+use Rattle.wire_lib.proofs.SentLemmas.{at_error, lacks_take}
 use Rattle.wire_lib.proofs.ShownLemmas.{last_some, left_behind, line_begun, line_ended, parted, shown_then, text_none}
 use Rattle.wire_lib.proofs.shown.Shown.put.Goals as goal
 
@@ -25,12 +25,12 @@ loop-rest-preserved c =
       line_ended i.0 line i.1 i.3 lacks,
       λ only colour h. shown_then (line_shown only colour c.args.time) c.args.out.now.items c.loop-rest.out.items
           c.put_line.new.out.items line i.1 (i.4 only colour h)
-          (c.in_ok-put_line.ensures only colour h
+          (c.in_ok-put_line.ensures.line only colour h
           ∙ ap (λ x. c.loop-rest.out.items ++ line_shown only colour c.args.time x) c.split_at.ensures.front),
     )
 
-pub returns-in_default : goal.returns-in_default
-returns-in_default c only colour h =
+pub returns-in_default-clause-shown : goal.returns-in_default-clause-shown
+returns-in_default-clause-shown c only colour h =
     let rest = c.loop-rest.rest.now in
     let at = c.before_sentinel.result in
     let i = c.loop-rest.invariant in
@@ -45,6 +45,22 @@ returns-in_default c only colour h =
       appended = last_some (line_shown only colour c.args.time) c.args.out.now.items c.put_line.new.out.items line i.1 some
           (shown_then (line_shown only colour c.args.time) c.args.out.now.items c.loop-rest.out.items
           c.put_line.new.out.items line i.1 (i.4 only colour h)
-          (c.in_ok-put_line.ensures only colour h
+          (c.in_ok-put_line.ensures.line only colour h
           ∙ ap (λ x. c.loop-rest.out.items ++ line_shown only colour c.args.time x) c.split_at.ensures.front));
     }
+
+pub returns-in_err-put_line-clause-stopped : goal.returns-in_err-put_line-clause-stopped
+returns-in_err-put_line-clause-stopped c =
+    let rest = c.loop-rest.rest.now in
+    let i = c.loop-rest.invariant in
+    let full : 0 < length rest = search rules in
+    let first : (only : Option (List ℕ)) (colour : Bool) → ShowsBy c.args.self.now only colour
+    → PutsFirst only colour c.args.time c.args.lines.now c.args.out.now.items c.put_line.new.out.items = (λ only colour h. record {
+      lines = i.1;
+      rest = rest;
+      parts = i.2 ∙ ap (λ x. x ++ rest) (i.3.whole ∙ append-nil _);
+      apart = i.3.apart;
+      some = full;
+      appended = c.in_err-put_line.ensures.unchanged ∙ i.4 only colour h;
+    }) in
+    at_error _ first
