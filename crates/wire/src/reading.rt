@@ -54,15 +54,16 @@ impl Lines {
         }
     }
 
-    /// Writes the lines, and clears them.
+    /// Writes the lines, and clears them; out of memory those that could be shown.
     fn write(&mut self, rt: &HostRuntime) -> Result<(), Failure> {
         if self.is_plain {
             say(rt, &self.lines)?;
         } else {
             let time = self.time(rt)?;
-            self.shown.put(&self.lines, time, &mut self.out)?;
+            let put = self.shown.put(&self.lines, time, &mut self.out);
             say(rt, &self.out)?;
             self.out.clear();
+            put?;
         }
         self.lines.clear();
         Ok(())

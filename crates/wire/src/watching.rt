@@ -109,12 +109,9 @@ impl Showing {
         Ok(())
     }
 
-    /// Shows the result of a read of `count` bytes. A picture is drawn if the next read may block, or the last picture has stayed long
+    /// Shows on a terminal the result of a read of `count` bytes. A picture is drawn if the next read may block, or the last picture has stayed long
     /// enough; after a few bytes it stays that long, while more come.
     fn show(&mut self, rt: &HostRuntime, table: &Table, count: usize) -> Result<(), Failure> {
-        if !self.is_terminal {
-            return self.write(rt);
-        }
         self.lines.clear();
         if count < ROOM || self.now(rt)?.saturating_sub(self.drawn) >= STANDS {
             self.draw(rt, table)?;
@@ -130,6 +127,7 @@ impl Showing {
         if self.is_terminal {
             return self.draw(rt, table);
         }
+        self.write(rt)?;
         for line in &picture(rt.alloc(), table, self.view)? {
             self.lines.extend_from_slice(line)?;
             self.lines.push(b'\n')?;
@@ -156,8 +154,15 @@ pub fn watch(rt: &HostRuntime, reading: Reading<'_>) -> Result<bool, Failure> {
             break;
         }
         let window = shown.window(rt)?;
-        viewer.push(room.get(..count).unwrap_or(&[]), window, &mut shown.lines)?;
-        shown.show(rt, &viewer.table, count)?;
+        let pushed = viewer.push(room.get(..count).unwrap_or(&[]), window, &mut shown.lines);
+        if !shown.is_terminal {
+            // out of memory those before what found none
+            shown.write(rt)?;
+        }
+        pushed?;
+        if shown.is_terminal {
+            shown.show(rt, &viewer.table, count)?;
+        }
     }
     let is_good = viewer.finish(&mut shown.lines)?;
     shown.end(rt, &viewer.table)?;
