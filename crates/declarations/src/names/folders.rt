@@ -38,7 +38,7 @@ fn without_last<'f>(folder: &'f str, name: &str) -> Option<&'f str> {
 fn parts_at_src(file: &str) -> (&str, &str) {
     match file.rsplit_once("/src/") {
         Some(parts) => parts,
-        None => ("", file.strip_prefix("src/").unwrap_or("")),
+        None => (".", file.strip_prefix("src/").unwrap_or("")),
     }
 }
 
@@ -52,14 +52,28 @@ pub fn module_of_file(file: &str) -> &str {
 }
 
 impl<'a> Scopes<'a> {
-    /// Whether a file is the root of a crate by its name or its folder's; in the folders of a `src` only if that is `bin`.
+    /// Whether the root of the crate is given whose `src` is in this folder.
+    fn has_root(&self, folder: &str) -> bool {
+        for file in 0..self.tokens.files.len() {
+            let (there, path) = parts_at_src(self.tokens.name_of_file(file));
+            if there == folder && matches!(path, "lib.rs" | "main.rs") {
+                return true;
+            }
+        }
+        false
+    }
+
+    /// Whether a file is the root of a crate by its name or its folder's: in the folders of a `src` those in `bin`, and if the root
+    /// of that `src` isn't given, one that is called as roots are.
     pub(super) fn is_root(&self, file: usize) -> bool {
         let name = self.tokens.name_of_file(file);
         let (folder, stem) = parts_of(name);
-        let is_named = is_listed(stem, ROOTS)
-            || is_listed(split_last(folder).1, "bin examples tests benches");
-        let (_, path) = parts_at_src(name);
-        is_named && (!path.contains('/') || path.starts_with("bin/"))
+        let (before, path) = parts_at_src(name);
+        let is_inside = path.contains('/') && !path.starts_with("bin/");
+        if is_listed(stem, ROOTS) {
+            return !is_inside || !self.has_root(before);
+        }
+        is_listed(split_last(folder).1, "bin examples tests benches") && !is_inside
     }
 
     /// Whether the files of a module's modules are in this folder.
@@ -123,18 +137,20 @@ impl<'a> Scopes<'a> {
     /// The file to which the first names after `crate` lead by the folders of a scope's `src`, if no root of that is given; and how
     /// many names these are.
     pub(super) fn file_by_path(&self, scope: usize, path: &Path) -> (Meaning, usize) {
-        let (own, _) = parts_at_src(self.tokens.name_of_file(self.scope(scope).file));
+        let (own, own_path) = parts_at_src(self.tokens.name_of_file(self.scope(scope).file));
         let (mut found, mut least) = (Meaning::Wrong(LOST), path.count);
+        // one in no `src`, and one in `bin`, is of another crate
+        if own_path.is_empty() || own_path.starts_with("bin/") || self.has_root(own) {
+            return (found, least);
+        }
         for file in 0..self.tokens.files.len() {
             let name = self.tokens.name_of_file(file);
             let (there, rest) = parts_at_src(name);
-            if there != own || rest.is_empty() {
+            if there != own || rest.starts_with("bin/") {
                 continue;
             }
             let count = self.count_to(name, path);
-            if matches!(rest, "lib.rs" | "main.rs") {
-                return (Meaning::Wrong(LOST), 0);
-            } else if count > 0 && count <= least {
+            if count > 0 && count <= least {
                 let is_twin = count == least && !matches!(found, Meaning::Wrong(_));
                 found = if is_twin {
                     Meaning::Doubtful

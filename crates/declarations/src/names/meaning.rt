@@ -115,13 +115,14 @@ impl Places {
         }
     }
 
+    /// Whether a scope is one of them, or may be.
     pub(super) fn has(&self, place: usize) -> bool {
         for index in 0..self.count {
             if self.nth(index) == Some(place) {
                 return true;
             }
         }
-        false
+        self.is_cut
     }
 
     fn add(&mut self, place: usize) {
