@@ -15,7 +15,7 @@ use declaration_parser::derives::OF_OTHER_CRATE;
 use declaration_parser::tokens::{DESERIALIZE, NO_NAME, Name, SERIALIZE, Tokens, Words};
 use schema_table::Node;
 use std::alloc::{AllocError, Global};
-use std::collections::BTreeSet;
+use std::collections::{BTreeMap, BTreeSet};
 use std::slice;
 
 /// How deep the words of one type may nest, as `Vec<Option<u8>>` nests three deep.
@@ -57,6 +57,8 @@ pub struct Builder<'a> {
     asked: usize,
     /// The declared types that the table has, in the order in which they were met; each is made in its turn.
     made: Vec<Made>,
+    /// The places of these, by what tells each from others.
+    owns: BTreeMap<Vec<usize>, usize>,
     /// The words of a type that aren't read yet, where they are, and what is wrong in those that are read.
     at: Context,
     words: Cursor<'a>,
@@ -135,6 +137,7 @@ impl<'a> Builder<'a> {
             names,
             asked,
             made: Vec::new(alloc),
+            owns: BTreeMap::new(alloc),
             at: Context { scope: asked, own },
             words: Cursor::new(alloc, tokens, 0, Words::default()),
             left: 0,

@@ -67,15 +67,20 @@ pub struct Scopes<'a> {
     imports: Vec<Import>,
     /// Which declarations are marked, by their places among the items of files.
     marked: BTreeMap<usize, usize>,
+    /// Where these are, and whether one of the same name is there before.
+    stands: BTreeMap<usize, (usize, bool)>,
+    marked_names: BTreeSet<(Name, usize)>,
     /// The names that are declared, or brought in from what isn't known.
     named: BTreeSet<Name>,
     /// The names of items, modules and of what a `use` brings in, each with its scope; no name where a `*` is.
     members: BTreeSet<(Name, usize)>,
     /// The modules that begin with a condition.
     at_times: BTreeSet<usize>,
-    /// The rules of macros, whose names are their third words, and calls that may declare something.
+    /// The rules of macros, whose names are their third words.
     rules: Vec<items::Item>,
-    calls: Vec<items::Item>,
+    /// The names that are handed to macros, each with the scope, and those that a module hands to one before others.
+    handed: BTreeSet<(Name, usize)>,
+    handed_first: BTreeSet<Name>,
     /// Tables of endpoints and topics of postcard-rpc's, which aren't read.
     pub endpoints: Vec<Words>,
     pub failed: bool,
@@ -98,10 +103,13 @@ impl<'a> Scopes<'a> {
             items: Vec::new(alloc),
             imports: Vec::new(alloc),
             marked: BTreeMap::new(alloc),
+            stands: BTreeMap::new(alloc),
+            marked_names: BTreeSet::new(alloc),
             members: BTreeSet::new(alloc),
             at_times: BTreeSet::new(alloc),
             rules: Vec::new(alloc),
-            calls: Vec::new(alloc),
+            handed: BTreeSet::new(alloc),
+            handed_first: BTreeSet::new(alloc),
             endpoints: Vec::new(alloc),
             failed: walk.failed,
         };
@@ -157,16 +165,7 @@ impl<'a> Scopes<'a> {
 
     /// The scope of a marked declaration, unless it is in another item's words, and whether another in it precedes it by its name.
     pub fn stand(&self, index: usize) -> Option<(usize, bool)> {
-        let mut own: Option<&Item> = None;
-        for it in self.items.iter().rev() {
-            match (it.what, own) {
-                (What::Marked(place), _) if place == index => own = Some(it),
-                (What::Marked(_), Some(own)) if own.scope == it.scope && own.name == it.name =>
-                    return Some((it.scope, true)),
-                _ => {}
-            }
-        }
-        Some((own?.scope, false))
+        self.stands.get(&index).copied()
     }
 
     /// Whether a file declares a name, or brings it in from what isn't known.

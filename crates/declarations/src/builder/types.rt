@@ -415,12 +415,13 @@ impl<'a> Builder<'a> {
     /// Which of those that are made this one is, with the same words for its parameters. A new one is made later, and until then
     /// can't be read.
     fn own_of(&mut self, index: usize, of: Vec<Given>, depth: u32) -> usize {
-        let own = self.made.len();
-        for (own, made) in self.made.iter().enumerate() {
-            if made.index == index && self.are_same(&made.of, &of) {
-                return own;
-            }
+        let key = self.key_of(index, &of);
+        if let Some(own) = self.owns.get(key.as_slice()) {
+            return *own;
         }
+        let own = self.made.len();
+        let failed = self.owns.insert(key, own).is_err();
+        self.words.faults.note(failed);
         let place = match self.all.get(index) {
             Some(_) => self.add(Node::Option(NOWHERE), Names::Nothing),
             None => NOWHERE,
@@ -435,14 +436,25 @@ impl<'a> Builder<'a> {
         own
     }
 
-    /// Whether the same words stand for parameters.
-    fn are_same(&self, first: &[Given], second: &[Given]) -> bool {
-        for (one, other) in first.iter().zip(second) {
-            if one.at != other.at || !self.tokens.are_same(one.words, other.words) {
-                return false;
-            }
+    /// What tells a type that is made from others: which it is, and what stands for its parameters.
+    fn key_of(&mut self, index: usize, of: &[Given]) -> Vec<usize> {
+        let mut key = Vec::new(self.alloc);
+        self.words.push(&mut key, index);
+        for it in of {
+            self.put_given(&mut key, it);
         }
-        true
+        key
+    }
+
+    /// Appends where the words for a parameter are, how many, and their names.
+    fn put_given(&mut self, key: &mut Vec<usize>, it: &Given) {
+        self.words.push(key, it.at.scope);
+        self.words.push(key, it.at.own);
+        self.words.push(key, it.words.len());
+        for place in it.words.from..it.words.to {
+            let name = self.tokens.at(place).name;
+            self.words.push(key, name);
+        }
     }
 
     /// The words between the commas that nothing encloses; of arguments only those of types and lengths.

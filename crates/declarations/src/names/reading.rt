@@ -98,6 +98,12 @@ impl<'a> Scopes<'a> {
         if name == NO_NAME || self.scope(scope).kind == Kind::Impl {
             return;
         }
+        if let What::Marked(index) = what {
+            let is_new = self.marked_names.insert((name, scope));
+            let stand = (scope, matches!(is_new, Ok(false)));
+            let failed = is_new.is_err() || self.stands.insert(index, stand).is_err();
+            self.failed = failed || self.failed;
+        }
         let item = Item {
             name,
             what,
@@ -137,7 +143,7 @@ impl<'a> Scopes<'a> {
         if is_own || text == "include" || !(is_inner || is_listed(text, OF_HANDED)) {
             self.add_include(item.scope);
         }
-        self.failed = self.calls.push(*item).is_err() || self.failed;
+        self.read_handed(item);
     }
 
     /// Reads what the rules of a macro make where one is called that may have them, or call another that has.
@@ -228,23 +234,26 @@ impl<'a> Scopes<'a> {
         }
     }
 
+    /// Notes which names a call hands to its macro, and which one first in a module.
+    fn read_handed(&mut self, call: &items::Item) {
+        let tokens = self.tokens;
+        for place in call.inside.from..call.inside.to {
+            let handed = (tokens.at(place).name, call.scope);
+            self.failed = self.handed.insert(handed).is_err() || self.failed;
+        }
+        let first = tokens.name_at(call.inside);
+        if first != NO_NAME && !self.is_inner(call.scope) {
+            self.failed = self.handed_first.insert(first).is_err() || self.failed;
+        }
+    }
+
     /// Whether a module hands a name to a macro before others.
     pub fn is_first_handed(&self, name: Name) -> bool {
-        for call in &self.calls {
-            if self.tokens.name_at(call.inside) == name && !self.is_inner(call.scope) {
-                return true;
-            }
-        }
-        false
+        self.handed_first.contains(&name)
     }
 
     /// Whether a scope hands a name to a macro, which may declare it there.
     pub(super) fn is_handed(&self, scope: usize, name: Name) -> bool {
-        for call in &self.calls {
-            if call.scope == scope && self.tokens.has_name(call.inside, name) {
-                return true;
-            }
-        }
-        false
+        self.handed.contains(&(name, scope))
     }
 }

@@ -71,8 +71,14 @@ impl<'a> Scopes<'a> {
         self.failed = self.imports.push(import).is_err() || self.failed;
     }
 
-    /// Adds another file's words, of which nothing is known.
+    /// Adds another file's words, of which nothing is known: once for a row of calls.
     pub(super) fn add_include(&mut self, scope: usize) {
+        if let Some(it) = self.imports.last()
+            && it.last == INCLUDED
+            && it.scope == scope
+        {
+            return;
+        }
         let mut import = Import::default();
         import.scope = scope;
         import.last = INCLUDED;
