@@ -34,6 +34,8 @@ pub struct Scope {
     pub outer: usize,
     /// The place of the token after it; 0 of what has no tokens.
     pub end: usize,
+    /// Of a module who sees it, as [`Item::shown`] says it.
+    pub shown: Word,
 }
 
 /// What an item is.
@@ -62,9 +64,9 @@ pub struct Item {
     pub place: usize,
     pub kind: ItemKind,
     pub scope: usize,
-    /// Its attributes and marks, and whether `pub` is behind them.
+    /// Its attributes and marks, and who sees it: `pub`, or the word that limits that; no word without it.
     pub attributes: Words,
-    pub is_public: bool,
+    pub shown: Word,
     /// Its words after the one that says what it is; all of a call, and none of what declares no name.
     pub words: Words,
     /// What a call holds.
@@ -77,9 +79,10 @@ pub struct Walk<'a> {
     tokens: &'a Tokens,
     pub scopes: Vec<Scope>,
     pub items: Vec<Item>,
-    /// The scope that is gone over, and the places behind the words of an item, in which there is no other, and behind the
-    /// module whose files are in another folder.
+    /// The scope that is gone over, who sees the item that is read, and the places behind the words of an item, in which there
+    /// is no other, and behind the module whose files are in another folder.
     scope: usize,
+    shown: Word,
     quiet: usize,
     moved: usize,
     pub failed: bool,
@@ -107,6 +110,7 @@ impl<'a> Walk<'a> {
             scopes: Vec::new(alloc),
             items: Vec::new(alloc),
             scope: 0,
+            shown: Word::Other,
             quiet: 0,
             moved: 0,
             failed: false,
@@ -136,6 +140,7 @@ impl<'a> Walk<'a> {
             file,
             outer,
             end,
+            shown: self.shown,
         };
         self.failed = self.scopes.push(scope).is_err() || self.failed;
         place
@@ -202,8 +207,14 @@ impl<'a> Walk<'a> {
         if is_quiet {
             return words.behind_first();
         }
-        item.is_public = matches!(word, Word::Public);
-        self.read_item(item, behind_public(self.tokens, words))
+        let rest = behind_public(self.tokens, words);
+        self.shown = match words.before(rest).len() {
+            0 => Word::Other,
+            1 => Word::Public,
+            _ => self.tokens.nth(words, 2).word,
+        };
+        item.shown = self.shown;
+        self.read_item(item, rest)
     }
 
     /// Reads what an item begins with, and gives what follows: at its name.
@@ -223,7 +234,7 @@ impl<'a> Walk<'a> {
             Word::Import if !matches!(next.word, Word::Less) => ItemKind::Import,
             Word::External if matches!(next.word, Word::Crate | Word::Mutable) => ItemKind::Crate,
             // Attributes may follow a `pub` that begins none of these.
-            _ => return if it.is_public { words } else { rest },
+            _ => return if it.shown == Word::Other { rest } else { words },
         };
         self.take(it, kind, rest);
         rest

@@ -13,7 +13,7 @@ pub use answers::Found;
 pub use candidates::Space;
 use declaration_parser::declaration::Declaration;
 use declaration_parser::items::{self, Kind, Scope, Walk};
-use declaration_parser::tokens::{NO_NAME, Name, Tokens, Words};
+use declaration_parser::tokens::{NO_NAME, Name, Tokens, Word, Words};
 use meaning::Meaning;
 pub use path::Path;
 use std::alloc::{AllocError, Global};
@@ -53,6 +53,9 @@ struct Import {
     scope: usize,
     is_crate: bool,
     is_conditional: bool,
+    /// Whether it brings in no constant, as `{self}` doesn't.
+    is_module: bool,
+    shown: Word,
     /// What the names before the last mean, or the last one if it is alone; of a `*` what it brings all in of.
     before: Meaning,
 }
@@ -74,6 +77,8 @@ pub struct Scopes<'a> {
     named: BTreeSet<Name>,
     /// The names of items, modules and of what a `use` brings in, each with its scope; no name where a `*` is.
     members: BTreeSet<(Name, usize)>,
+    /// Who sees those of them that not everybody does; of a `*` if none is for everybody.
+    hidden: BTreeMap<(Name, usize), Word>,
     /// The modules that begin with a condition.
     at_times: BTreeSet<usize>,
     /// The rules of macros, whose names are their third words.
@@ -106,6 +111,7 @@ impl<'a> Scopes<'a> {
             stands: BTreeMap::new(alloc),
             marked_names: BTreeSet::new(alloc),
             members: BTreeSet::new(alloc),
+            hidden: BTreeMap::new(alloc),
             at_times: BTreeSet::new(alloc),
             rules: Vec::new(alloc),
             handed: BTreeSet::new(alloc),
@@ -136,8 +142,21 @@ impl<'a> Scopes<'a> {
             }
             let it = self.scope(place);
             if it.name != NO_NAME {
-                self.failed = self.members.insert((it.name, it.outer)).is_err() || self.failed;
+                let is_file = it.outer == place;
+                let shown = if is_file { Word::Public } else { it.shown };
+                self.put_member(it.name, it.outer, shown);
             }
+        }
+    }
+
+    fn put_member(&mut self, name: Name, scope: usize, shown: Word) {
+        let member = (name, scope);
+        let is_new = self.members.insert(member);
+        self.failed = is_new.is_err() || self.failed;
+        if shown != Word::Public && (name != NO_NAME || matches!(is_new, Ok(true))) {
+            self.failed = self.hidden.insert(member, shown).is_err() || self.failed;
+        } else if name == NO_NAME && shown == Word::Public {
+            self.hidden.remove(&member);
         }
     }
 
@@ -151,6 +170,7 @@ impl<'a> Scopes<'a> {
                 file: self.tokens.files.len(),
                 outer: place,
                 end: 0,
+                shown: Word::Public,
             },
         }
     }

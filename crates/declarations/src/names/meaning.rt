@@ -90,6 +90,10 @@ pub(super) struct Places {
     /// Whether one has the name under a condition, and whether the name may mean another thing there without it.
     is_conditional: bool,
     may_differ: bool,
+    /// Whether a `use` by the name is for something else that has it, such as a function, and whether the name may mean another
+    /// thing then.
+    is_hidden: bool,
+    may_be_other: bool,
     /// Whether there are more.
     is_cut: bool,
 }
@@ -103,6 +107,8 @@ impl Places {
             is_by_star: false,
             is_conditional: false,
             may_differ: false,
+            is_hidden: false,
+            may_be_other: false,
             is_cut: false,
         }
     }
@@ -203,6 +209,7 @@ impl<'a> Scopes<'a> {
         let is_root = space == Space::Roots;
         let found = match found {
             _ if places.is_cut => Meaning::Doubtful,
+            _ if places.is_hidden && (places.may_be_other || is_root) => Meaning::Doubtful,
             Meaning::Nothing if places.is_by_name && space.is_way() => Meaning::Doubtful,
             Meaning::Nothing if places.is_by_name => Meaning::Outside,
             Meaning::Module(_) if is_root && places.is_conditional => Meaning::Wrong(
@@ -224,7 +231,8 @@ impl<'a> Scopes<'a> {
         }
         let by = self.brought_in_by(scope, name, found);
         for it in &self.imports {
-            if it.scope == scope && it.name == by {
+            let brings = !(it.is_module && space == Space::Constants);
+            if it.scope == scope && it.name == by && brings {
                 found = found.both(self.brought(places, it, name, space));
                 let is_same = it.is_crate && it.name == it.last;
                 is_conditional = is_conditional || (by == name && it.is_conditional && !is_same);
@@ -238,6 +246,7 @@ impl<'a> Scopes<'a> {
             || is_handed;
         places.is_conditional = places.is_conditional || is_conditional;
         places.may_differ = places.may_differ || (is_conditional && may_differ);
+        places.may_be_other = places.may_be_other || may_differ;
         // of a module each macro that may make a module is as a `*`
         if by == NO_NAME
             && is_handed
@@ -274,6 +283,14 @@ impl<'a> Scopes<'a> {
     /// What a `use` brings in under a name, unless a module says it, which is added to the places.
     fn brought(&self, places: &mut Places, it: &Import, name: Name, space: Space) -> Meaning {
         let is_star = it.name == NO_NAME;
+        if let Meaning::Module(module) = it.before
+            && !is_star
+        {
+            let first = places.nth(0).unwrap_or(it.scope);
+            let is_seen = self.sees(it.scope, module, it.last, space)
+                && self.sees(first, module, it.last, space);
+            places.is_hidden = places.is_hidden || !is_seen;
+        }
         match it.before {
             Meaning::Nothing | Meaning::Wrong(_) => it.before,
             before if it.path.count == 0 && !is_star => before,
@@ -299,6 +316,32 @@ impl<'a> Scopes<'a> {
             _ if is_star => Meaning::Open,
             _ => Meaning::Outside,
         }
+    }
+
+    /// Whether a scope sees what a module has under a name, by itself or by a `*`.
+    fn sees(&self, scope: usize, module: usize, name: Name, space: Space) -> bool {
+        let (declared, _) = self.declared(module, name, space);
+        let by = self.brought_in_by(module, name, declared);
+        let within = match self.hidden.get(&(by, module)) {
+            None => return true,
+            Some(Word::Crate) => self.root_of(module),
+            Some(Word::Super) => self.around_module(module),
+            Some(_) => Meaning::Module(module),
+        };
+        !matches!(within, Meaning::Module(it) if !self.is_inside(scope, it))
+    }
+
+    /// Whether a scope is in a module, or in one that this has.
+    fn is_inside(&self, scope: usize, module: usize) -> bool {
+        let mut at = Meaning::Module(self.module_of(scope));
+        for _ in 0..self.scopes.len() {
+            match at {
+                Meaning::Module(it) if it == module => return true,
+                Meaning::Module(it) => at = self.around_module(it),
+                _ => break,
+            }
+        }
+        false
     }
 
     /// Whether a module may have a name, or have it from elsewhere.

@@ -75,6 +75,7 @@ impl<'a> Scopes<'a> {
                 import.scope = scope;
                 import.is_crate = item.kind == ItemKind::Crate;
                 import.is_conditional = is_conditional;
+                import.shown = item.shown;
                 return self.read_use(import, item.words);
             }
             ItemKind::Rules if !is_in_impl => {
@@ -89,11 +90,11 @@ impl<'a> Scopes<'a> {
             }
             _ => return,
         };
-        self.add(scope, is_conditional, item.words, what);
+        self.add(scope, is_conditional, item.shown, item.words, what);
     }
 
     /// Adds what the first of these words stands for, if it is a name, where something may be imported too.
-    fn add(&mut self, scope: usize, is_conditional: bool, words: Words, what: What) {
+    fn add(&mut self, scope: usize, is_conditional: bool, shown: Word, words: Words, what: What) {
         let name = self.tokens.name_at(words);
         if name == NO_NAME || self.scope(scope).kind == Kind::Impl {
             return;
@@ -111,7 +112,7 @@ impl<'a> Scopes<'a> {
             is_conditional,
         };
         self.failed = self.items.push(item).is_err() || self.failed;
-        self.failed = self.members.insert((name, scope)).is_err() || self.failed;
+        self.put_member(name, scope, shown);
         self.failed = self.named.insert(name).is_err() || self.failed;
     }
 
@@ -155,7 +156,8 @@ impl<'a> Scopes<'a> {
         if is_everywhere(tokens.text(tokens.name_at(call.inside)))
             && declares_first(tokens, rules)
         {
-            self.add(call.scope, false, call.inside, What::Refused(MADE));
+            let made = What::Refused(MADE);
+            self.add(call.scope, false, Word::Public, call.inside, made);
         }
     }
 
@@ -224,13 +226,14 @@ impl<'a> Scopes<'a> {
                     let mut import = Import::default();
                     import.scope = scope;
                     import.is_conditional = true;
+                    import.shown = Word::Public;
                     let behind = tokens.up_to(rest, &[Word::Semicolon]);
                     self.read_use(import, rest.before(behind));
                     continue;
                 }
                 _ => continue,
             };
-            self.add(scope, is_conditional, rest, what);
+            self.add(scope, is_conditional, Word::Public, rest, what);
         }
     }
 

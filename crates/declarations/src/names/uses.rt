@@ -45,6 +45,7 @@ impl<'a> Scopes<'a> {
         import.last = last;
         // `self` is what the path before it leads to
         if matches!(word_of(last), Word::Own) && import.path.count > 0 {
+            import.is_module = true;
             import.last = import.path.before();
             import.path.count = import.path.count.saturating_sub(1);
         }
@@ -63,8 +64,7 @@ impl<'a> Scopes<'a> {
         let is_known = import.name == import.last
             && import.path.count > 0
             && is_known_crate(self.tokens.text(import.path.root()));
-        let member = (import.name, import.scope);
-        self.failed = self.members.insert(member).is_err() || self.failed;
+        self.put_member(import.name, import.scope, import.shown);
         if !is_known {
             self.failed = self.named.insert(import.name).is_err() || self.failed;
         }
@@ -81,6 +81,7 @@ impl<'a> Scopes<'a> {
         }
         let mut import = Import::default();
         import.scope = scope;
+        import.shown = Word::Public;
         import.last = INCLUDED;
         self.put_import(import);
     }
