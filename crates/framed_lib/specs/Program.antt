@@ -45,19 +45,19 @@ IsNotHex true text = (digits : List ℕ) × DropsLineFeed text digits × IsErr (
 
 -- what is said of a text that isn't hexadecimal
 abbrev pub bad_hex : List ℕ
-bad_hex = codes "framed: standard input isn't hexadecimal text" ++ 10 ∷ []
+bad_hex = codes "bad hex" ++ 10 ∷ []
 
 -- what is said of a failed read
 abbrev pub read_failed : List ℕ
-read_failed = codes "framed: standard input: read failed" ++ 10 ∷ []
+read_failed = codes "read failed" ++ 10 ∷ []
 
 -- what is said of a failed write
 abbrev pub write_failed : List ℕ
-write_failed = codes "framed: standard output: write failed" ++ 10 ∷ []
+write_failed = codes "write failed" ++ 10 ∷ []
 
 -- what is said when out of memory
 abbrev pub no_memory : List ℕ
-no_memory = codes "framed: no memory" ++ 10 ∷ []
+no_memory = codes "no memory" ++ 10 ∷ []
 
 -- One session over the text's lines is written, and the refused lines are said.
 pub record Packs (hex : Bool) (sentinel : ℕ) (text out said : List ℕ) (status : ℕ) : Type 0 where
@@ -96,7 +96,7 @@ pub record RefusesHex (hex : Bool) (text out said : List ℕ) (status : ℕ) : T
   pub not_hex : IsNotHex hex text
   -- nothing is written
   pub out_is : out ≡ []
-  -- it is reported that the text isn't hexadecimal
+  -- `bad hex` is reported
   pub said_is : said ≡ bad_hex
   -- and the status is 2
   pub status_is : status ≡ 2
@@ -141,7 +141,7 @@ LacksBehind (Some strict) true sentinel text out =
     (stream : List ℕ) × StandsFor true text stream × WritesFirst strict sentinel stream out
 LacksBehind _ _ sentinel text out = ⊥
 
--- What is written and said for a text before it is said that memory ran out, by how far it was read: to where no memory was found for more, which is
+-- What is written and said for a text before 'no memory' is said, by how far it was read: to where no memory was found for more, which is
 -- some of it, or to its end.
 abbrev pub RunsOutOfMemory : Option Bool → Bool → ℕ → Option End → List ℕ → List ℕ → List ℕ → Type 0
 RunsOutOfMemory way hex sentinel (Some NoMemory) text out said =
@@ -227,7 +227,7 @@ module _ (way : Option Bool) (hex : Bool) (sentinel : ℕ)
   abbrev pub LacksMemory : (List ℕ → Type 0) → Type 0
   LacksMemory = CarriesOut (RunsOutOfMemory way hex sentinel) whole
 
-  -- Standard error failed while the refusals, or that the text isn't hexadecimal, were said: nothing was written.
+  -- Standard error failed while the refusals or 'bad hex' were said: nothing was written.
   abbrev pub SaysInVain : (List ℕ → Type 0) → Type 0
   SaysInVain = CarriesOut (λ end text out said.
       (end ≡ Some Ended) × (out ≡ []) × SaysBeforehand way hex text said) whole

@@ -111,10 +111,10 @@ fn report<E: Outlet>(faults: &mut E, worked: Result<u8, Stop>) -> u8
 {
     match worked {
         Ok(status) => status,
-        Err(Stop::ReadFault) => say_last(faults, b"framed: standard input: read failed\n", 3),
-        Err(Stop::WriteFault) => say_last(faults, b"framed: standard output: write failed\n", 3),
+        Err(Stop::ReadFault) => say_last(faults, b"read failed\n", 3),
+        Err(Stop::WriteFault) => say_last(faults, b"write failed\n", 3),
         Err(Stop::SayingFault) => 3,
-        Err(Stop::NoMemory) => say_last(faults, b"framed: no memory\n", 4),
+        Err(Stop::NoMemory) => say_last(faults, b"no memory\n", 4),
     }
 }
 

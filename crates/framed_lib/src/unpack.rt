@@ -111,7 +111,7 @@ fn unpack_hex<R: Inlet, W: Outlet, E: Outlet>(
         End::NoMemory => return (writer, Err(Stop::NoMemory)),
     }
     if !decode_hex(&mut text) {
-        let Ok(()) = write_all(faults, b"framed: standard input isn't hexadecimal text\n") else {
+        let Ok(()) = write_all(faults, b"bad hex\n") else {
             return (writer, Err(Stop::SayingFault));
         };
         return (writer, Ok(2));

@@ -144,13 +144,13 @@ const FRAMED_HEX: &[u8] = b"00040268690001010003014100\n";
 const VALUES: &[u8] = b"value hi\nvalue \nvalue A\n";
 
 const BAD_HEX: Row<'static> = Row {
-    said: b"framed: standard input isn't hexadecimal text\n",
+    said: b"bad hex\n",
     status: 2,
     ..UNPACK_HEX
 };
 
 const UNREAD: Row<'static> = Row {
-    said: b"framed: standard input: read failed\n",
+    said: b"read failed\n",
     status: 3,
     ..PACK
 };

@@ -10,7 +10,7 @@ use std::alloc::Global;
 
 const UNWRITTEN: Row<'static> = Row {
     write_fault: Some(2),
-    said: b"framed: standard output: write failed\n",
+    said: b"write failed\n",
     status: 3,
     ..PACK
 };
@@ -42,7 +42,7 @@ const UNTAKEN_ROWS: [Row<'static>; 9] = [
     Row {
         text: b"\xff\nhi",
         out: b"\x00\x04",
-        said: b"line 1: refused\nframed: standard output: write failed\n",
+        said: b"line 1: refused\nwrite failed\n",
         ..UNWRITTEN
     },
     Row {
@@ -64,7 +64,7 @@ const UNTAKEN_ROWS: [Row<'static>; 9] = [
         hex: true,
         text: b"0g",
         saying_fault: Some(3),
-        said: b"fra",
+        said: b"bad",
         ..UNSAID
     },
     Row {
@@ -73,7 +73,7 @@ const UNTAKEN_ROWS: [Row<'static>; 9] = [
         read_fault: Some(5),
         saying_fault: Some(4),
         out: b"value hi\n",
-        said: b"fram",
+        said: b"read",
         ..UNSAID
     },
 ];
@@ -100,7 +100,7 @@ fn is_right_or_lacks_memory(alloc: Global, row: &Row<'_>) -> bool {
     if left.status != 4 {
         return left.status == 0 && holds(&written, left.written, row.out) && left.said == 0;
     }
-    begins(&written, left.written, row.out) && holds(&told, left.said, b"framed: no memory\n")
+    begins(&written, left.written, row.out) && holds(&told, left.said, b"no memory\n")
 }
 
 const SHORT_RUNS: [Row<'static>; 5] = [

@@ -208,7 +208,7 @@ fn is_front_right(alloc: Global, run: Long<'_>, before: usize) -> bool {
     let (row, text, out) = run;
     let broken = Row {
         write_fault: Some(before),
-        said: b"framed: standard output: write failed\n",
+        said: b"write failed\n",
         status: 3,
         ..*row
     };
