@@ -16,6 +16,7 @@ import zipfile
 
 NAME, VERSION = "nizkelouz_frames", "0.1.0"
 HERE = os.path.dirname(os.path.abspath(__file__))
+MACHINES = {"x86_64": 62, "aarch64": 183}  # as ELF numbers them
 STORED = os.path.join(HERE, "..", "..", "built", platform.machine())
 METADATA = f"""Metadata-Version: 2.1
 Name: nizkelouz-frames
@@ -40,6 +41,16 @@ def of_this_machine(variable, *places):
 def glibc_of(content):
     """The glibc that an ELF file is for, as the number behind `2.`: what it names, 17 at least."""
     return max([17] + [int(it) for it in re.findall(rb"\x00GLIBC_2\.(\d+)(?=[\x00.])", content)])
+
+
+def refuse_other(path, content, is_library):
+    """Raises for a file that no process of this machine could load or run, since the wheel's tag says that they can."""
+    machine = MACHINES.get(platform.machine())
+    if machine is None or platform.system() != "Linux" or (content[:4] != b"\x7fELF" and not is_library):  # a program may be a script
+        return
+    if content[:6] != b"\x7fELF\2\1" or int.from_bytes(content[18:20], "little") != machine:
+        what = "library" if is_library else "program"
+        raise ValueError(f"{path} is no {what} for {platform.machine()}, which the wheel is made for")
 
 
 def is_for_here(path):
@@ -68,7 +79,9 @@ def files_of_package(with_wire):
     for name, path in (("libframes.so", library), ("wire", wire), ("libwire.so", typed)):
         if path:
             with open(path, "rb") as file:
-                yield f"frames/{name}", file.read(), 0o755
+                content = file.read()
+            refuse_other(path, content, name.endswith(".so"))
+            yield f"frames/{name}", content, 0o755
 
 
 def tag_of(files):
@@ -99,8 +112,10 @@ def written(folder, files):
 
 
 def build_wheel(wheel_directory, config_settings=None, metadata_directory=None):
-    with_wire = (config_settings or {}).get("wire", "yes") != "no"
-    return written(wheel_directory, list(files_of_package(with_wire)))
+    wire = (config_settings or {}).get("wire", "yes")
+    if wire not in ("yes", "no"):
+        raise ValueError(f"wire is yes or no, not {wire!r}: --config-settings wire=no")
+    return written(wheel_directory, list(files_of_package(wire == "yes")))
 
 
 def build_editable(wheel_directory, config_settings=None, metadata_directory=None):

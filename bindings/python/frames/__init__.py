@@ -30,6 +30,7 @@ import os
 import select
 import socket
 import stat
+import sys
 import time
 import weakref
 from ctypes import POINTER, Structure, addressof, byref, c_bool, c_char_p, c_size_t, c_uint8, c_uint32, c_void_p, cast
@@ -227,6 +228,12 @@ def _byte(sentinel: int) -> int:
     return index(sentinel)
 
 
+def _is_plain(plain: bool) -> bool:
+    if not isinstance(plain, bool):  # such as "no" of a file of settings, which is true
+        raise TypeError(f"plain is True or False, not {plain!r}")
+    return plain
+
+
 class _Turn:
     """The lock of a receiver or a sender, and whether a call is inside of what it guards."""
 
@@ -277,7 +284,7 @@ class Sender(_Single):
 
     def __init__(self, sentinel: int = 0, plain: bool = False) -> None:
         self._state, self._turn = library().frames_c_sender(_byte(sentinel)), _Turn(self)
-        self._send = library().frames_c_send_plain if plain else library().frames_c_send
+        self._send = library().frames_c_send_plain if _is_plain(plain) else library().frames_c_send
 
     def send(self, message: _Given) -> bytes:
         """The bytes to write: a sentinel, if the last send didn't go out whole, the frame, and a sentinel.
@@ -345,10 +352,12 @@ class Receiver(_Single):
             raise TypeError("a limit is a number of bytes, not a bool")
         if index(limit) < 1:
             raise ValueError("a limit is a number of bytes, 1 or more")
+        if index(limit) > sys.maxsize:
+            raise OverflowError("a limit is a number of bytes, no more than memory can have")
         self._limit = index(limit)
         self._state, self._buffer = library().frames_c_receiver(_byte(sentinel)), _Room(self._limit)
         self._turn = _Turn(self)
-        self._push = library().frames_c_push_plain if plain else library().frames_c_push
+        self._push = library().frames_c_push_plain if _is_plain(plain) else library().frames_c_push
 
     def push(self, piece: _Given) -> List[Event]:
         """The events of these bytes, in order: messages as `bytes`, `Damaged`, `TooLong`.

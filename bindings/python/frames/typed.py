@@ -20,7 +20,7 @@ import sys
 import tempfile
 import threading
 from ctypes import POINTER, Structure, byref, c_char_p, c_size_t, c_uint8, c_void_p
-from typing import IO, Any, Dict, Generator, Iterable, List, NoReturn, Optional, Tuple, Union
+from typing import IO, Any, Dict, Generator, Iterable, List, Mapping, NoReturn, Optional, Tuple, Union
 
 from . import _Given, _byte, _of, _pieces, _refuse_no_source, _Room, _Single, _Turn
 
@@ -259,7 +259,7 @@ def write(declarations: _Path, type_name: str, values: Iterable[Any], sentinel: 
     dictionary in place of a list of values. Wrong declarations or a wrong type are an `OSError`; if there is neither the library nor the
     program, a `FileNotFoundError`.
     """
-    if isinstance(values, (str, dict, Pairs, bytes, bytearray, memoryview)):  # whose letters, keys, pairs and bytes would be taken for values
+    if isinstance(values, (str, Mapping, Pairs, bytes, bytearray, memoryview)):  # whose letters, keys, pairs and bytes would be taken for values
         raise TypeError("a list of values is needed, not a value alone")
     values = list(values)
     by_itself = {k: value for k, value in enumerate(values, 1) if _holds_value_alone(value)}
@@ -306,11 +306,14 @@ def _no_json(value: Any) -> NoReturn:
 
 def _line(value: Any) -> bytes:
     try:
-        value = _as_objects(value)
+        value, is_converted = _as_objects(value), True
     except RecursionError:  # also of a list that holds itself, of which json says that
-        pass
+        is_converted = False
     try:
-        return json.dumps(value, allow_nan=False, ensure_ascii=False, default=_no_json).encode() + b"\n"
+        line = json.dumps(value, allow_nan=False, ensure_ascii=False, default=_no_json).encode() + b"\n"
+        if is_converted:
+            return line
+        raise RecursionError  # json goes deeper, and would make a text of each key
     except RecursionError:
         raise ValueError("the value is nested too deeply") from None
     except UnicodeEncodeError as error:

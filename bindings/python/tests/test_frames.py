@@ -4,6 +4,7 @@ usage: test_frames.py [FOLDER]
 """
 import array
 import asyncio
+import collections
 import copy
 import ctypes.util
 import fcntl
@@ -107,9 +108,13 @@ def test_misuse():
     assert all(refuses(ValueError, frames.Receiver, limit) for limit in (0, -1, -(1 << 40)))
     assert all(refuses(TypeError, frames.Receiver, limit) for limit in (1.5, "8", None, b"8", True, float("nan")))
     assert all(refuses((MemoryError, OverflowError), frames.Receiver, 1 << bits) for bits in (62, 63, 64, 80))
+    assert all("a limit is a number of bytes" in told_of(OverflowError, frames.Receiver, 1 << bits) for bits in (63, 64, 80))
     assert all(refuses(ValueError, frames.encode, b"hi", sentinel) for sentinel in (-1, 256))
     assert all(refuses(TypeError, frames.encode, b"hi", sentinel) for sentinel in (1.0, "a", None, True))
     assert refuses(TypeError, frames.Sender, True) and refuses(TypeError, frames.Receiver, 8, True)
+    for plain in ("no", "false", "", 10, 1, 0, None):  # whose messages would lose what counted ones have, or who meant a sentinel
+        for call in (lambda: frames.Sender(0, plain), lambda: frames.Receiver(8, 0, plain), lambda: frames.listen(io.BytesIO(), 8, plain=plain)):
+            assert "plain is True or False" in told_of(TypeError, call), plain
     sender, receiver = frames.Sender(), frames.Receiver(8)
     for call in (sender.send, receiver.push, frames.encode, frames.encoded_length, frames.decode, frames.seal, frames.unseal, frames.crc32):
         assert all(refuses(TypeError, call, message) for message in (3, True, "hi", None, [1, 2], 1.5)), call
@@ -686,6 +691,24 @@ def test_wheel(folder):
         other = subprocess.run([sys.executable, "-B", "-c", code, package, folder], check=True, capture_output=True, text=True, env=environment).stdout.strip()
         names = zipfile.ZipFile(os.path.join(folder, other)).namelist()
         assert "frames/libwire.so" in names and "frames/wire" not in names and other.endswith(tag), (other, names)
+    # what its tag wouldn't say is refused: a library or a program of another machine, and what is no library; and so is a word for no
+    library, others = pathlib.Path(str(frames.library()._name)), {name: os.path.join(folder, name) for name in ("other.so", "text.so", "other")}
+    foreign = bytearray(library.read_bytes())
+    foreign[18:20] = struct.pack("<H", {62: 183, 183: 62}[struct.unpack_from("<H", foreign, 18)[0]])
+    for name, content in (("other.so", foreign), ("text.so", b"text"), ("other", foreign)):
+        pathlib.Path(others[name]).write_bytes(content)
+    for told, settings, named in (
+        ("other.so is no library for ", None, {"FRAMES_LIBRARY": others["other.so"]}),
+        ("text.so is no library for ", None, {"FRAMES_LIBRARY": others["text.so"]}),
+        ("other is no program for ", None, {"WIRE": others["other"]}),
+        ("wire is yes or no, not 'No'", "wire='No'", {}),
+    ):
+        try:
+            built("build_wheel", os.path.join(folder, "refused"), *([settings] if settings else []), **named)
+        except subprocess.CalledProcessError as error:
+            assert told in error.stderr and not os.listdir(os.path.join(folder, "refused")), error.stderr
+        else:
+            raise AssertionError(f"not refused: {told}")
     site = os.path.join(folder, "site")
     with zipfile.ZipFile(wheels[0]) as archive:
         archive.extractall(site)
@@ -823,6 +846,22 @@ def test_typed_threads(folder):
     assert not wrong, wrong[:3]
 
 
+def near_the_end(left, call, *arguments):
+    """Whether a call passes with so many frames of the stack left."""
+
+    def deeper(n):
+        return call(*arguments) if n == 0 else deeper(n - 1)
+
+    depth, frame = 0, sys._getframe()
+    while frame is not None:
+        depth, frame = depth + 1, frame.f_back
+    try:
+        deeper(sys.getrecursionlimit() - depth - left)
+    except (ValueError, RecursionError):
+        return False
+    return True
+
+
 def test_value_field(folder, wire):
     """Of a type with a field `value` no value is taken for another one: what to write is said."""
     path = os.path.join(folder, "node.rs")
@@ -891,6 +930,10 @@ def test_value_field(folder, wire):
     for it in ("\ud83d", "a\ud83d\ude00", {"\ude00": 1}):
         assert "half of a surrogate pair" in told_of(ValueError, written, "String", it), ascii(it)
     assert written("String", "\U0001f600\u2028\x85") == b"\0\x0b\x09" + "\U0001f600\u2028\x85".encode() + b"\0"
+    # nor near the end of the stack, where json still goes on
+    held = {"value": functools.reduce(lambda held, _: [held], range(12), {None: 3})}
+    is_written = [near_the_end(left, written, f"{'[' * 12}BTreeMap<String, u8>{'; 1]' * 12}", held) for left in range(20, 120)]
+    assert not any(is_written), "a key None is a text"
     loop, deep = [], functools.reduce(lambda held, _: [held], range(100000), 7)  # the latter deeper than json goes
     loop.append(loop)
     assert refuses(ValueError, written, "u8", loop) and refuses(ValueError, written, "u8", deep)
@@ -916,6 +959,8 @@ def test_typed(folder, wire):
         assert list(receiver.listen(io.BytesIO(stream))) == answers
     assert typed.TypedReceiver(path, "Reading", wire=wire).answers(stream) == answers
     assert refuses(TypeError, typed.write, path, "Reading", values[0]) and refuses(TypeError, typed.write, path, "String", "hi")
+    for held in (types.MappingProxyType({"hi": 1}), collections.UserDict({"hi": 1})):  # whose keys would go out
+        assert "a list of values" in told_of(TypeError, typed.write, path, "String", held, 0, wire)
     assert typed.write(pathlib.Path(path), "Reading", values, wire=wire) + b"\x01\x02\x03\0" == stream
     receiver = typed.TypedReceiver(pathlib.Path(path), "Reading", wire=wire)
     heard = receiver.listen(io.BytesIO(stream))
