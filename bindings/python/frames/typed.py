@@ -144,36 +144,43 @@ class _Stream(_Single):
     def __init__(self, of: _Type, calls: ctypes.CDLL, sentinel: int, strict: bool) -> None:
         self._of, self._calls, self._terms = of, calls, _Terms(sentinel=sentinel, strict=bool(strict))
         self._left, self._before, self._is_closed = b"", 0, False
-        self._turn = _Turn(self)
+        self._turn, self._listens = _Turn(self), object()  # the latter: the last listen that has begun
         self.push(b"")  # what the declarations are refused for
 
-    def push(self, piece: _Given, ends: bool = False, begins: bool = False) -> List[Dict[str, Any]]:
-        """The answers that these bytes bring. Threads push one after another: the room and what is left over are one receiver's."""
+    def push(self, piece: _Given, ends: bool = False, is_whole: bool = False, turn: object = None) -> List[Dict[str, Any]]:
+        """The answers that these bytes bring. Threads push one after another: the room and what is left over are one receiver's.
+
+        A whole stream is no part of the one that a `listen` reads, which goes on after it where it was.
+        """
         view = memoryview(piece)
         with self._turn.lock:
             if self._turn.is_inside:  # by a signal handler
                 raise RuntimeError("a call of a receiver inside another one")
+            if turn is not None and turn is not self._listens:
+                raise ValueError("another listen of this receiver has begun, which reads on where this one was: make a receiver for each stream")
+            kept = (self._left, self._before, self._terms.inside) if is_whole else None
             try:
                 try:
                     self._turn.is_inside = True
-                    if begins:  # what a `listen` left over is no part of this stream
+                    if is_whole:
                         self._begin()
                     self._take(view)  # which is read again, if memory ends before it is answered
                     return self._answered(ends)
                 finally:
                     self._turn.is_inside = False
                     if ends:
-                        self._begin()
+                        self._begin(kept)
             finally:  # again: before Python 3.10 a signal handler may raise just before that
                 self._turn.is_inside = False
                 if ends:
-                    self._begin()
+                    self._begin(kept)
 
     def _interrupted(self) -> None:
         self._left, self._before, self._terms.inside = b"", self._before + len(self._left), 1
 
-    def _begin(self) -> None:
-        self._left, self._before, self._terms.inside = b"", 0, 0
+    def _begin(self, kept: Optional[Tuple[bytes, int, int]] = None) -> None:
+        """Begins a stream, or goes on with one that was kept."""
+        self._left, self._before, self._terms.inside = kept or (b"", 0, 0)
 
     def _take(self, view: memoryview) -> None:
         try:
@@ -195,16 +202,17 @@ class _Stream(_Single):
         return answers
 
     def listen(self, source: Any, ends: bool) -> Generator[Dict[str, Any], None, None]:
+        self._listens = turn = object()
         for piece in _pieces(source, ends, lambda: self._is_closed):
-            for answer in self.push(piece):
+            for answer in self.push(piece, turn=turn):
                 if self._is_closed:  # by the loop itself, or meanwhile
                     return
                 yield answer
         if not self._is_closed:
-            yield from self.push(b"", ends=True)
+            yield from self.push(b"", ends=True, turn=turn)
 
     def answers(self, stream: _Given) -> List[Dict[str, Any]]:
-        return self.push(stream, ends=True, begins=True)
+        return self.push(stream, ends=True, is_whole=True)
 
     def close(self) -> None:
         self._is_closed = True
@@ -469,6 +477,7 @@ class TypedReceiver(_Single):
     def listen(self, source: Any, ends: bool = True) -> Generator[Dict[str, Any], None, None]:
         """The results of all that a file object or a port gives, as they come; once.
 
+        By the library, the next `listen` goes on with a frame that one had begun which was left; the earlier one is then a `ValueError`.
         Raises what reading the source raises, after the results of what was read.
         """
         _refuse_no_source(source)

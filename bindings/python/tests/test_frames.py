@@ -994,6 +994,20 @@ def test_typed(folder, wire):
         with typed.TypedReceiver(path, "Reading") as receiver:
             for _ in range(2):
                 assert receiver.answers(stream + b"\x07") == answers + [{"cut": {"from": 15, "to": 16}}]
+        # a whole stream inside of a loop over another one is no part of it, and of two loops one goes on: no value is made of both
+        def listens(*pieces):
+            left = list(pieces)
+            return receiver.listen(types.SimpleNamespace(read=lambda size: left.pop(0) if left else b""))
+
+        with typed.TypedReceiver(path, "u8") as receiver:
+            heard = []
+            for answer in listens(b"\2\7\0\5\1", b"\2\x09\0", b"\2\x08\0"):
+                heard += [answer, *receiver.answers(b"\2\6\0\5")]
+            whole = [{"value": 6}, {"cut": {"from": 3, "to": 4}}]
+            assert heard == [{"value": 7}, *whole, {"damaged": {"from": 3, "to": 7}}, *whole, {"value": 8}, *whole], heard
+            first, second = listens(b"\2\7\0\3", b"\1\0"), listens(b"\2\1\0\2", b"\x09\0")
+            assert next(first) == {"value": 7} and next(second) == {"value": 2} and "a receiver for each stream" in told_of(ValueError, next, first)
+            assert list(second) == [{"value": 9}]
     # what the declarations are refused for is told, whichever call meets it; and a source's own failure comes behind what it gave
     for call in (
         lambda: typed.TypedReceiver(path, "No", wire=wire).answers(b""),
