@@ -150,6 +150,30 @@ static void inside(void) {
     CHECK(said.used == 3 && begins(said, room, "{\"cut\":{\"from\":0,\"to\":3}}"));
 }
 
+/* the deepest value, there and back, and one that is deeper: what takes the most stack, which `.ci/bindings` bounds */
+static void deepest(void) {
+    static const char node[] = "// message\nenum Node { End, More(Box<Node>) }\n";
+    struct wire_terms terms = {0, 0, 0, 0, 0, 0};
+    for (size_t depth = 58; depth <= 59; depth++) {
+        char line[1024] = "", room[1024];
+        uint8_t bytes[1024];
+        for (size_t i = 0; i < depth; i++)
+            strcat(line, "{\"More\":");
+        strcat(line, "\"End\"");
+        for (size_t i = 0; i < depth; i++)
+            strcat(line, "}");
+        struct wire_said said = wire_write(node, sizeof node - 1, "Node", 4, &terms, line, strlen(line), bytes, sizeof bytes);
+        if (depth == 59) {
+            CHECK(said.status == WIRE_REFUSED);
+            continue;
+        }
+        CHECK(said.status == WIRE_DONE && said.length == depth + 3);
+        said = wire_read(node, sizeof node - 1, "Node", 4, &terms, bytes, said.length, room, sizeof room);
+        CHECK(said.status == WIRE_DONE && said.length == strlen(line) + strlen("{\"value\":}\n"));
+        CHECK(memcmp(room + strlen("{\"value\":"), line, strlen(line)) == 0);
+    }
+}
+
 static struct wire_said called(int call, char *room, size_t room_length) {
     struct wire_terms terms = {0, 0, 1, 0, 0, 1};
     return call == 0   ? reads("Reading", &terms, stream, sizeof stream, room, room_length)
@@ -191,6 +215,7 @@ int main(void) {
     rooms();
     wrongs();
     inside();
+    deepest();
     memory();
     return 0;
 }
