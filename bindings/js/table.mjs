@@ -264,8 +264,14 @@ function optionsOf(options) {
   if (wrapped !== undefined && typeof wrapped !== "boolean") throw new TypeError("wrapped is true or false");
   return { depth, empty, hex, wrapped };
 }
-/** A copy of a node, which has its own members alone: the caller's may change, and others put members into Object.prototype. */
-const own = (node) => (isObject(node) ? Object.assign(Object.create(null), node) : node);
+/** A copy of an object, which has its own members alone: the caller's may change, and others put members into Object.prototype. */
+const own = (it) => (isObject(it) ? Object.assign(Object.create(null), it) : it);
+/** The same of a node, with its parts. */
+function ownNode(node) {
+  const copy = own(node);
+  for (const part of PARTS.values()) if (Array.isArray(copy?.[part])) copy[part] = Array.from(copy[part], own);
+  return copy;
+}
 /** Runs a step that goes as deep as a value does: if the engine's stack ends before, that is too deep as well. */
 function onStack(step, tooDeep) {
   try { return step(); } catch (error) {
@@ -288,8 +294,8 @@ export class Table {
     if (table?.version !== 1 || !Array.isArray(table.types) || !Array.isArray(table.nodes)) {
       throw new TypeError("a table that `wire check FILES json` prints is needed, of version 1");
     }
-    this.types = table.types;
-    this.nodes = table.nodes.map(own);
+    this.types = Array.from(table.types, own);
+    this.nodes = Array.from(table.nodes, ownNode);
     this.#check();
   }
   #check() {
@@ -316,7 +322,9 @@ export class Table {
   }
   /** The names of the declared types, in their order. Where several have one name, each is that name and its line: `Config:7`. */
   get names() {
-    return this.types.map(({ name, line }) => this.types.filter((it) => it.name === name).length > 1 ? `${name}:${line}` : name);
+    const counts = new Map();
+    for (const { name } of this.types) counts.set(name, (counts.get(name) ?? 0) + 1);
+    return this.types.map(({ name, line }) => counts.get(name) > 1 ? `${name}:${line}` : name);
   }
   /** The place of the declared type that has this name among `names`; undefined if none or several have it. */
   placeOf(name) {

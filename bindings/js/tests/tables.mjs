@@ -142,6 +142,12 @@ assert.equal(of(...doubled.slice(30).map((it, i) => ({ ...it, nodes: [i + 1, i +
 const nodes = [{ kind: "u8" }], changed = of(...nodes);
 nodes[0].kind = "text";
 assert.equal(hex(changed.write(0, "7")), "07");
+const given = { version: 1, types: [{ name: "T", line: 1, node: 0 }], nodes: [{ kind: "struct", fields: [{ name: "a", node: 1 }] }, { kind: "u8" }] }, kept = new Table(given);
+Object.assign(given.nodes[0].fields[0], { name: "b", node: 9 });
+given.nodes[0].fields.push({ name: "c", node: 1 });
+given.types[0].name = "U";
+assert.deepEqual([hex(kept.write(kept.placeOf("T"), '{"a":7}')), kept.names], ["07", ["T"]]);
+assert.throws(() => of({ kind: "tuple", nodes: new Array(1) }), /the table has a node that/); // a hole is no part
 Object.prototype.most = 1;
 Object.prototype.wrapped = true;
 try { assert.equal(hex(of({ kind: "text" }).write(0, '"ab"')), "026162"); } finally {
@@ -165,4 +171,9 @@ assert.equal(of({ kind: "map", node: 1 }, { kind: "u8", nodes: "ab" }).read(0, U
 const twice = new Table({ version: 1, types: [["Config", 3, 0], ["Config", 7, 1], ["All", 9, 1]].map(([name, line, node]) => ({ name, line, node })), nodes: [{ kind: "u8" }, { kind: "u16" }] });
 assert.deepEqual(twice.names, ["Config:3", "Config:7", "All"]);
 assert.deepEqual(["Config", "Config:3", "Config:7", "All", "All:9", "Other"].map((name) => twice.placeOf(name)), [undefined, 0, 1, 1, undefined, undefined]);
+// many types take no longer than they are many
+const many = new Table({ version: 1, types: Array.from({ length: 200000 }, (_, i) => ({ name: i % 2 ? `T${i}` : "T", line: i, node: 0 })), nodes: [{ kind: "u8" }] });
+const before = performance.now();
+assert.deepEqual([many.names[2], many.placeOf("T199999"), many.placeOf("T")], ["T:2", 0, undefined]);
+assert.ok(performance.now() - before < 10000, "200000 types take more than ten seconds");
 console.log(`${rounds} tables made at random: ${read} values read, written and read again, ${refused} refused; ${cases.length} numbers at their edges`);
