@@ -251,7 +251,7 @@ def _command(wire: Optional[str], mode: str, declarations: str, type_name: str, 
 def _closed(pipe: IO[bytes]) -> None:
     try:
         pipe.close()
-    except BrokenPipeError:
+    except (BrokenPipeError, ValueError):  # the latter: another thread is closing it
         pass
 
 
@@ -333,17 +333,30 @@ def _line(value: Any) -> bytes:
 
 
 def _written(declarations: str, type_name: str, values: Iterable[Any], sentinel: int, wire: Optional[str]) -> bytes:
-    lines = b"".join(map(_line, values))
+    lines = list(map(_line, values))
     by_library = _of_library(declarations, type_name, wire)
     if by_library is not None:
-        return by_library[0].write(lines, sentinel)
-    done = subprocess.run(_command(wire, "write", declarations, type_name, sentinel), input=lines, capture_output=True)
+        return by_library[0].write(b"".join(lines), sentinel)
+    words = _command(wire, "write", declarations, type_name, sentinel)
+    done = subprocess.run(words, input=b"".join(lines), capture_output=True)
     # where SIGCHLD is ignored, as in a daemon, Python knows no status, and says 0
     if done.returncode != 0 or (done.stderr and len(done.stdout) < 2):
         said = _told(done.stderr) or f"wire ended with status {done.returncode}"
         is_refused = done.returncode == 1 or (done.returncode == 0 and said.startswith(("line ", "wire: line ")))
         raise ValueError(said) if is_refused else OSError(said)
+    mark = bytes([sentinel])
+    if not (done.stdout.startswith(mark) and done.stdout.endswith(mark) and done.stdout.count(mark) == len(lines) + 1):
+        raise OSError(f"{_another(words)}: it writes {_shown(done.stdout)} for {len(lines)} values")
     return done.stdout
+
+
+def _another(words: List[Union[str, bytes]]) -> str:
+    """That a command isn't `wire`, whose name others have too."""
+    return f"{os.fsdecode(words[0])} is another program than wire"
+
+
+def _shown(out: bytes) -> str:
+    return repr(out[:60]) if out else "nothing"
 
 
 class _Process:
@@ -351,6 +364,8 @@ class _Process:
 
     def __init__(self, declarations: str, type_name: str, sentinel: int, strict: bool, wire: Optional[str]) -> None:
         words = _command(wire, "read", declarations, type_name, sentinel) + (["strict"] if strict else [])
+        self._words, self._mark, self._is_owed = words, bytes([sentinel]), False  # the latter: bytes came, of which `wire` says something
+        self._is_early = False  # it ended before what it reads did
         said = tempfile.TemporaryFile()
         self._said: Optional[IO[bytes]] = said
         self._feeder: Optional[threading.Thread] = None
@@ -372,11 +387,13 @@ class _Process:
         self._begin()
         self._feeder = threading.Thread(target=self._feed, args=(source, ends), daemon=True)
         self._feeder.start()
+        has_answered = False
         while True:
             line = self._next_line()
             if not line.endswith(b"\n"):  # the end, or it was ended inside of it
                 break
-            yield _answer(line)
+            has_answered = True
+            yield self._answer(line)
         if self._is_closed:
             return
         self._process.wait()
@@ -384,6 +401,19 @@ class _Process:
         self.close()
         if self._failure is not None:
             raise self._failure
+        if self._is_owed and not has_answered:
+            raise OSError(f"{_another(self._words)}: it prints nothing")
+        if self._is_early or self._feeder.is_alive():
+            raise OSError(f"{_another(self._words)}: it ended before its input did")
+
+    def _answer(self, line: bytes) -> Dict[str, Any]:
+        try:
+            answer = _answer(line)
+        except ValueError:
+            answer = {}
+        if not isinstance(answer, dict) or len(answer) != 1:
+            raise OSError(f"{_another(self._words)}: it prints {_shown(line)}")
+        return answer
 
     def _next_line(self) -> bytes:
         """The next line of the program; none at the end, or once `close` was called, in the loop or by another thread."""
@@ -402,7 +432,9 @@ class _Process:
         self._begin()
         out, _ = self._process.communicate(stream)
         self.close()
-        return [_answer(line) for line in out.splitlines()]
+        if stream.strip(self._mark) and not out:
+            raise OSError(f"{_another(self._words)}: it prints nothing")
+        return [self._answer(line) for line in out.splitlines()]
 
     def close(self) -> None:
         """Ends the program, and says what it said. Of threads that close it, as the one that reads does at the end, one says so."""
@@ -437,11 +469,13 @@ class _Process:
             self._failure = failure
         finally:
             assert self._process.stdin is not None
+            self._is_early = self._process.poll() is not None
             _closed(self._process.stdin)
 
     def _is_taken(self, piece: bytes) -> bool:
         """Whether the program takes these bytes: not if it ended, or was closed."""
         assert self._process.stdin is not None
+        self._is_owed = self._is_owed or bool(piece.strip(self._mark))
         try:
             self._process.stdin.write(piece)
             self._process.stdin.flush()

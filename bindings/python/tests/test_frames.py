@@ -1238,6 +1238,23 @@ def test_killed(folder):
         else:
             raise AssertionError("not raised")
     assert heard[-1] == {"value": 7}
+    # another program, which ends as if all were well: nothing of what it says, or doesn't say, is taken for a message or for none
+    for body, told in (("true", "nothing"), ("echo Usage", "Usage"), ("echo 7", "7"), ("echo '{\"a\":1,\"b\":2}'", "a"), ("echo usage >&2; exit 1", "nothing")):
+        pathlib.Path(killed).write_text(f"#!/bin/sh\ncat >/dev/null\n{body}\n", encoding="utf-8")
+        calls = [lambda receiver: receiver.answers(b"\2\7\0"), lambda receiver: list(receiver.listen(io.BytesIO(b"\2\7\0")))]
+        calls += [] if "exit" in body else [lambda receiver: typed.write(path, "u8", [7], wire=killed), lambda receiver: typed.write(path, "u8", [], wire=killed)]
+        for call in calls:
+            said = told_of(OSError, call, typed.TypedReceiver(path, "u8", wire=killed))
+            assert f"{killed} is another program than wire: it " in said and told in said, said
+    taken, given = os.pipe()  # nor is the end of one that reads nothing that of the stream, whether that has ended or not
+    for source in (io.BytesIO(b"\2\7\0" * 9), os.fdopen(taken, "rb")):
+        said = told_of(OSError, list, typed.TypedReceiver(path, "u8", wire=shutil.which("true")).listen(source))
+        assert "is another program than wire: it " in said, said
+    os.close(given)
+    source.close()
+    if os.environ.get("WIRE"):  # what brings nothing is no other program's
+        for stream in (b"", b"\0\0"):
+            assert typed.TypedReceiver(path, "u8", wire=os.environ["WIRE"]).answers(stream) == list(typed.TypedReceiver(path, "u8", wire=os.environ["WIRE"]).listen(io.BytesIO(stream))) == []
     pathlib.Path(killed).write_text("#!/bin/sh\nread -r _\necho '{\"value\":7}'\nexec sleep 60\n", encoding="utf-8")
     with typed.TypedReceiver(path, "u8", wire=killed) as receiver:
         assert next(receiver.listen(io.BytesIO(b"\n"))) == {"value": 7}
