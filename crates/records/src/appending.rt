@@ -427,13 +427,14 @@ fn lock(rt: &HostRuntime, path: &str, file: &File) -> u8
     }
 }
 
-// Whether what is written to this stream goes into the log.
+// Whether this stream leads to the log's file.
 fn is_stream(to: Target<'_>, stream: &str) -> bool {
     matches!(to.identity.has_moved(to.rt, stream), Ok(false))
 }
 
-// Makes sure that nothing else is written into the log, and that its name survives a crash, or writes why not. Returns the status.
-// What comes between two records damages the next one: so a message that standard error is the log isn't written either.
+// Makes sure that nothing else is written into the log, that its lines don't come from it, and that its name survives a crash, or writes
+// why not. Returns the status. What comes between two records damages the next one: so a message that standard error is the log isn't
+// written either.
 fn prepare(to: Target<'_>, file: &File) -> u8
     ensures { 0 < result → IsFaultStatus result }
 {
@@ -442,6 +443,13 @@ fn prepare(to: Target<'_>, file: &File) -> u8
     }
     if is_stream(to, "/dev/stdout") {
         return say_failed(to.rt, to.path, &"standard output goes into it");
+    }
+    if is_stream(to, "/dev/stdin") {
+        return say_failed(
+            to.rt,
+            to.path,
+            &"it is standard input too: lines come from another file",
+        );
     }
     match lock(to.rt, to.path, file) {
         // also for a file that has bytes: the name of a copy, or of what `repair` wrote, may not be on the disk yet
