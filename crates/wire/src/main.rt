@@ -159,7 +159,11 @@ fn mode_of(name: &str) -> Option<Action> {
 fn of_type(rt: &HostRuntime, mode: Action, words: &[String]) -> Ran {
     match words {
         [files, name, words @ ..] => work(rt, mode, files.as_str(), name.as_str(), words),
-        _ => Err(wrong(rt, &["FILES and TYPE are missing\n", USAGE])),
+        [_] => Err(wrong(
+            rt,
+            &["TYPE is missing: `check` lists those of FILES\n", USAGE],
+        )),
+        [] => Err(wrong(rt, &["FILES and TYPE are missing\n", USAGE])),
     }
 }
 
