@@ -276,7 +276,8 @@ impl<'a> LinesOfFrames<'a> {
         ensures good { IfOk result (λ good. (passed : ℕ) (stream : List ℕ)
             → HasCome self.entry passed stream → good
             ≡ (good_so_far self.entry && are_all_values (added_at_end self.entry stream))) }
-        ensures told { OnOk result ((passed : ℕ) (stream : List ℕ) → HasCome self.entry passed stream
+        ensures told { OnOk result ((passed : ℕ) (stream : List ℕ)
+            → HasCome self.entry passed stream
             → TellsEnd (reading_of self.entry) passed stream (added_at_end self.entry stream)
             lines.old.items lines.new.items) }
         ensures unchanged { OnErr result (lines.new.items ≡ lines.old.items) }

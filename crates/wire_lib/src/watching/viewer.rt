@@ -278,7 +278,8 @@ impl<'a> Viewer<'a> {
             → good ≡ are_all_values (answers ++ added_by_end self.old stream)) }
         ensures missed { missed_none self.old ≡ false → IfOk result (λ good. good ≡ false) }
         ensures kept { OnOk result ((stream : List ℕ) (answers : List (Answers Values))
-            → HasFollowed self.old stream answers → KeepsAll self.old self.new.table stream answers) }
+            → HasFollowed self.old stream answers
+            → KeepsAll self.old self.new.table stream answers) }
         ensures line { OnOk result ((stream : List ℕ) (answers : List (Answers Values))
             → HasFollowed self.old stream answers → SeesEnd (reading_of self.old).sentinel stream
             (added_by_end self.old stream) lines.old.items lines.new.items) }
