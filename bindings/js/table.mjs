@@ -1,7 +1,6 @@
 // Values of message types by the table that `wire check FILES json` prints: bytes of postcard as JSON, and JSON as bytes. What it prints and
 // refuses is what the program `wire` does; but a line that is two values, it refuses, and a value with more than 2^22 parts in a row that
-// take no byte, since a table can have those without end. Of a line that isn't JSON it names the column from which it isn't; `wire` names the
-// one where it stopped reading. It is tested against the vectors of `wire` and not proved; see README.md.
+// take no byte, since a table can have those without end. It is tested against the vectors of `wire` and not proved; see README.md.
 
 const TOO_DEEP = "the value is nested too deeply: `depth=` sets the limit";
 /** Of a line that is two values. */

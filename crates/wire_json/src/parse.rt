@@ -13,8 +13,9 @@ ghost use Rattle.wire_json.specs.Meant.{AreNamedOnce, AreBytes, AreBytesOf, HasM
 ghost use Rattle.wire_json.specs.Parsed.{AreOfType, IsGroupOf, IsOfEnum, IsOfLeaf, IsOfNode, IsOfStruct, IsOfType};
 ghost use Rattle.wire_json.specs.Refused.{IfNone, IfWrong, IsNumberNode, IsWrong, NoneOf};
 
+use crate::faults::{TOO_DEEP, no_json};
 use crate::floats::{float_of_number, float_of_word};
-use crate::wrong::{ParseError, at_column, inside, inside_element, refusal};
+use crate::wrong::{ParseError, inside, inside_element, refusal};
 use hex::FromHexError;
 use json::{Error, Reader, Scratch, Value as Json};
 use schema_table::looks::{
@@ -26,9 +27,6 @@ use std::alloc::Global;
 use std::str::from_utf8;
 
 type Parsed = Result<Value, ParseError>;
-
-/// The error for more nested nodes than allowed.
-const TOO_DEEP: &str = "the value is nested too deeply: `depth=` sets the limit";
 
 /// The error for an index that the table hasn't.
 const NO_TYPE: &str = "the schema has no such type";
@@ -111,7 +109,8 @@ fn short_text(alloc: Global, most: u64, json: &Json<'_>) -> Parsed
     ensures of_type { IfOk result (IsOfLeaf (kind.TextUpTo most)) }
     ensures means { IfOk result (AtTop (MeansPlain (value_view json.now))) }
     ensures refused { IfWrong result
-        (NoneOf (InRange (IsOfLeaf (kind.TextUpTo most))) (AtTop (MeansPlain (value_view json.now)))) }
+        (NoneOf (InRange (IsOfLeaf (kind.TextUpTo most)))
+        (AtTop (MeansPlain (value_view json.now)))) }
 {
     match json {
         Json::String(held) => text_up_to(alloc, most, held),
@@ -1074,7 +1073,7 @@ fn json_depth(depth: u32) -> usize
     (depth as usize).saturating_mul(2).saturating_add(2)
 }
 
-/// The JSON of a text, or `None` if it isn't JSON; the reader's offset is then where that shows.
+/// The JSON of a text, or `None` if it isn't JSON, or nests too deeply.
 fn json_of<'a>(
     alloc: Global,
     depth: u32,
@@ -1095,35 +1094,6 @@ fn json_of<'a>(
     }
 }
 
-/// How many more brackets open than close in the beginning of a JSON text. Those in strings don't count.
-fn open_brackets(text: &str) -> usize {
-    let mut open: usize = 0;
-    let mut quoted = false;
-    let mut escaped = false;
-    for it in text.chars() {
-        if quoted {
-            quoted = escaped || it != '"';
-            escaped = !escaped && it == '\\';
-            continue;
-        }
-        match it {
-            '[' | '{' => open = open.saturating_add(1),
-            ']' | '}' => open = open.saturating_sub(1),
-            _ => quoted = it == '"',
-        }
-    }
-    open
-}
-
-/// The error for a text that isn't JSON from byte `offset` on, or nests too deeply there.
-fn no_json(alloc: Global, depth: u32, text: &str, offset: usize) -> ParseError {
-    let before = text.get(..offset).unwrap_or(text);
-    if open_brackets(before) >= json_depth(depth) {
-        return refusal(TOO_DEEP);
-    }
-    at_column(alloc, before.chars().count().saturating_add(1))
-}
-
 /// The value that a text contains, as the text says it.
 fn value_of_text(alloc: Global, schema: &Schema, place: usize, depth: u32, text: &str) -> Parsed
     ensures of_type { IfOk result (IsOfType depth schema.now.nodes.items place) }
@@ -1135,7 +1105,7 @@ fn value_of_text(alloc: Global, schema: &Schema, place: usize, depth: u32, text:
     let mut reader = Reader::new(text, &mut scratch)?;
     match json_of(alloc, depth, &mut reader) {
         Ok(Some(json)) => value_of_line(alloc, schema, place, depth, &json),
-        Ok(None) => Err(no_json(alloc, depth, text, reader.offset())),
+        Ok(None) => Err(no_json(alloc, json_depth(depth), text)),
         Err(error) => Err(error),
     }
 }
