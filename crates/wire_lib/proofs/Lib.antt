@@ -12,6 +12,5 @@ pub mod SeenLemmas
 pub mod SentLemmas
 pub mod ShownLemmas
 pub mod SizesLemmas
-pub mod TableJsonLemmas
 pub mod ToldLemmas
 pub mod WatchedLemmas

@@ -1,3 +1,4 @@
 pub mod FloatLemmas
 pub mod InsideLemmas
 pub mod PrintedLemmas
+pub mod TableJsonLemmas

@@ -1,5 +1,6 @@
-//! Values of a table of types as JSON.
+//! Values of a table of types, and the table itself, as JSON.
 #![tactic(auto)]
 
 mod floats;
 pub mod print;
+pub mod table_json;

@@ -1,7 +1,7 @@
 use Rattle.std.proofs.Common.{◌≡◌, ◌++◌, flat_map, drop}
 use Rattle.json.specs.Tree.{json_tokens}
-use Rattle.wire_lib.specs.TableJson.{types_json}
-use Rattle.wire_lib.proofs.table_json.put_types.Given as goal
+use Rattle.wire_print.specs.TableJson.{types_json}
+use Rattle.wire_print.proofs.table_json.put_types.Given as goal
 
 abbrev pub invariant-loop-place : goal.invariant-loop-place
 invariant-loop-place l =

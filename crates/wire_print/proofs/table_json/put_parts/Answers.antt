@@ -1,7 +1,7 @@
 use Rattle.std.proofs.Common.{◌≡◌, [], inl, inr}
-use Rattle.wire_lib.specs.TableJson.{parts_json}
-use Rattle.wire_lib.proofs.TableJsonLemmas.{array_member, parts_end}
-use Rattle.wire_lib.proofs.table_json.put_parts.Goals as goal
+use Rattle.wire_print.specs.TableJson.{parts_json}
+use Rattle.wire_print.proofs.TableJsonLemmas.{array_member, parts_end}
+use Rattle.wire_print.proofs.table_json.put_parts.Goals as goal
 
 pub returns-clause-members : goal.returns-clause-members
 returns-clause-members c =

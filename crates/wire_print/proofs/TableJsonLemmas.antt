@@ -10,7 +10,7 @@ use Rattle.schema_table.specs.declared.node.Node.{Node}
 use Rattle.schema_table.specs.declared.schema.Names.{Names}
 use Rattle.wire_print.specs.Appended.{member_tokens}
 use Rattle.schema_table.specs.Printed.{members_by}
-use Rattle.wire_lib.specs.TableJson.{parts_json, nodes_json}
+use Rattle.wire_print.specs.TableJson.{parts_json, nodes_json}
 use Rattle.wire_print.specs.TokenLaws.{array_tokens, object_tokens}
 use Rattle.std.proofs.lemmas.Result.{on_ok_weaker}
 

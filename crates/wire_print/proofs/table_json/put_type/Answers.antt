@@ -1,8 +1,8 @@
 use Rattle.std.proofs.Common.{◌++◌, ◌∷◌, [], codes}
 use Rattle.json.specs.Json.{string}
-use Rattle.wire_lib.specs.TableJson.{node_of, number_of}
-use Rattle.wire_lib.proofs.TableJsonLemmas.{members_then, object_shown}
-use Rattle.wire_lib.proofs.table_json.put_type.Goals as goal
+use Rattle.wire_print.specs.TableJson.{node_of, number_of}
+use Rattle.wire_print.proofs.TableJsonLemmas.{members_then, object_shown}
+use Rattle.wire_print.proofs.table_json.put_type.Goals as goal
 
 pub returns-clause-json : goal.returns-clause-json
 returns-clause-json c =

@@ -1,7 +1,7 @@
 use Rattle.std.proofs.Common.{◌++◌, ◌∷◌, [], codes}
-use Rattle.wire_lib.specs.TableJson.{maybe_number, node_members}
-use Rattle.wire_lib.proofs.TableJsonLemmas.{members_then, object_shown}
-use Rattle.wire_lib.proofs.table_json.put_sized.Goals as goal
+use Rattle.wire_print.specs.TableJson.{maybe_number, node_members}
+use Rattle.wire_print.proofs.TableJsonLemmas.{members_then, object_shown}
+use Rattle.wire_print.proofs.table_json.put_sized.Goals as goal
 
 pub returns-clause-json : goal.returns-clause-json
 returns-clause-json c =

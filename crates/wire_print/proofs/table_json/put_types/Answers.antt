@@ -1,8 +1,8 @@
 use Rattle.std.proofs.Common.{drop, codes, ap}
 use Rattle.std.proofs.Math.ListN.{drop_of_length-le}
-use Rattle.wire_lib.specs.TableJson.{types_json}
-use Rattle.wire_lib.proofs.TableJsonLemmas.{array_member}
-use Rattle.wire_lib.proofs.table_json.put_types.Goals as goal
+use Rattle.wire_print.specs.TableJson.{types_json}
+use Rattle.wire_print.proofs.TableJsonLemmas.{array_member}
+use Rattle.wire_print.proofs.table_json.put_types.Goals as goal
 
 pub returns-clause-members : goal.returns-clause-members
 returns-clause-members c =

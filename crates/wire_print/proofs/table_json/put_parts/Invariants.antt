@@ -1,7 +1,7 @@
 use Rattle.std.proofs.Common.{◌≡◌, ◌++◌, flat_map}
 use Rattle.json.specs.Tree.{json_tokens}
-use Rattle.wire_lib.specs.TableJson.{parts_json}
-use Rattle.wire_lib.proofs.table_json.put_parts.Given as goal
+use Rattle.wire_print.specs.TableJson.{parts_json}
+use Rattle.wire_print.proofs.table_json.put_parts.Given as goal
 
 abbrev pub invariant-loop-name : goal.invariant-loop-name
 invariant-loop-name l =

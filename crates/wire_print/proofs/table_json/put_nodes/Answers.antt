@@ -1,7 +1,7 @@
 use Rattle.std.proofs.Common.{◌≡◌, [], inl, inr, codes}
-use Rattle.wire_lib.specs.TableJson.{nodes_json}
-use Rattle.wire_lib.proofs.TableJsonLemmas.{array_member, nodes_end}
-use Rattle.wire_lib.proofs.table_json.put_nodes.Goals as goal
+use Rattle.wire_print.specs.TableJson.{nodes_json}
+use Rattle.wire_print.proofs.TableJsonLemmas.{array_member, nodes_end}
+use Rattle.wire_print.proofs.table_json.put_nodes.Goals as goal
 
 pub returns-clause-members : goal.returns-clause-members
 returns-clause-members c =

@@ -1,7 +1,7 @@
 use Rattle.std.proofs.Common.{◌≡◌, ◌++◌, flat_map, map, drop}
 use Rattle.json.specs.Tree.{json_tokens}
-use Rattle.wire_lib.specs.TableJson.{number_of}
-use Rattle.wire_lib.proofs.table_json.put_places.Given as goal
+use Rattle.wire_print.specs.TableJson.{number_of}
+use Rattle.wire_print.proofs.table_json.put_places.Given as goal
 
 abbrev pub invariant-loop-place : goal.invariant-loop-place
 invariant-loop-place l =

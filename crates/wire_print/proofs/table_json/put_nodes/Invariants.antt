@@ -1,7 +1,7 @@
 use Rattle.std.proofs.Common.{◌≡◌, ◌++◌, flat_map}
 use Rattle.json.specs.Tree.{json_tokens}
-use Rattle.wire_lib.specs.TableJson.{nodes_json}
-use Rattle.wire_lib.proofs.table_json.put_nodes.Given as goal
+use Rattle.wire_print.specs.TableJson.{nodes_json}
+use Rattle.wire_print.proofs.table_json.put_nodes.Given as goal
 
 abbrev pub invariant-loop-node : goal.invariant-loop-node
 invariant-loop-node l =
