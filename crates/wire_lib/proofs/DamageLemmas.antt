@@ -198,7 +198,7 @@ came_on at n used m at' e f g = omega (arith, e, f, g)
 module _ (r : Reading) (at at' used n : ℕ) (stream rest front front' before last : List ℕ) (old new : Table)
     (answers : List (Answer Value)) where
   -- what is kept of the partial frame
-  behind_on : front ≡ kept_behind r.sentinel [] stream
+  pub behind_on : front ≡ kept_behind r.sentinel [] stream
       → front' ≡ kept_behind r.sentinel (kept_behind r.sentinel front before) last
       → take used rest ≡ before ++ last
       → front' ≡ kept_behind r.sentinel [] (stream ++ take used rest)
@@ -206,6 +206,12 @@ module _ (r : Reading) (at at' used n : ℕ) (stream rest front front' before la
       let s = r.sentinel in
       f ∙ sym (kept_joined s front before last) ∙ ap (kept_behind s front) (sym g)
       ∙ ap (λ x. kept_behind s x (take used rest)) e ∙ sym (kept_joined s [] stream (take used rest))
+
+  -- how many bytes came, with these
+  pub came_further : at ≡ min (length stream) (2 ^ 64 - 1) → at' ≡ min (at + used) (2 ^ 64 - 1) → used ≤ length rest
+      → at' ≡ min (length (stream ++ take used rest)) (2 ^ 64 - 1)
+  came_further came e within = came_on at (length stream) used (length (stream ++ take used rest)) at' came e
+      (length-append stream (take used rest) ∙ ap (λ k. length stream + k) (length-take-le used rest within))
 
   -- no result
   pub kept_none : HasKept r at front old stream answers → at' ≡ min (at + used) (2 ^ 64 - 1)
@@ -223,7 +229,8 @@ module _ (r : Reading) (at at' used n : ℕ) (stream rest front front' before la
   }
 
   -- the text of a result that isn't a message
-  pub text_of : (what : List ℕ) (a : Answer Value) (text : List ℕ) → HasKept r at front old stream answers
+  pub text_of : (what : List ℕ) (a : Answer Value) (text : List ℕ) → at ≡ min (length stream) (2 ^ 64 - 1)
+      → front ≡ kept_behind r.sentinel [] stream
       → HasGiven (held_by r) (read_by r) 65536 r.sentinel answers (stream ++ before)
       → HasGiven (held_by r) (read_by r) 65536 r.sentinel (answers ++ a ∷ []) (stream ++ take used rest)
       → at' ≡ min (at + used) (2 ^ 64 - 1) → take used rest ≡ before ++ last → length last ≡ 1
@@ -231,7 +238,7 @@ module _ (r : Reading) (at at' used n : ℕ) (stream rest front front' before la
       → n ≡ length (unfinished r.sentinel (stream ++ before)) → IsDamageWord a what
       → text ≡ damage_said what (at' - 1 - n) n (kept_behind r.sentinel front before)
       → IsTextOf r (stream ++ take used rest) answers a text
-  text_of what a text h g g' e f one many size word said =
+  text_of what a text came behind g g' e f one many size word said =
       let s = r.sentinel in
       let prefix = stream ++ before in
       let byte = get_or last 0 0 in
@@ -239,7 +246,7 @@ module _ (r : Reading) (at at' used n : ℕ) (stream rest front front' before la
       let whole : stream ++ take used rest ≡ prefix ++ byte ∷ [] =
       ap (λ x. stream ++ x) (f ∙ ap (λ x. before ++ x) ends) ∙ sym (append_assoc stream before (byte ∷ [])) in
       let bytes : kept_behind s front before ≡ first_bytes s prefix =
-      ap (λ x. kept_behind s x before) h.behind ∙ sym (kept_joined s [] stream before) ∙ kept_stream s prefix in
+      ap (λ x. kept_behind s x before) behind ∙ sym (kept_joined s [] stream before) ∙ kept_stream s prefix in
       record {
         front = prefix;
         byte = byte;
@@ -253,7 +260,7 @@ module _ (r : Reading) (at at' used n : ℕ) (stream rest front front' before la
           from = at' - 1 - n;
           is = said ∙ ap (λ k. damage_said what (at' - 1 - n) k (kept_behind s front before)) size
               ∙ ap (damage_said what (at' - 1 - n) (length (unfinished s prefix))) bytes;
-          place = λ bound. omega (arith, bound, e, h.came, size, length-append stream before, many);
+          place = λ bound. omega (arith, bound, e, came, size, length-append stream before, many);
         };
       }
 
@@ -292,7 +299,7 @@ module _ (r : Reading) (at at' used n : ℕ) (stream rest front front' before la
           → HasGiven (held_by r) (read_by r) 65536 r.sentinel (answers ++ x ∷ []) stream'
           → (k : KeepsDamage what (at' - 1 - n) n (kept_behind r.sentinel front before) old new)
           → IsTextOf r stream' answers x (string_bytes k.0)
-      damage x what word given k = text_of what x (string_bytes k.0) h g given e f one many size word k.1
+      damage x what word given k = text_of what x (string_bytes k.0) h.came h.behind g given e f one many size word k.1
 
       kept_text : (text : String Global) → new.damages.items ≡ last_of 3 (old.damages.items ++ text ∷ [])
           → map string_bytes new.damages.items ≡ last_of 3 (h.texts ++ string_bytes text ∷ [])

@@ -1,5 +1,5 @@
 -- The lines of a viewer, and what it knows where memory ran out.
-use Rattle.std.proofs.Common.{◌≡◌, ℕ, ◌+◌, ◌-◌, ◌^◌, ◌<◌, min, codes, false, List, [], ◌∷◌, ◌++◌, length, take, drop, refl, sym, ap, ◌∙◌, subst, append_assoc, append-nil, take-append-drop}
+use Rattle.std.proofs.Common.{◌≡◌, ℕ, ◌+◌, ◌-◌, ◌^◌, min, codes, false, List, [], ◌∷◌, ◌++◌, length, take, drop, refl, sym, ap, ◌∙◌, subst, append_assoc, append-nil, take-append-drop}
 use Rattle.std.specs.List.{flat_map}
 use Rattle.std.proofs.lemmas.Grind.{flat_map-append}
 use Rattle.schema_table.specs.declared.value.Value.{Value}
@@ -17,7 +17,7 @@ use Rattle.wire_lib.specs.Damages.{IsDamageWord, HasKept}
 use Rattle.wire_lib.specs.Fronts.{kept_behind, damage_said}
 use Rattle.wire_lib.specs.Printable.{shown_line}
 use Rattle.wire_lib.specs.Received.{held_by, read_by}
-use Rattle.wire_lib.specs.Seen.{HasCounted, HasLost}
+use Rattle.wire_lib.specs.Seen.{CountsThese, HasCounted, HasLost, HasMissed, HasWatched}
 use Rattle.wire_lib.specs.Watched.{AddsText, AreTextsSeen, IsTextBy, IsTextSeen, SeesEach, SeesEnd}
 use Rattle.wire_lib.proofs.DamageLemmas.{cut_text, text_of, text_on}
 
@@ -64,14 +64,15 @@ seen_on r names stream later earlier answer.Cut text h = text_on r stream later 
 module _ (r : Reading) (names : List (List ℕ)) (at at' used n : ℕ) (stream rest front before last : List ℕ) (table : Table)
     (answers : List (Answer Value)) where
   -- the line of a result
-  pub sees_one : (a : Answer Value) (lines lines' : List ℕ) → HasKept r at front table stream answers
+  pub sees_one : (a : Answer Value) (lines lines' : List ℕ) → at ≡ min (length stream) (2 ^ 64 - 1)
+      → front ≡ kept_behind r.sentinel [] stream
       → HasGiven (held_by r) (read_by r) 65536 r.sentinel answers (stream ++ before)
       → HasGiven (held_by r) (read_by r) 65536 r.sentinel (answers ++ a ∷ []) (stream ++ take used rest)
       → at' ≡ min (at + used) (2 ^ 64 - 1) → take used rest ≡ before ++ last → length last ≡ 1 → length before + 1 ≡ used
       → n ≡ length (unfinished r.sentinel (stream ++ before))
       → AddsText r names (λ what. damage_said what (at' - 1 - n) n (kept_behind r.sentinel front before)) a lines lines'
       → SeesEach r names (stream ++ rest) answers (a ∷ []) lines lines'
-  sees_one a lines lines' h g g' e f one many size (text, is, appended) = record {
+  sees_one a lines lines' came behind g g' e f one many size (text, is, appended) = record {
     texts = text ∷ [];
     are = (
       text,
@@ -96,11 +97,11 @@ module _ (r : Reading) (names : List (List ℕ)) (at at' used n : ℕ) (stream r
           → IsTextSeen r names stream' answers x text
       damage (answer.Value v) what word given said = absurd word
       damage answer.Damaged what word given said = text_of r at at' used n stream rest front front before last table table answers
-          what answer.Damaged text h g given e f one many size word said
+          what answer.Damaged text came behind g given e f one many size word said
       damage answer.TooLong what word given said = text_of r at at' used n stream rest front front before last table table answers
-          what answer.TooLong text h g given e f one many size word said
+          what answer.TooLong text came behind g given e f one many size word said
       damage answer.Cut what word given said = text_of r at at' used n stream rest front front before last table table answers
-          what answer.Cut text h g given e f one many size word said
+          what answer.Cut text came behind g given e f one many size word said
 
       by : (x : Answer Value) → HasGiven (held_by r) (read_by r) 65536 r.sentinel (answers ++ x ∷ []) stream'
           → IsTextBy r names (λ what. damage_said what (at' - 1 - n) n (kept_behind r.sentinel front before)) x text
@@ -147,3 +148,60 @@ lost_by v r stream rest used answers e g l b c k w = record {
   };
   lost = w;
 }
+
+-- one that loses a result, whether or not another one was lost before
+pub missed_by : (v : Viewer) (r : Reading) (stream rest : List ℕ) (used : ℕ) (answers : List (Answer Value)) → v.reading ≡ r
+    → HasGiven (held_by r) (read_by r) 65536 r.sentinel answers stream
+    → IsLeast (held_by r) 65536 r.sentinel stream rest used
+    → IsBehind in_owner 65536 r.sentinel v.receiver (stream ++ take used rest)
+    → v.at ≡ min (length (stream ++ take used rest)) (2 ^ 64 - 1)
+    → v.front.items ≡ kept_behind r.sentinel [] (stream ++ take used rest) → HasMissed v stream rest answers
+missed_by v r stream rest used answers e g l b c k = record {
+  given = subst (λ x. HasGiven (held_by x) (read_by x) 65536 x.sentinel answers stream) (sym e) g;
+  used = used;
+  least = subst (λ x. IsLeast (held_by x) 65536 x.sentinel stream rest used) (sym e) l;
+  stands = record {
+    after = subst (λ x. IsBehind in_owner 65536 x.sentinel v.receiver (stream ++ take used rest)) (sym e) b;
+    came = c;
+    behind = subst (λ x. v.front.items ≡ kept_behind x.sentinel [] (stream ++ take used rest)) (sym e) k;
+  };
+}
+
+-- one that counts a result, whether or not one was lost before
+pub watched_by : (v : Viewer) (r : Reading) (stream : List ℕ) (answers : List (Answer Value)) → v.reading ≡ r
+    → HasGiven (held_by r) (read_by r) 65536 r.sentinel answers stream
+    → IsBehind in_owner 65536 r.sentinel v.receiver stream
+    → v.at ≡ min (length stream) (2 ^ 64 - 1)
+    → v.front.items ≡ kept_behind r.sentinel [] stream → HasWatched v stream answers
+watched_by v r stream answers e g b c k = record {
+  given = subst (λ x. HasGiven (held_by x) (read_by x) 65536 x.sentinel answers stream) (sym e) g;
+  stands = record {
+    after = subst (λ x. IsBehind in_owner 65536 x.sentinel v.receiver stream) (sym e) b;
+    came = c;
+    behind = subst (λ x. v.front.items ≡ kept_behind x.sentinel [] stream) (sym e) k;
+  };
+}
+
+-- no result is added
+pub watched_none : (v : Viewer) (stream : List ℕ) (xs : List (Answer Value)) → HasWatched v stream xs → HasWatched v (stream ++ []) (xs ++ [])
+watched_none v stream xs h =
+    subst (λ x. HasWatched v x (xs ++ [])) (sym (append-nil stream)) (subst (λ x. HasWatched v stream x) (sym (append-nil xs)) h)
+
+-- some are, and then others
+pub watched_then : (v : Viewer) (stream x y : List ℕ) (xs ys zs : List (Answer Value)) → HasWatched v ((stream ++ x) ++ y) ((xs ++ ys) ++ zs)
+    → HasWatched v (stream ++ (x ++ y)) (xs ++ (ys ++ zs))
+watched_then v stream x y xs ys zs h =
+    subst (λ z. HasWatched v z (xs ++ (ys ++ zs))) (append_assoc stream x y)
+    (subst (λ z. HasWatched v ((stream ++ x) ++ y) z) (append_assoc xs ys zs) h)
+
+-- none is counted
+pub counts_none : (t : Table) → CountsThese [] t t
+counts_none t xs h = subst (HasCounted t) (sym (append-nil xs)) h
+
+-- some are, and then others
+pub counts_then : (a b c : Table) (xs ys : List (Answer Value)) → CountsThese xs a b → CountsThese ys b c → CountsThese (xs ++ ys) a c
+counts_then a b c xs ys h k zs n = subst (HasCounted c) (append_assoc zs xs ys) (k (zs ++ xs) (h zs n))
+
+-- some are, and then none
+pub counts_then_none : (a b c : Table) (xs : List (Answer Value)) → CountsThese xs a b → CountsThese [] b c → CountsThese xs a c
+counts_then_none a b c xs h k zs n = subst (HasCounted c) (append-nil (zs ++ xs)) (k (zs ++ xs) (h zs n))

@@ -1,5 +1,5 @@
 -- What a viewer has seen of a stream: each result is counted once.
-use Rattle.std.specs.Prelude.{◌≡◌, ◌==◌, ◌<◌, ℕ, ◌+◌, Bool, true, false, List, [], ◌∷◌, ◌++◌, length, take, slice_index_or, String, string_bytes, if◌then◌else◌}
+use Rattle.std.specs.Prelude.{◌≡◌, ◌==◌, ◌<◌, ℕ, ◌+◌, ◌-◌, ◌^◌, min, Bool, true, false, List, [], ◌∷◌, ◌++◌, length, take, slice_index_or, String, string_bytes, if◌then◌else◌}
 use Rattle.std.specs.Global.{Global}
 use Rattle.schema_table.specs.declared.value.Value.{Value}
 use Rattle.link.specs.Stream.{begun}
@@ -14,7 +14,7 @@ use Rattle.wire_lib.specs.declared.receive.Reading.{Reading}
 use Rattle.wire_lib.specs.Kinds.{kind_in}
 use Rattle.wire_lib.specs.Rates.{capped}
 use Rattle.wire_lib.specs.Damages.{IsDamageWord, HasKept, HasKeptAll}
-use Rattle.wire_lib.specs.Fronts.{damage_said}
+use Rattle.wire_lib.specs.Fronts.{damage_said, kept_behind}
 use Rattle.wire_lib.specs.Tables.{last_of, row_names}
 use Rattle.wire_lib.specs.declared.watching.table.Row.{Row}
 use Rattle.wire_lib.specs.declared.watching.table.Table.{Table}
@@ -49,6 +49,11 @@ pub record HasCounted (table : Table) (answers : List (Answer Value)) : Type 0 w
 abbrev pub CountsToo : Answer Value → Table → Table → Type 0
 CountsToo a old new = (answers : List (Answer Value)) → HasCounted old answers
     → HasCounted new (answers ++ a ∷ [])
+
+-- whatever the table has counted before, it has counted these results too
+abbrev pub CountsThese : List (Answer Value) → Table → Table → Type 0
+CountsThese more old new = (answers : List (Answer Value)) → HasCounted old answers
+    → HasCounted new (answers ++ more)
 
 -- a message as a result
 abbrev pub as_answer : Value → Answer Value
@@ -128,6 +133,34 @@ pub record HasLost (v : Viewer) (stream rest : List ℕ) (answers : List (Answer
   pub follows : HasFollowed v (stream ++ take used rest) answers
   -- it knows that one was lost
   pub lost : v.is_whole ≡ false
+
+-- The viewer continues after this stream, whether or not one of its results was lost.
+pub record StandsAfter (v : Viewer) (stream : List ℕ) : Type 0 where
+  -- so does its receiver
+  pub after : IsBehind in_owner 65536 v.reading.sentinel v.receiver stream
+  -- how many bytes came
+  pub came : v.at ≡ min (length stream) (2 ^ 64 - 1)
+  -- the first bytes after the last sentinel
+  pub behind : v.front.items ≡ kept_behind v.reading.sentinel [] stream
+
+-- The viewer got this stream, and these are its results, whether or not one was lost.
+pub record HasWatched (v : Viewer) (stream : List ℕ) (answers : List (Answer Value)) : Type 0 where
+  -- these are all results of the stream
+  pub given : HasGiven (held_by v.reading) (read_by v.reading) 65536 v.reading.sentinel answers stream
+  -- the viewer continues after it
+  pub stands : StandsAfter v stream
+
+-- Memory ran out at the next result: these are the results of the stream, whether or not one was lost, and the viewer got the bytes
+-- behind it up to the first that brings another one, or all of them.
+pub record HasMissed (v : Viewer) (stream rest : List ℕ) (answers : List (Answer Value)) : Type 0 where
+  -- these are all results of the stream
+  pub given : HasGiven (held_by v.reading) (read_by v.reading) 65536 v.reading.sentinel answers stream
+  -- how many of the bytes behind it came
+  pub used : ℕ
+  -- fewer of them bring no result: so at most one is lost
+  pub least : IsLeast (held_by v.reading) 65536 v.reading.sentinel stream rest used
+  -- the viewer continues after them
+  pub stands : StandsAfter v (stream ++ take used rest)
 
 -- the results that the end of such a stream adds
 abbrev pub added_by_end : Viewer → List ℕ → List (Answer Value)

@@ -13,7 +13,7 @@ ghost use Rattle.wire_lib.specs.Said.{OnlyAppended};
 ghost use Rattle.wire_lib.specs.Tables.{StaysAs, row_names};
 ghost use Rattle.wire_lib.specs.Received.{held_by, read_by, are_all_values};
 ghost use Rattle.wire_lib.specs.Rates.{CountsOneMore};
-ghost use Rattle.wire_lib.specs.Seen.{HasSeen, HasLost, HasFollowed, HasCounted, CountsToo, CountsMessage, KeepsDamage, KeepsText, KeepsAll, StandsStill, reading_of, names_of, missed_none, added_by_end};
+ghost use Rattle.wire_lib.specs.Seen.{HasSeen, HasLost, HasFollowed, HasWatched, HasMissed, HasCounted, CountsThese, CountsToo, CountsMessage, KeepsDamage, KeepsText, KeepsAll, StandsStill, reading_of, names_of, missed_none, added_by_end};
 ghost use Rattle.wire_lib.specs.Watched.{AddsText, IsMessageText, SeesEach, SeesEnd, kind_name, message_said};
 
 use crate::receive::{LIMIT, Reading, push_next};
@@ -186,6 +186,15 @@ impl<'a> Viewer<'a> {
             lines.old.items lines.new.items) }
         ensures lost { OnErr result ((stream : List ℕ) (answers : List (Answers Values))
             → HasSeen self.old stream answers → HasLost self.new stream rest.now answers) }
+        ensures watched { IfOk result (λ used. (stream : List ℕ) (answers : List (Answers Values))
+            → HasWatched self.old stream answers → (more : List (Answers Values))
+            × HasWatched self.new (stream ++ take used rest.now) (answers ++ more)
+            × CountsThese more self.old.table self.new.table
+            × SeesEach (reading_of self.old) (names_of self.old) (stream ++ rest.now) answers more
+            lines.old.items lines.new.items) }
+        ensures stopped { OnErr result ((stream : List ℕ) (answers : List (Answers Values))
+            → HasWatched self.old stream answers → HasMissed self.new stream rest.now answers
+            × CountsThese [] self.old.table self.new.table) }
         ensures unchanged { OnErr result (lines.new.items ≡ lines.old.items) }
         ensures reading { reading_of self.new ≡ reading_of self.old }
         ensures kinds { row_names self.new.table.rows.items ≡ row_names self.old.table.rows.items }
@@ -245,6 +254,19 @@ impl<'a> Viewer<'a> {
             → HasSeen self.old stream answers → (done rest : List ℕ) × (piece.now ≡ done ++ rest)
             × (more : List (Answers Values))
             × HasLost self.new (stream ++ done) rest (answers ++ more)
+            × SeesEach (reading_of self.old) (names_of self.old) (stream ++ piece.now) answers more
+            lines.old.items lines.new.items) }
+        ensures watched { OnOk result ((stream : List ℕ) (answers : List (Answers Values))
+            → HasWatched self.old stream answers → (more : List (Answers Values))
+            × HasWatched self.new (stream ++ piece.now) (answers ++ more)
+            × CountsThese more self.old.table self.new.table
+            × SeesEach (reading_of self.old) (names_of self.old) (stream ++ piece.now) answers more
+            lines.old.items lines.new.items) }
+        ensures stopped { OnErr result ((stream : List ℕ) (answers : List (Answers Values))
+            → HasWatched self.old stream answers → (done rest : List ℕ)
+            × (piece.now ≡ done ++ rest) × (more : List (Answers Values))
+            × HasMissed self.new (stream ++ done) rest (answers ++ more)
+            × CountsThese more self.old.table self.new.table
             × SeesEach (reading_of self.old) (names_of self.old) (stream ++ piece.now) answers more
             lines.old.items lines.new.items) }
         ensures reading { reading_of self.new ≡ reading_of self.old }
