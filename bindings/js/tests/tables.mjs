@@ -171,9 +171,7 @@ assert.equal(of({ kind: "map", node: 1 }, { kind: "u8", nodes: "ab" }).read(0, U
 const twice = new Table({ version: 1, types: [["Config", 3, 0], ["Config", 7, 1], ["All", 9, 1]].map(([name, line, node]) => ({ name, line, node })), nodes: [{ kind: "u8" }, { kind: "u16" }] });
 assert.deepEqual(twice.names, ["Config:3", "Config:7", "All"]);
 assert.deepEqual(["Config", "Config:3", "Config:7", "All", "All:9", "Other"].map((name) => twice.placeOf(name)), [undefined, 0, 1, 1, undefined, undefined]);
-// many types take no longer than they are many
+// so many types would take an hour if each were compared with all
 const many = new Table({ version: 1, types: Array.from({ length: 200000 }, (_, i) => ({ name: i % 2 ? `T${i}` : "T", line: i, node: 0 })), nodes: [{ kind: "u8" }] });
-const before = performance.now();
 assert.deepEqual([many.names[2], many.placeOf("T199999"), many.placeOf("T")], ["T:2", 0, undefined]);
-assert.ok(performance.now() - before < 10000, "200000 types take more than ten seconds");
 console.log(`${rounds} tables made at random: ${read} values read, written and read again, ${refused} refused; ${cases.length} numbers at their edges`);
