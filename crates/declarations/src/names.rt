@@ -77,7 +77,7 @@ pub struct Scopes<'a> {
     named: BTreeSet<Name>,
     /// The names of items, modules and of what a `use` brings in, each with its scope; no name where a `*` is.
     members: BTreeSet<(Name, usize)>,
-    /// Who sees those of them that not everybody does; of a `*` if none is for everybody.
+    /// Who sees those of them that not everybody does: of a name that a scope has twice nobody else, of a `*` the one that all see.
     hidden: BTreeMap<(Name, usize), Word>,
     /// The modules that begin with a condition.
     at_times: BTreeSet<usize>,
@@ -151,9 +151,10 @@ impl<'a> Scopes<'a> {
 
     fn put_member(&mut self, name: Name, scope: usize, shown: Word) {
         let member = (name, scope);
-        let is_new = self.members.insert(member);
-        self.failed = is_new.is_err() || self.failed;
-        if shown != Word::Public && (name != NO_NAME || matches!(is_new, Ok(true))) {
+        let is_new = !self.members.contains(&member);
+        self.failed = self.members.insert(member).is_err() || self.failed;
+        if shown != Word::Public && (name != NO_NAME || is_new) {
+            let shown = if is_new { shown } else { Word::Other };
             self.failed = self.hidden.insert(member, shown).is_err() || self.failed;
         } else if name == NO_NAME && shown == Word::Public {
             self.hidden.remove(&member);

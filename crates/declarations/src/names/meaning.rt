@@ -225,14 +225,9 @@ impl<'a> Scopes<'a> {
     /// What one scope says of a name. To which modules its `use` lead that may bring it in is added to the places.
     fn said(&self, places: &mut Places, scope: usize, name: Name, space: Space) -> Meaning {
         let (mut found, mut is_conditional) = self.declared(scope, name, space);
-        // one of the two may not be visible
-        if places.nth(0) != Some(scope) && self.is_of_two_kinds(scope, name) {
-            return Meaning::Doubtful;
-        }
-        let by = self.brought_in_by(scope, name, found);
+        let by = self.brought_in_by(scope, name, space, found);
         for it in &self.imports {
-            let brings = !(it.is_module && space == Space::Constants);
-            if it.scope == scope && it.name == by && brings {
+            if it.scope == scope && it.is_by(by, space) {
                 found = found.both(self.brought(places, it, name, space));
                 let is_same = it.is_crate && it.name == it.last;
                 is_conditional = is_conditional || (by == name && it.is_conditional && !is_same);
@@ -258,21 +253,14 @@ impl<'a> Scopes<'a> {
         found
     }
 
-    /// Whether a scope declares a type or a module of a name, and a constant too.
-    fn is_of_two_kinds(&self, scope: usize, name: Name) -> bool {
-        let (of_type, _) = self.declared(scope, name, Space::Types);
-        let (constant, _) = self.declared(scope, name, Space::Constants);
-        !of_type.is_nothing() && !constant.is_nothing()
-    }
-
     /// By which name a scope's `use` bring in a name: by itself if one does or the scope declares it, else as `*` do.
-    fn brought_in_by(&self, scope: usize, name: Name, declared: Meaning) -> Name {
+    fn brought_in_by(&self, scope: usize, name: Name, space: Space, declared: Meaning) -> Name {
         if !declared.is_nothing() {
             return name;
         }
         if self.members.contains(&(name, scope)) {
             for it in &self.imports {
-                if it.scope == scope && it.name == name && !it.before.is_nothing() {
+                if it.scope == scope && it.is_by(name, space) && !it.before.is_nothing() {
                     return name;
                 }
             }
@@ -321,7 +309,7 @@ impl<'a> Scopes<'a> {
     /// Whether a scope sees what a module has under a name, by itself or by a `*`.
     fn sees(&self, scope: usize, module: usize, name: Name, space: Space) -> bool {
         let (declared, _) = self.declared(module, name, space);
-        let by = self.brought_in_by(module, name, declared);
+        let by = self.brought_in_by(module, name, space, declared);
         let within = match self.hidden.get(&(by, module)) {
             None => return true,
             Some(Word::Crate) => self.root_of(module),

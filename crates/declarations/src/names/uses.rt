@@ -10,6 +10,11 @@ use declaration_parser::tokens::{DESERIALIZE, SERIALIZE, Word, word_of};
 const INCLUDED: Name = Name::MAX;
 
 impl Import {
+    /// Whether it brings in what is looked for under this name, or, without one, all.
+    pub(super) fn is_by(&self, name: Name, space: Space) -> bool {
+        self.name == name && !(self.is_module && space == Space::Constants)
+    }
+
     /// Whether it may bring in what isn't in these files.
     pub(super) fn leads_out(&self) -> bool {
         !matches!(self.before, Meaning::Module(_) | Meaning::Item(_))
