@@ -77,7 +77,8 @@ pub struct Scopes<'a> {
     named: BTreeSet<Name>,
     /// The names of items, modules and of what a `use` brings in, each with its scope; no name where a `*` is.
     members: BTreeSet<(Name, usize)>,
-    /// Who sees those of them that not everybody does: of a name that a scope has twice nobody else, of a `*` the one that all see.
+    /// The word that limits who sees one of them, if it isn't `pub`. A name that a scope has twice counts as private then; `*` is
+    /// left out if one of the scope's is `pub`.
     hidden: BTreeMap<(Name, usize), Word>,
     /// The modules that begin with a condition.
     at_times: BTreeSet<usize>,

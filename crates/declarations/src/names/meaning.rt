@@ -271,8 +271,10 @@ impl<'a> Scopes<'a> {
     /// What a `use` brings in under a name, unless a module says it, which is added to the places.
     fn brought(&self, places: &mut Places, it: &Import, name: Name, space: Space) -> Meaning {
         let is_star = it.name == NO_NAME;
+        // the first name of a path is that of a crate or of what is round
         if let Meaning::Module(module) = it.before
             && !is_star
+            && it.path.count > 0
         {
             let first = places.nth(0).unwrap_or(it.scope);
             let is_seen = self.sees(it.scope, module, it.last, space)
