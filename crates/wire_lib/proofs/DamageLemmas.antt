@@ -17,9 +17,10 @@ use Rattle.wire_lib.specs.declared.receive.Reading.{Reading}
 use Rattle.wire_lib.specs.declared.watching.table.Table.{Table}
 use Rattle.wire_lib.specs.Received.{held_by, read_by, place_from}
 use Rattle.wire_lib.specs.Fronts.{most_kept, kept_behind, damage_said}
-use Rattle.wire_lib.specs.Tables.{StaysAs, last_of}
-use Rattle.wire_lib.specs.Damages.{IsDamageWord, first_bytes, IsTextAt, IsTextOf, HasTexts, AreTextsOf, HasKept, HasKeptAll}
-use Rattle.wire_lib.specs.Seen.{KeepsDamage, KeepsText}
+use Rattle.wire_lib.specs.Tables.{KeepsToo, StaysAs, last_of}
+use Rattle.wire_lib.specs.Damages.{IsDamageWord, first_bytes, IsTextAt, IsTextOf, HasTexts, AreTextsOf, KeepsEnd}
+use Rattle.wire_lib.specs.Seen.{CountsThese, HasCounted, TookAll, KeepsDamage, KeepsText, TakesEach}
+use Rattle.wire_lib.proofs.SeenLemmas.{counted_still}
 
 -- what is kept behind bytes in two parts
 pub kept_joined : (s : ℕ) (front xs ys : List ℕ)
@@ -147,18 +148,69 @@ few table texts e = omega (
   length-drop (length texts - 3) texts,
 )
 
--- a table that kept a text more
-kept_more : (old new : Table) (texts : List (List ℕ)) (text : String Global)
-    → map string_bytes old.damages.items ≡ last_of 3 texts
-    → new.damages.items ≡ last_of 3 (old.damages.items ++ text ∷ [])
-    → map string_bytes new.damages.items ≡ last_of 3 (texts ++ string_bytes text ∷ [])
-kept_more old new texts text e f =
+-- no text more
+keeps_none : (old new : Table) → length old.damages.items ≤ 3 → new.damages.items ≡ old.damages.items → KeepsToo [] old new
+keeps_none old new is_few e =
+    let said = map string_bytes old.damages.items in
+    let none : length (said ++ []) - 3 ≡ 0 =
+    omega (arith, is_few, ap length (append-nil said), length-map old.damages.items string_bytes) in
+    ap (map string_bytes) e ∙ sym (append-nil said) ∙ ap (λ n. drop n (said ++ [])) (sym none)
+
+-- a text more
+keeps_one : (old new : Table) (text : String Global)
+    → new.damages.items ≡ last_of 3 (old.damages.items ++ text ∷ []) → KeepsToo (string_bytes text ∷ []) old new
+keeps_one old new text e =
     let whole = old.damages.items ++ text ∷ [] in
-    let said : map string_bytes whole ≡ last_of 3 texts ++ string_bytes text ∷ [] =
-    map-append string_bytes old.damages.items (text ∷ []) ∙ ap (λ x. x ++ string_bytes text ∷ []) e in
-    ap (map string_bytes) f ∙ sym (drop-map string_bytes (length whole - 3) whole)
+    ap (map string_bytes) e ∙ sym (drop-map string_bytes (length whole - 3) whole)
     ∙ ap (λ n. drop (n - 3) (map string_bytes whole)) (sym (length-map whole string_bytes))
-    ∙ ap (last_of 3) said ∙ last_then 3 texts (string_bytes text ∷ [])
+    ∙ ap (last_of 3) (map-append string_bytes old.damages.items (text ∷ []))
+
+-- some texts more, and then others
+keeps_then : (a b c : Table) (xs ys : List (List ℕ)) → KeepsToo xs a b → KeepsToo ys b c → KeepsToo (xs ++ ys) a c
+keeps_then a b c xs ys h k =
+    let said = map string_bytes a.damages.items in
+    k ∙ ap (λ z. last_of 3 (z ++ ys)) h ∙ last_then 3 (said ++ xs) ys ∙ ap (last_of 3) (append_assoc said xs ys)
+
+-- no result is taken
+pub takes_none : (r : Reading) (stream : List ℕ) (earlier : List (Answer Value)) (old new : Table)
+    → length old.damages.items ≤ 3 → StaysAs old new → TakesEach r stream earlier [] old new
+takes_none r stream earlier old new is_few still = record {
+  counted = λ xs h. subst (HasCounted new) (sym (append-nil xs)) (counted_still old new xs still h);
+  texts = [];
+  told = refl;
+  kept = keeps_none old new is_few still.damages;
+}
+
+-- some are, and then others
+pub takes_then : (r : Reading) (stream more : List ℕ) (earlier xs ys : List (Answer Value)) (a b c : Table)
+    → TakesEach r stream earlier xs a b → TakesEach r (stream ++ more) (earlier ++ xs) ys b c
+    → TakesEach r (stream ++ more) earlier (xs ++ ys) a c
+takes_then r stream more earlier xs ys a b c h k = record {
+  counted = λ zs n. subst (HasCounted c) (append_assoc zs xs ys) (k.counted (zs ++ xs) (h.counted zs n));
+  texts = h.texts ++ k.texts;
+  told = texts_then r (stream ++ more) earlier xs ys h.texts k.texts (texts_on r stream more earlier xs h.texts h.told) k.told;
+  kept = keeps_then a b c h.texts k.texts h.kept k.kept;
+}
+
+-- what a table took that stays as it is
+pub takes_still : (r : Reading) (stream : List ℕ) (earlier more : List (Answer Value)) (a b c : Table)
+    → StaysAs b c → TakesEach r stream earlier more a b → TakesEach r stream earlier more a c
+takes_still r stream earlier more a b c still h = record {
+  counted = λ xs n. counted_still b c (xs ++ more) still (h.counted xs n);
+  texts = h.texts;
+  told = h.told;
+  kept = ap (map string_bytes) still.damages ∙ h.kept;
+}
+
+-- of a table that has taken all of a stream
+pub taken_then : (r : Reading) (stream more : List ℕ) (xs ys : List (Answer Value)) (old new : Table)
+    → TookAll r old stream xs → TakesEach r (stream ++ more) xs ys old new → TookAll r new (stream ++ more) (xs ++ ys)
+taken_then r stream more xs ys old new h k = record {
+  counted = k.counted xs h.counted;
+  texts = h.texts ++ k.texts;
+  told = texts_then r (stream ++ more) [] xs ys h.texts k.texts (texts_on r stream more [] xs h.texts h.told) k.told;
+  last = k.kept ∙ ap (λ z. last_of 3 (z ++ k.texts)) h.last ∙ last_then 3 h.texts k.texts;
+}
 
 -- what was kept behind a call that may find no memory
 pub if_few : {A E : Type 0} (r : Result A E) (F P : Type 0) → (F → OnOk r P) → OnOk r (F → P)
@@ -213,21 +265,6 @@ module _ (r : Reading) (at at' used n : ℕ) (stream rest front front' before la
   came_further came e within = came_on at (length stream) used (length (stream ++ take used rest)) at' came e
       (length-append stream (take used rest) ∙ ap (λ k. length stream + k) (length-take-le used rest within))
 
-  -- no result
-  pub kept_none : HasKept r at front old stream answers → at' ≡ min (at + used) (2 ^ 64 - 1)
-      → front' ≡ kept_behind r.sentinel (kept_behind r.sentinel front before) last
-      → take used rest ≡ before ++ last → used ≤ length rest
-      → HasKept r at' front' old (stream ++ take used rest) (answers ++ [])
-  kept_none h e f g within = record {
-    came = came_on at (length stream) used (length (stream ++ take used rest)) at' h.came e
-        (length-append stream (take used rest) ∙ ap (λ k. length stream + k) (length-take-le used rest within));
-    behind = behind_on h.behind f g;
-    texts = h.texts;
-    told = subst (λ xs. AreTextsOf r (stream ++ take used rest) [] xs h.texts) (sym (append-nil answers))
-        (texts_on r stream (take used rest) [] answers h.texts h.told);
-    last = h.last;
-  }
-
   -- the text of a result that isn't a message
   pub text_of : (what : List ℕ) (a : Answer Value) (text : List ℕ) → at ≡ min (length stream) (2 ^ 64 - 1)
       → front ≡ kept_behind r.sentinel [] stream
@@ -265,115 +302,76 @@ module _ (r : Reading) (at at' used n : ℕ) (stream rest front front' before la
       }
 
   -- a result
-  pub kept_one : (a : Answer Value) → HasKept r at front old stream answers
+  pub takes_one : (a : Answer Value) → at ≡ min (length stream) (2 ^ 64 - 1)
+      → front ≡ kept_behind r.sentinel [] stream
       → HasGiven (held_by r) (read_by r) 65536 r.sentinel answers (stream ++ before)
       → HasGiven (held_by r) (read_by r) 65536 r.sentinel (answers ++ a ∷ []) (stream ++ take used rest)
       → at' ≡ min (at + used) (2 ^ 64 - 1) → take used rest ≡ before ++ last → length last ≡ 1
-      → length before + 1 ≡ used → used ≤ length rest
-      → n ≡ length (unfinished r.sentinel (stream ++ before))
-      → (length old.damages.items ≤ 3
-      → KeepsText a (at' - 1 - n) n (kept_behind r.sentinel front before) old new)
-      → front' ≡ kept_behind r.sentinel (kept_behind r.sentinel front before) last
-      → HasKept r at' front' new (stream ++ take used rest) (answers ++ a ∷ [])
-  kept_one a h g g' e f one many within size keeps b = by a g' (keeps (few old h.texts h.last))
+      → length before + 1 ≡ used → n ≡ length (unfinished r.sentinel (stream ++ before))
+      → length old.damages.items ≤ 3 → CountsThese (a ∷ []) old new
+      → KeepsText a (at' - 1 - n) n (kept_behind r.sentinel front before) old new
+      → TakesEach r (stream ++ take used rest) answers (a ∷ []) old new
+  takes_one a came behind g g' e f one many size is_few counted keeps = by a g' counted keeps
     where
       stream' : List ℕ
       stream' = stream ++ take used rest
 
-      made : (x : Answer Value) (own : List (List ℕ)) → HasTexts r stream' answers x own
-          → map string_bytes new.damages.items ≡ last_of 3 (h.texts ++ own)
-          → HasKept r at' front' new stream' (answers ++ x ∷ [])
-      made x own texts last3 = record {
-        came = came_on at (length stream) used (length stream') at' h.came e
-            (length-append stream (take used rest)
-            ∙ ap (λ k. length stream + k) (length-take-le used rest within));
-        behind = behind_on h.behind b f;
-        texts = h.texts ++ own;
-        told = texts_then r stream' [] answers (x ∷ []) h.texts own
-            (texts_on r stream (take used rest) [] answers h.texts h.told)
-            (own, [], sym (append-nil own), texts, refl);
-        last = last3;
+      made : (x : Answer Value) (own : List (List ℕ)) → CountsThese (x ∷ []) old new
+          → HasTexts r stream' answers x own → KeepsToo own old new → TakesEach r stream' answers (x ∷ []) old new
+      made x own counts told keeps = record {
+        counted = counts;
+        texts = own;
+        told = (own, [], sym (append-nil own), told, refl);
+        kept = keeps;
       }
 
       damage : (x : Answer Value) (what : List ℕ) → IsDamageWord x what
           → HasGiven (held_by r) (read_by r) 65536 r.sentinel (answers ++ x ∷ []) stream'
           → (k : KeepsDamage what (at' - 1 - n) n (kept_behind r.sentinel front before) old new)
           → IsTextOf r stream' answers x (string_bytes k.0)
-      damage x what word given k = text_of what x (string_bytes k.0) h.came h.behind g given e f one many size word k.1
-
-      kept_text : (text : String Global) → new.damages.items ≡ last_of 3 (old.damages.items ++ text ∷ [])
-          → map string_bytes new.damages.items ≡ last_of 3 (h.texts ++ string_bytes text ∷ [])
-      kept_text text k = kept_more old new h.texts text h.last k
+      damage x what word given k = text_of what x (string_bytes k.0) came behind g given e f one many size word k.1
 
       by : (x : Answer Value) → HasGiven (held_by r) (read_by r) 65536 r.sentinel (answers ++ x ∷ []) stream'
+          → CountsThese (x ∷ []) old new
           → KeepsText x (at' - 1 - n) n (kept_behind r.sentinel front before) old new
-          → HasKept r at' front' new stream' (answers ++ x ∷ [])
-      by (answer.Value v) given k = made (answer.Value v) [] refl
-          (ap (λ d. map string_bytes d.items) k ∙ h.last ∙ ap (last_of 3) (sym (append-nil h.texts)))
-      by answer.Damaged given (what, w, k) = made answer.Damaged (string_bytes k.0 ∷ [])
-          (string_bytes k.0, refl, damage answer.Damaged what w given k) (kept_text k.0 k.2)
-      by answer.TooLong given (what, w, k) = made answer.TooLong (string_bytes k.0 ∷ [])
-          (string_bytes k.0, refl, damage answer.TooLong what w given k) (kept_text k.0 k.2)
-      by answer.Cut given (what, w, k) = made answer.Cut (string_bytes k.0 ∷ [])
-          (string_bytes k.0, refl, damage answer.Cut what w given k) (kept_text k.0 k.2)
-
--- the end of a stream between frames, and in one
-pub all_plain : (r : Reading) (at : ℕ) (front : List ℕ) (table : Table) (stream : List ℕ)
-    (answers added : List (Answer Value)) → added ≡ [] → HasKept r at front table stream answers
-    → HasKeptAll r table stream answers added
-all_plain r at front table stream answers added e h =
-    subst (HasKeptAll r table stream answers) (sym e) (record {
-      texts = h.texts;
-      told = h.told;
-      ends = [];
-      cut = tt;
-      last = h.last ∙ ap (last_of 3) (sym (append-nil h.texts));
-    })
+          → TakesEach r stream' answers (x ∷ []) old new
+      by (answer.Value v) given counts k =
+          made (answer.Value v) [] counts refl (keeps_none old new is_few (ap (λ d. d.items) k))
+      by answer.Damaged given counts (what, w, k) = made answer.Damaged (string_bytes k.0 ∷ []) counts
+          (string_bytes k.0, refl, damage answer.Damaged what w given k) (keeps_one old new k.0 k.2)
+      by answer.TooLong given counts (what, w, k) = made answer.TooLong (string_bytes k.0 ∷ []) counts
+          (string_bytes k.0, refl, damage answer.TooLong what w given k) (keeps_one old new k.0 k.2)
+      by answer.Cut given counts (what, w, k) = made answer.Cut (string_bytes k.0 ∷ []) counts
+          (string_bytes k.0, refl, damage answer.Cut what w given k) (keeps_one old new k.0 k.2)
 
 -- the text of a partial frame
-pub cut_text : (r : Reading) (at at' n : ℕ) (front : List ℕ) (table : Table) (stream : List ℕ)
-    (answers : List (Answer Value)) (text : List ℕ) → HasKept r at front table stream answers
-    → at' ≡ min (at + 1) (2 ^ 64 - 1) → n ≡ length (unfinished r.sentinel stream)
-    → text ≡ damage_said (codes "cut") (at' - 1 - n) n front → IsTextAt r.sentinel stream answer.Cut text
-cut_text r at at' n front table stream answers text h came size said =
-    let s = r.sentinel in
+pub cut_text : (s at at' n : ℕ) (front : List ℕ) (stream text : List ℕ)
+    → at ≡ min (length stream) (2 ^ 64 - 1) → front ≡ kept_behind s [] stream
+    → at' ≡ min (at + 1) (2 ^ 64 - 1) → n ≡ length (unfinished s stream)
+    → text ≡ damage_said (codes "cut") (at' - 1 - n) n front → IsTextAt s stream answer.Cut text
+cut_text s at at' n front stream text came behind further size said =
     let what = codes "cut" in record {
       what = what;
       word = refl;
       from = at' - 1 - n;
       is = said ∙ ap (λ m. damage_said what (at' - 1 - n) m front) size
-          ∙ ap (damage_said what (at' - 1 - n) (length (unfinished s stream)))
-          (h.behind ∙ kept_stream s stream);
-      place = λ bound. omega (arith, bound, came, h.came, size);
+          ∙ ap (damage_said what (at' - 1 - n) (length (unfinished s stream))) (behind ∙ kept_stream s stream);
+      place = λ bound. omega (arith, bound, further, came, size);
     }
 
-pub all_cut : (r : Reading) (at at' n : ℕ) (front : List ℕ) (old new : Table) (stream : List ℕ)
-    (answers added : List (Answer Value)) → added ≡ answer.Cut ∷ []
-    → HasKept r at front old stream answers → at' ≡ min (at + 1) (2 ^ 64 - 1)
-    → n ≡ length (unfinished r.sentinel stream)
-    → (length old.damages.items ≤ 3 → KeepsDamage (codes "cut") (at' - 1 - n) n front old new)
-    → HasKeptAll r new stream answers added
-all_cut r at at' n front old new stream answers added e h came size keeps =
-    let k = keeps (few old h.texts h.last) in
-    let text = cut_text r at at' n front old stream answers (string_bytes k.0) h came size k.1 in
-    subst (HasKeptAll r new stream answers) (sym e) (record {
-      texts = h.texts;
-      told = h.told;
-      ends = string_bytes k.0 ∷ [];
-      cut = (text, tt);
-      last = kept_more old new h.texts k.0 h.last k.2;
-    })
+-- the end of a stream between frames, and in one
+pub end_plain : (s : ℕ) (stream : List ℕ) (added : List (Answer Value)) (table : Table) → length table.damages.items ≤ 3
+    → added ≡ [] → KeepsEnd s stream added table table
+end_plain s stream added table is_few e =
+    subst (λ x. KeepsEnd s stream x table table) (sym e) ([], tt, keeps_none table table is_few refl)
 
--- what a table keeps that stays as it is
-pub kept_still : (r : Reading) (at : ℕ) (front : List ℕ) (old new : Table) (stream : List ℕ) (answers : List (Answer Value))
-    → StaysAs old new → HasKept r at front old stream answers → HasKept r at front new stream answers
-kept_still r at front old new stream answers s h = record {
-  came = h.came;
-  behind = h.behind;
-  texts = h.texts;
-  told = h.told;
-  last = ap (map string_bytes) s.damages ∙ h.last;
-}
+pub end_cut : (s at at' n : ℕ) (front : List ℕ) (old new : Table) (stream : List ℕ) (added : List (Answer Value))
+    → added ≡ answer.Cut ∷ [] → at ≡ min (length stream) (2 ^ 64 - 1) → front ≡ kept_behind s [] stream
+    → at' ≡ min (at + 1) (2 ^ 64 - 1) → n ≡ length (unfinished s stream)
+    → KeepsDamage (codes "cut") (at' - 1 - n) n front old new → KeepsEnd s stream added old new
+end_cut s at at' n front old new stream added e came behind further size k =
+    let text = cut_text s at at' n front stream (string_bytes k.0) came behind further size k.1 in
+    subst (λ x. KeepsEnd s stream x old new) (sym e) (string_bytes k.0 ∷ [], (text, tt), keeps_one old new k.0 k.2)
 
 -- how many bytes are begun, where some are
 pub begun_is : (s n : ℕ) (stream : List ℕ) → n ≡ begun_length (begun 65536 s stream) → 0 < n

@@ -11,12 +11,11 @@ use Rattle.link.specs.declared.receiver.Answer.TheVariants as answer
 use Rattle.wire_lib.specs.Received.{are_all_values, as_list}
 use Rattle.wire_lib.specs.Rates.{capped}
 use Rattle.wire_lib.specs.Kinds.{kind_in}
-use Rattle.wire_lib.specs.Seen.{damages_among, messages_among, HaveCounted, HasCounted, CountsToo, KeepsDamage, HasSeen, as_answer}
+use Rattle.wire_lib.specs.Seen.{damages_among, messages_among, HaveCounted, HasCounted, CountsToo, KeepsDamage, as_answer}
 use Rattle.wire_lib.specs.Fronts.{damage_said}
 use Rattle.wire_lib.specs.Tables.{IsNoted, StaysAs, last_of}
 use Rattle.wire_lib.specs.declared.watching.table.Row.{Row}
 use Rattle.wire_lib.specs.declared.watching.table.Table.{Table}
-use Rattle.wire_lib.specs.declared.watching.viewer.Viewer.{Viewer}
 
 -- one answer more is counted by itself
 damages_then : (xs : List (Answer Value)) (a : Answer Value) → damages_among (xs ++ a ∷ []) ≡ damages_among xs + damages_among (a ∷ [])
@@ -181,14 +180,6 @@ cut_is_bad (answer.Cut ∷ xs) = refl
 -- nothing is added
 pub counted_plain : (t : Table) (xs : List (Answer Value)) (b : Begun) → begun_length b ≡ 0 → HasCounted t xs → HasCounted t (xs ++ as_list (finished b))
 counted_plain t xs b e h = subst (λ x. HasCounted t (xs ++ x)) (sym (adds_none b e)) (subst (λ x. HasCounted t x) (sym (append-nil xs)) h)
-
--- no answer is added
-pub seen_none : (v : Viewer) (stream : List ℕ) (xs : List (Answer Value)) → HasSeen v stream xs → HasSeen v (stream ++ []) (xs ++ [])
-seen_none v stream xs h = subst (λ x. HasSeen v x (xs ++ [])) (sym (append-nil stream)) (subst (λ x. HasSeen v stream x) (sym (append-nil xs)) h)
-
--- some are, and then others
-pub seen_then : (v : Viewer) (stream x y : List ℕ) (xs ys zs : List (Answer Value)) → HasSeen v ((stream ++ x) ++ y) ((xs ++ ys) ++ zs) → HasSeen v (stream ++ (x ++ y)) (xs ++ (ys ++ zs))
-seen_then v stream x y xs ys zs h = subst (λ z. HasSeen v z (xs ++ (ys ++ zs))) (append_assoc stream x y) (subst (λ z. HasSeen v ((stream ++ x) ++ y) z) (append_assoc xs ys zs) h)
 
 -- a piece in one part more
 pub parts_on : (piece done rest : List ℕ) (used : ℕ) → piece ≡ done ++ rest → piece ≡ (done ++ take used rest) ++ drop used rest

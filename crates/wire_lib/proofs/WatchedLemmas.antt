@@ -1,5 +1,5 @@
 -- The lines of a viewer, and what it knows where memory ran out.
-use Rattle.std.proofs.Common.{◌≡◌, ℕ, ◌+◌, ◌-◌, ◌^◌, min, codes, false, List, [], ◌∷◌, ◌++◌, length, take, drop, refl, sym, ap, ◌∙◌, subst, append_assoc, append-nil, take-append-drop}
+use Rattle.std.proofs.Common.{◌≡◌, ◌≤◌, ℕ, ◌+◌, ◌-◌, ◌^◌, min, codes, List, [], ◌∷◌, ◌++◌, length, take, drop, refl, sym, ap, ◌∙◌, subst, append_assoc, append-nil, take-append-drop}
 use Rattle.std.specs.List.{flat_map}
 use Rattle.std.proofs.lemmas.Grind.{flat_map-append}
 use Rattle.schema_table.specs.declared.value.Value.{Value}
@@ -11,13 +11,14 @@ use Rattle.link.specs.Stream.{unfinished}
 use Rattle.link.specs.declared.receiver.Answer.{Answer}
 use Rattle.link.specs.declared.receiver.Answer.TheVariants as answer
 use Rattle.wire_lib.specs.declared.receive.Reading.{Reading}
+use Rattle.wire_lib.specs.declared.watching.table.Row.{Row}
 use Rattle.wire_lib.specs.declared.watching.table.Table.{Table}
 use Rattle.wire_lib.specs.declared.watching.viewer.Viewer.{Viewer}
-use Rattle.wire_lib.specs.Damages.{IsDamageWord, HasKept}
+use Rattle.wire_lib.specs.Damages.{IsDamageWord}
 use Rattle.wire_lib.specs.Fronts.{kept_behind, damage_said}
 use Rattle.wire_lib.specs.Printable.{shown_line}
 use Rattle.wire_lib.specs.Received.{held_by, read_by}
-use Rattle.wire_lib.specs.Seen.{CountsThese, HasCounted, HasLost, HasMissed, HasWatched}
+use Rattle.wire_lib.specs.Seen.{CountsThese, HasCounted, HasMissed, HasWatched, NotesEach}
 use Rattle.wire_lib.specs.Watched.{AddsText, AreTextsSeen, IsTextBy, IsTextSeen, SeesEach, SeesEnd}
 use Rattle.wire_lib.proofs.DamageLemmas.{cut_text, text_of, text_on}
 
@@ -116,47 +117,28 @@ pub sees_plain : (s : ℕ) (stream : List ℕ) (added : List (Answer Value)) (li
 sees_plain s stream added lines e =
     subst (λ x. SeesEnd s stream x lines lines) (sym e) (record { texts = []; are = tt; appended = sym (append-nil lines) })
 
-pub sees_cut : (r : Reading) (at at' n : ℕ) (front : List ℕ) (table : Table) (stream : List ℕ) (answers added : List (Answer Value))
-    (lines lines' : List ℕ) → added ≡ answer.Cut ∷ [] → HasKept r at front table stream answers
-    → at' ≡ min (at + 1) (2 ^ 64 - 1) → n ≡ length (unfinished r.sentinel stream)
+pub sees_cut : (s at at' n : ℕ) (front stream : List ℕ) (added : List (Answer Value)) (lines lines' : List ℕ)
+    → added ≡ answer.Cut ∷ [] → at ≡ min (length stream) (2 ^ 64 - 1) → front ≡ kept_behind s [] stream
+    → at' ≡ min (at + 1) (2 ^ 64 - 1) → n ≡ length (unfinished s stream)
     → lines' ≡ lines ++ shown_line (damage_said (codes "cut") (at' - 1 - n) n front)
-    → SeesEnd r.sentinel stream added lines lines'
-sees_cut r at at' n front table stream answers added lines lines' e h came size appended =
+    → SeesEnd s stream added lines lines'
+sees_cut s at at' n front stream added lines lines' e came behind further size appended =
     let text = damage_said (codes "cut") (at' - 1 - n) n front in
-    subst (λ x. SeesEnd r.sentinel stream x lines lines') (sym e) (record {
+    subst (λ x. SeesEnd s stream x lines lines') (sym e) (record {
       texts = text ∷ [];
-      are = (cut_text r at at' n front table stream answers text h came size refl, tt);
+      are = (cut_text s at at' n front stream text came behind further size refl, tt);
       appended = appended ∙ ap (λ x. lines ++ x) (sym (append-nil (shown_line text)));
     })
 
--- a viewer that lost a result
-pub lost_by : (v : Viewer) (r : Reading) (stream rest : List ℕ) (used : ℕ) (answers : List (Answer Value)) → v.reading ≡ r
-    → HasGiven (held_by r) (read_by r) 65536 r.sentinel answers stream
-    → IsLeast (held_by r) 65536 r.sentinel stream rest used
-    → IsBehind in_owner 65536 r.sentinel v.receiver (stream ++ take used rest)
-    → HasCounted v.table answers → HasKept r v.at v.front.items v.table (stream ++ take used rest) (answers ++ [])
-    → v.is_whole ≡ false → HasLost v stream rest answers
-lost_by v r stream rest used answers e g l b c k w = record {
-  given = subst (λ x. HasGiven (held_by x) (read_by x) 65536 x.sentinel answers stream) (sym e) g;
-  used = used;
-  least = subst (λ x. IsLeast (held_by x) 65536 x.sentinel stream rest used) (sym e) l;
-  follows = record {
-    after = subst (λ x. IsBehind in_owner 65536 x.sentinel v.receiver (stream ++ take used rest)) (sym e) b;
-    counted = c;
-    kept = subst (λ x. HasKept x v.at v.front.items v.table (stream ++ take used rest) answers) (sym e)
-        (subst (λ xs. HasKept r v.at v.front.items v.table (stream ++ take used rest) xs) (append-nil answers) k);
-  };
-  lost = w;
-}
-
--- one that loses a result, whether or not another one was lost before
+-- a viewer that loses a result, whether or not another one was lost before
 pub missed_by : (v : Viewer) (r : Reading) (stream rest : List ℕ) (used : ℕ) (answers : List (Answer Value)) → v.reading ≡ r
     → HasGiven (held_by r) (read_by r) 65536 r.sentinel answers stream
     → IsLeast (held_by r) 65536 r.sentinel stream rest used
     → IsBehind in_owner 65536 r.sentinel v.receiver (stream ++ take used rest)
     → v.at ≡ min (length (stream ++ take used rest)) (2 ^ 64 - 1)
-    → v.front.items ≡ kept_behind r.sentinel [] (stream ++ take used rest) → HasMissed v stream rest answers
-missed_by v r stream rest used answers e g l b c k = record {
+    → v.front.items ≡ kept_behind r.sentinel [] (stream ++ take used rest)
+    → length v.table.damages.items ≤ 3 → HasMissed v stream rest answers
+missed_by v r stream rest used answers e g l b c k f = record {
   given = subst (λ x. HasGiven (held_by x) (read_by x) 65536 x.sentinel answers stream) (sym e) g;
   used = used;
   least = subst (λ x. IsLeast (held_by x) 65536 x.sentinel stream rest used) (sym e) l;
@@ -164,6 +146,7 @@ missed_by v r stream rest used answers e g l b c k = record {
     after = subst (λ x. IsBehind in_owner 65536 x.sentinel v.receiver (stream ++ take used rest)) (sym e) b;
     came = c;
     behind = subst (λ x. v.front.items ≡ kept_behind x.sentinel [] (stream ++ take used rest)) (sym e) k;
+    few = f;
   };
 }
 
@@ -172,13 +155,15 @@ pub watched_by : (v : Viewer) (r : Reading) (stream : List ℕ) (answers : List 
     → HasGiven (held_by r) (read_by r) 65536 r.sentinel answers stream
     → IsBehind in_owner 65536 r.sentinel v.receiver stream
     → v.at ≡ min (length stream) (2 ^ 64 - 1)
-    → v.front.items ≡ kept_behind r.sentinel [] stream → HasWatched v stream answers
-watched_by v r stream answers e g b c k = record {
+    → v.front.items ≡ kept_behind r.sentinel [] stream → length v.table.damages.items ≤ 3
+    → HasWatched v stream answers
+watched_by v r stream answers e g b c k f = record {
   given = subst (λ x. HasGiven (held_by x) (read_by x) 65536 x.sentinel answers stream) (sym e) g;
   stands = record {
     after = subst (λ x. IsBehind in_owner 65536 x.sentinel v.receiver stream) (sym e) b;
     came = c;
     behind = subst (λ x. v.front.items ≡ kept_behind x.sentinel [] stream) (sym e) k;
+    few = f;
   };
 }
 
@@ -198,10 +183,8 @@ watched_then v stream x y xs ys zs h =
 pub counts_none : (t : Table) → CountsThese [] t t
 counts_none t xs h = subst (HasCounted t) (sym (append-nil xs)) h
 
--- some are, and then others
-pub counts_then : (a b c : Table) (xs ys : List (Answer Value)) → CountsThese xs a b → CountsThese ys b c → CountsThese (xs ++ ys) a c
-counts_then a b c xs ys h k zs n = subst (HasCounted c) (append_assoc zs xs ys) (k (zs ++ xs) (h zs n))
-
--- some are, and then none
-pub counts_then_none : (a b c : Table) (xs : List (Answer Value)) → CountsThese xs a b → CountsThese [] b c → CountsThese xs a c
-counts_then_none a b c xs h k zs n = subst (HasCounted c) (append-nil (zs ++ xs)) (k (zs ++ xs) (h zs n))
+-- some messages are noted, and then others
+pub notes_then : (r : Reading) (window : ℕ) (xs ys : List (Answer Value)) (a b c : List Row)
+    → NotesEach r window xs a b → NotesEach r window ys b c → NotesEach r window (xs ++ ys) a c
+notes_then r window [] ys a b c h k = subst (λ z. NotesEach r window ys z c) h k
+notes_then r window (x ∷ xs) ys a b c (mid, noted, h) k = (mid, noted, notes_then r window xs ys mid b c h k)

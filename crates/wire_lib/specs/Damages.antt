@@ -1,5 +1,5 @@
 -- The texts of the damages of a stream, each with the position and the first bytes of its stretch.
-use Rattle.std.specs.Prelude.{◌≡◌, ◌<◌, ◌⊎◌, ℕ, ◌+◌, ◌-◌, ◌^◌, min, List, [], ◌∷◌, ◌++◌, length, take, drop, map, codes, string_bytes}
+use Rattle.std.specs.Prelude.{◌≡◌, ◌<◌, ◌⊎◌, ℕ, ◌+◌, ◌^◌, List, [], ◌∷◌, ◌++◌, length, take, drop, codes}
 use Rattle.std.specs.List.{AllZip}
 use Rattle.schema_table.specs.declared.value.Value.{Value}
 use Rattle.link.specs.Stream.{unfinished}
@@ -7,8 +7,8 @@ use Rattle.link.specs.Listening.{HasGiven}
 use Rattle.link.specs.declared.receiver.Answer.{Answer}
 use Rattle.link.specs.declared.receiver.Answer.TheVariants as answer
 use Rattle.wire_lib.specs.Received.{held_by, read_by, place_from}
-use Rattle.wire_lib.specs.Fronts.{most_kept, kept_behind, damage_said}
-use Rattle.wire_lib.specs.Tables.{last_of}
+use Rattle.wire_lib.specs.Fronts.{most_kept, damage_said}
+use Rattle.wire_lib.specs.Tables.{KeepsToo}
 use Rattle.wire_lib.specs.declared.receive.Reading.{Reading}
 use Rattle.wire_lib.specs.declared.watching.table.Table.{Table}
 
@@ -66,28 +66,7 @@ AreTextsOf r stream earlier (a ∷ more) texts = (own : List (List ℕ)) × (res
     × (texts ≡ own ++ rest) × HasTexts r stream earlier a own
     × AreTextsOf r stream (earlier ++ a ∷ []) more rest
 
--- What a viewer keeps of the damages of a stream with these results: how many bytes came, the first ones of the partial frame, and
--- the texts of the last damages.
-pub record HasKept (r : Reading) (at : ℕ) (front : List ℕ) (table : Table) (stream : List ℕ)
-    (answers : List (Answer Value)) : Type 0 where
-  -- how many bytes came
-  pub came : at ≡ min (length stream) (2 ^ 64 - 1)
-  -- the first bytes after the last sentinel
-  pub behind : front ≡ kept_behind r.sentinel [] stream
-  -- the texts of all damages
-  pub texts : List (List ℕ)
-  pub told : AreTextsOf r stream [] answers texts
-  -- the last three are kept
-  pub last : map string_bytes table.damages.items ≡ last_of 3 texts
-
--- What a table keeps of the damages of a stream that has ended, with what the end adds.
-pub record HasKeptAll (r : Reading) (table : Table) (stream : List ℕ)
-    (answers added : List (Answer Value)) : Type 0 where
-  -- the texts of the damages before the end
-  pub texts : List (List ℕ)
-  pub told : AreTextsOf r stream [] answers texts
-  -- that of the partial frame, if there is one
-  pub ends : List (List ℕ)
-  pub cut : AllZip (IsTextAt r.sentinel stream) added ends
-  -- the last three of all are kept
-  pub last : map string_bytes table.damages.items ≡ last_of 3 (texts ++ ends)
+-- a table keeps the texts of the results that the end of a stream adds
+abbrev pub KeepsEnd : ℕ → List ℕ → List (Answer Value) → Table → Table → Type 0
+KeepsEnd s stream added old new =
+    (texts : List (List ℕ)) × AllZip (IsTextAt s stream) added texts × KeepsToo texts old new

@@ -1,5 +1,5 @@
 -- What a table of messages keeps.
-use Rattle.std.specs.Prelude.{◌≡◌, ℕ, ◌+◌, ◌-◌, List, ◌∷◌, length, drop, map, max, String, string_bytes}
+use Rattle.std.specs.Prelude.{◌≡◌, ℕ, ◌+◌, ◌-◌, List, ◌∷◌, ◌++◌, length, drop, map, max, String, string_bytes}
 use Rattle.std.specs.Global.{Global}
 use Rattle.wire_lib.specs.Rates.{capped, HasTimed, newest}
 use Rattle.wire_lib.specs.declared.watching.table.Row.{Row}
@@ -24,6 +24,11 @@ last_of n xs = drop (length xs - n) xs
 -- the names of the kinds that rows are of
 abbrev pub row_names : List Row → List (List ℕ)
 row_names rows = map (λ row. string_bytes row.name) rows
+
+-- of the damages that a table kept, and of these texts after them, it keeps the last three
+abbrev pub KeepsToo : List (List ℕ) → Table → Table → Type 0
+KeepsToo texts old new =
+    map string_bytes new.damages.items ≡ last_of 3 (map string_bytes old.damages.items ++ texts)
 
 -- A table counts and keeps what it did before.
 pub record StaysAs (old new : Table) : Type 0 where

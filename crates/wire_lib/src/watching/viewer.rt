@@ -5,7 +5,7 @@ ghost use Rattle.link.specs.Receivers.{IsBehind};
 ghost use Rattle.link.specs.Pushes.{Answered};
 ghost use Rattle.link.specs.declared.receiver.Answer.{Answer as Answers};
 ghost use Rattle.schema_table.specs.declared.value.Value.{Value as Values};
-ghost use Rattle.wire_lib.specs.Damages.{IsDamageWord};
+ghost use Rattle.wire_lib.specs.Damages.{IsDamageWord, KeepsEnd};
 ghost use Rattle.wire_lib.specs.Fronts.{dots_after, damage_said};
 ghost use Rattle.wire_lib.specs.Kinds.{kinds_of};
 ghost use Rattle.wire_lib.specs.Printable.{shown_line};
@@ -13,7 +13,7 @@ ghost use Rattle.wire_lib.specs.Said.{OnlyAppended};
 ghost use Rattle.wire_lib.specs.Tables.{StaysAs, row_names};
 ghost use Rattle.wire_lib.specs.Received.{held_by, read_by, are_all_values};
 ghost use Rattle.wire_lib.specs.Rates.{CountsOneMore};
-ghost use Rattle.wire_lib.specs.Seen.{HasSeen, HasLost, HasFollowed, HasWatched, HasMissed, HasCounted, CountsThese, CountsToo, CountsMessage, KeepsDamage, KeepsText, KeepsAll, StandsStill, reading_of, names_of, missed_none, added_by_end};
+ghost use Rattle.wire_lib.specs.Seen.{HasSeen, HasLost, HasWatched, HasMissed, StandsAfter, TakesEach, CountsThese, CountsToo, CountsMessage, KeepsDamage, KeepsText, NotesMessage, NotesResult, NotesEach, StandsStill, reading_of, names_of, missed_none, added_by_end};
 ghost use Rattle.wire_lib.specs.Watched.{AddsText, IsMessageText, SeesEach, SeesEnd, kind_name, message_said};
 
 use crate::receive::{LIMIT, Reading, push_next};
@@ -95,6 +95,8 @@ impl<'a> Viewer<'a> {
         lines: &mut Vec<u8>,
     ) -> Result<(), AllocError>
         ensures counted { OnOk result (CountsMessage value.now self.old.table self.new.table) }
+        ensures noted { OnOk result (NotesMessage (reading_of self.old) window value.now
+            self.old.table.rows.items self.new.table.rows.items) }
         ensures line { OnOk result ((text : List ℕ)
             × IsMessageText (reading_of self.old) (names_of self.old) value.now text
             × (lines.new.items ≡ lines.old.items ++ shown_line text)) }
@@ -149,6 +151,8 @@ impl<'a> Viewer<'a> {
         lines: &mut Vec<u8>,
     ) -> Result<(), AllocError>
         ensures counted { OnOk result (CountsToo answer.now self.old.table self.new.table) }
+        ensures noted { OnOk result (NotesResult (reading_of self.old) window answer.now
+            self.old.table.rows.items self.new.table.rows.items) }
         ensures kept { OnOk result (length self.old.table.damages.items ≤ 3 → KeepsText answer.now
             (self.old.at - 1 - stretch) stretch self.old.front.items self.old.table
             self.new.table) }
@@ -179,26 +183,23 @@ impl<'a> Viewer<'a> {
         lines: &mut Vec<u8>,
     ) -> Result<usize, AllocError>
         requires { 0 < length rest.now }
-        ensures seen { IfOk result (λ used. (stream : List ℕ) (answers : List (Answers Values))
-            → HasSeen self.old stream answers → (more : List (Answers Values))
-            × HasSeen self.new (stream ++ take used rest.now) (answers ++ more)
-            × SeesEach (reading_of self.old) (names_of self.old) (stream ++ rest.now) answers more
-            lines.old.items lines.new.items) }
-        ensures lost { OnErr result ((stream : List ℕ) (answers : List (Answers Values))
-            → HasSeen self.old stream answers → HasLost self.new stream rest.now answers) }
         ensures watched { IfOk result (λ used. (stream : List ℕ) (answers : List (Answers Values))
             → HasWatched self.old stream answers → (more : List (Answers Values))
             × HasWatched self.new (stream ++ take used rest.now) (answers ++ more)
-            × CountsThese more self.old.table self.new.table
+            × TakesEach (reading_of self.old) (stream ++ take used rest.now) answers more
+            self.old.table self.new.table
+            × NotesEach (reading_of self.old) window more self.old.table.rows.items
+            self.new.table.rows.items
             × SeesEach (reading_of self.old) (names_of self.old) (stream ++ rest.now) answers more
             lines.old.items lines.new.items) }
         ensures stopped { OnErr result ((stream : List ℕ) (answers : List (Answers Values))
-            → HasWatched self.old stream answers → HasMissed self.new stream rest.now answers
-            × CountsThese [] self.old.table self.new.table) }
+            → HasWatched self.old stream answers → HasMissed self.new stream rest.now answers) }
+        ensures uncounted { OnErr result (StaysAs self.old.table self.new.table) }
         ensures unchanged { OnErr result (lines.new.items ≡ lines.old.items) }
+        ensures whole { IfOk result (λ used. missed_none self.new ≡ missed_none self.old) }
+        ensures lost { OnErr result (missed_none self.new ≡ false) }
         ensures reading { reading_of self.new ≡ reading_of self.old }
         ensures kinds { row_names self.new.table.rows.items ≡ row_names self.old.table.rows.items }
-        ensures missed { missed_none self.old ≡ false → missed_none self.new ≡ false }
         ensures only { OnlyAppended lines.old.items lines.new.items }
         ensures within { IfOk result (λ used. used ≤ length rest.now) }
         ensures forward { IfOk result (λ used. 0 < used) }
@@ -259,14 +260,20 @@ impl<'a> Viewer<'a> {
         ensures watched { OnOk result ((stream : List ℕ) (answers : List (Answers Values))
             → HasWatched self.old stream answers → (more : List (Answers Values))
             × HasWatched self.new (stream ++ piece.now) (answers ++ more)
-            × CountsThese more self.old.table self.new.table
+            × TakesEach (reading_of self.old) (stream ++ piece.now) answers more
+            self.old.table self.new.table
+            × NotesEach (reading_of self.old) window more self.old.table.rows.items
+            self.new.table.rows.items
             × SeesEach (reading_of self.old) (names_of self.old) (stream ++ piece.now) answers more
             lines.old.items lines.new.items) }
         ensures stopped { OnErr result ((stream : List ℕ) (answers : List (Answers Values))
             → HasWatched self.old stream answers → (done rest : List ℕ)
             × (piece.now ≡ done ++ rest) × (more : List (Answers Values))
             × HasMissed self.new (stream ++ done) rest (answers ++ more)
-            × CountsThese more self.old.table self.new.table
+            × TakesEach (reading_of self.old) (stream ++ done) answers more
+            self.old.table self.new.table
+            × NotesEach (reading_of self.old) window more self.old.table.rows.items
+            self.new.table.rows.items
             × SeesEach (reading_of self.old) (names_of self.old) (stream ++ piece.now) answers more
             lines.old.items lines.new.items) }
         ensures reading { reading_of self.new ≡ reading_of self.old }
@@ -292,19 +299,18 @@ impl<'a> Viewer<'a> {
     /// # Allocates
     /// What `lines` and the table grow by.
     pub fn finish(&mut self, lines: &mut Vec<u8>) -> Result<bool, AllocError>
-        ensures counted { OnOk result ((stream : List ℕ) (answers : List (Answers Values))
-            → HasFollowed self.old stream answers
-            → HasCounted self.new.table (answers ++ added_by_end self.old stream)) }
+        ensures counted { OnOk result ((stream : List ℕ) → StandsAfter self.old stream
+            → CountsThese (added_by_end self.old stream) self.old.table self.new.table) }
         ensures good { IfOk result (λ good. (stream : List ℕ) (answers : List (Answers Values))
             → HasSeen self.old stream answers
             → good ≡ are_all_values (answers ++ added_by_end self.old stream)) }
         ensures missed { missed_none self.old ≡ false → IfOk result (λ good. good ≡ false) }
-        ensures kept { OnOk result ((stream : List ℕ) (answers : List (Answers Values))
-            → HasFollowed self.old stream answers
-            → KeepsAll self.old self.new.table stream answers) }
-        ensures line { OnOk result ((stream : List ℕ) (answers : List (Answers Values))
-            → HasFollowed self.old stream answers → SeesEnd (reading_of self.old).sentinel stream
-            (added_by_end self.old stream) lines.old.items lines.new.items) }
+        ensures kept { OnOk result ((stream : List ℕ) → StandsAfter self.old stream
+            → KeepsEnd (reading_of self.old).sentinel stream (added_by_end self.old stream)
+            self.old.table self.new.table) }
+        ensures line { OnOk result ((stream : List ℕ) → StandsAfter self.old stream
+            → SeesEnd (reading_of self.old).sentinel stream (added_by_end self.old stream)
+            lines.old.items lines.new.items) }
         ensures uncounted { OnErr result (StaysAs self.old.table self.new.table) }
         ensures unchanged { OnErr result (lines.new.items ≡ lines.old.items) }
         ensures rows { self.new.table.rows ≡ self.old.table.rows }
