@@ -64,7 +64,7 @@ pub struct Builder<'a> {
     words: Cursor<'a>,
     /// How many numbers more the length that is read may be computed of.
     left: u32,
-    /// The constant that can't be one of its numbers, and why; no name if there is none.
+    /// The constant that can't be one of its numbers, and why; no name if there is none, or if the length goes too far.
     doubt: (Name, &'static str),
     /// Whether types were said to nest too deep.
     is_too_deep: bool,

@@ -16,6 +16,10 @@ const GREATEST: u64 = 0xFFFF_FFFF;
 const TWO: &str =
     "` is more than one constant: leave out what isn't meant, or write its module before it";
 
+/// What is said of a length that isn't computed to its end: one of [`DEEPEST`] operands in a row is a number.
+const TOO_FAR: &str =
+    "a length that nests more than 63 constants or parentheses, or has more than 10000 numbers, isn't computed: write the number";
+
 const ASKED: &str = "` isn't looked for in the files, as types are: write the number";
 
 /// What the types of numbers have at most, and how many bits they have. A `usize` has 32 bits on most devices.
@@ -119,7 +123,8 @@ fn literal(word: &str, most: u64) -> Option<Number> {
 }
 
 impl Builder<'_> {
-    /// The length that these words are. If they are none, it says why the constant that was looked for last is none, if any.
+    /// The length that these words are. If they are none, it says why the constant that was looked for last is none, if any, or that
+    /// there are too many.
     pub(super) fn length(&mut self, words: Words) -> u64 {
         self.left = MOST_NUMBERS;
         self.doubt = (NO_NAME, "");
@@ -130,6 +135,7 @@ impl Builder<'_> {
         }
         match (number, self.doubt) {
             (Some((number, _)), _) => return number.value,
+            (None, (NO_NAME, why)) if !why.is_empty() => self.wrong(&[why]),
             (None, (NO_NAME, _)) if words.len() == 1 => self.refuse(
                 first.name,
                 "` is no length: write a number of at most 4294967295",
@@ -177,8 +183,11 @@ impl Builder<'_> {
     /// The number at the start, of digits, by a name, or in marks, and the words after it.
     #[cycle(lengths)]
     fn operand(&mut self, words: Words, at: Context, most: u64, depth: u32) -> Computed {
-        self.left = self.left.checked_sub(1)?;
-        let depth = depth.checked_sub(1)?;
+        let (Some(left), Some(depth)) = (self.left.checked_sub(1), depth.checked_sub(1)) else {
+            self.doubt = (NO_NAME, TOO_FAR);
+            return None;
+        };
+        self.left = left;
         if let Some((inside, rest)) = self.tokens.group(words)
             && self.tokens.front(words) != Word::Bracket
         {
