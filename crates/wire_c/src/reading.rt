@@ -114,7 +114,8 @@ fn lines_of(
 pub fn read(told: Told<'_>, stream: &[u8]) -> Result<ReadLines, WireFailure>
     ensures lines { IfOk result (λ it. ReadsStream told.entry.terms stream.now it.text.items) }
     ensures used { IfOk result (λ it. is_set told.entry.terms.ends ≡ false
-        → IsDoneWith (is_set told.entry.terms.inside) told.entry.terms.sentinel stream.now it.used it.is_inside) }
+        → IsDoneWith (is_set told.entry.terms.inside) told.entry.terms.sentinel stream.now
+        it.used it.is_inside) }
     ensures all { IfOk result (λ it. is_set told.entry.terms.ends ≡ true
         → (it.used ≡ length stream.now) × (it.is_inside ≡ false)) }
     ensures unrefused { IfErr result IsUnrefused }
