@@ -20,7 +20,7 @@ use crate::about::ABOUT;
 use crate::devices::say;
 use crate::failure::{Failure, WRITE_FAULT, wrong};
 use crate::reading::read;
-use crate::types::{checked_of, say_type, schema_of, type_of};
+use crate::types::{checked_of, no_variant, say_type, schema_of, type_of};
 use crate::watching::watch;
 use crate::writing::write;
 use declarations::{CheckedSources, Schema};
@@ -112,10 +112,7 @@ fn work(rt: &HostRuntime, mode: Action, files: &str, name: &str, words: &[String
     if let Some(variant) = options.only
         && !has_variant(&schema, place, variant)
     {
-        return Err(wrong(
-            rt,
-            &["`only=", variant, "`: the type has no such variant\n"],
-        ));
+        return Err(no_variant(rt, &schema, place, variant));
     }
     if mode == Action::Write {
         let sending = Sending {

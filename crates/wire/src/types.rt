@@ -1,7 +1,10 @@
 //! The types that files declare.
-use crate::failure::{Failure, WRITE_FAULT};
+use crate::failure::{Failure, WRITE_FAULT, wrong};
 use crate::sources::sources_of;
-use declarations::{CheckedSources, Error, Schema, Source, check_sources, read_sources, read_type};
+use declarations::{
+    CheckedSources, Error, Names, Schema, Source, check_sources, read_sources, read_type,
+};
+use std::alloc::{AllocError, Global};
 
 /// The failure for an error in declarations.
 fn failure_of(error: Error) -> Failure {
@@ -81,4 +84,37 @@ pub fn say_type(
         return Err(WRITE_FAULT);
     }
     Ok(())
+}
+
+/// Which variants the type at an index has, as a line.
+fn variants_of(alloc: Global, schema: &Schema, place: usize) -> Result<String, AllocError> {
+    let mut line = String::new(alloc);
+    match schema.names.get(place) {
+        Some(Names::Variants(names)) => {
+            line.push_str("there are:")?;
+            for name in names {
+                line.push_str(" ")?;
+                line.push_str(name.as_str())?;
+            }
+        }
+        _ => line.push_str("it has none: leave `only=` out")?,
+    }
+    line.push_str("\n")?;
+    Ok(line)
+}
+
+/// The failure for a variant that the type at an index doesn't have, with those that it has.
+pub fn no_variant(rt: &HostRuntime, schema: &Schema, place: usize, variant: &str) -> Failure {
+    match variants_of(rt.alloc(), schema, place) {
+        Ok(line) => wrong(
+            rt,
+            &[
+                "`only=",
+                variant,
+                "`: the type has no such variant\n",
+                line.as_str(),
+            ],
+        ),
+        Err(_) => Failure::NoMemory,
+    }
 }
