@@ -4,6 +4,7 @@ use crate::text::Text;
 use declaration_parser::cursor::Cursor;
 use declaration_parser::declaration::{Body, Declaration, Field, Fields, Layout};
 use declaration_parser::derives::OF_OTHER_CRATE;
+use declaration_parser::items::{ItemKind, Kind, Walk};
 use declaration_parser::reading::AllDeclared;
 use declaration_parser::sent::{is_primitive, sent_as};
 use declaration_parser::texts::{first_letter, is_listed, row_of};
@@ -13,6 +14,10 @@ use std::alloc::{AllocError, Global};
 // Why a type can't be in a message: what begins with a backtick follows its name, else it is what to write.
 const HOLDS_ITSELF: &str =
     "` holds itself: write it by hand, as the crate `example_by_hand` shows of `Chain`";
+
+// Of a declaration beside another of its name.
+const TWICE: &str =
+    "the file has this name twice, and what is written here is of one: leave one out, or give its module a file of its own";
 
 const NO_TYPE: &str = "` can't stand in the type of a field: write the type that is on the wire";
 
@@ -56,6 +61,29 @@ fn refuse(at: &mut Cursor, word: Token, why: &str) {
 }
 
 impl Origins<'_> {
+    /// Whether the file has two types of a declaration's name, so that the module below may not see this one. It sees one of the file
+    /// itself also if a module or a body in it has another.
+    fn has_namesake(&self, walk: &Walk<'_>, it: &Declaration) -> bool {
+        let is_inner = matches!(walk.items.get(it.item), Some(item) if item.scope > 0);
+        if is_inner && self.has_of_others(it.name) {
+            return true;
+        }
+        for other in &walk.items {
+            let is_type = matches!(other.kind, ItemKind::Type | ItemKind::Alias)
+                && other.place != it.item
+                && self.tokens.first(other.words).name == it.name;
+            let is_seen = is_inner || other.scope == 0;
+            // what belongs to a type or a trait hides no other
+            if is_type
+                && is_seen
+                && matches!(walk.scopes.get(other.scope), Some(scope) if scope.kind != Kind::Impl)
+            {
+                return true;
+            }
+        }
+        false
+    }
+
     /// Why a field can't be sent as its attribute says, whose crate the file may hide by a name of its own.
     fn layout_refusal(&self, field: &Field) -> &'static str {
         let (tokens, of) = (self.tokens, field.of);
@@ -197,6 +225,10 @@ impl Text<'_> {
                     at.refuse(derive, OF_OTHER_CRATE);
                     at.is_wrong = false;
                 }
+            }
+            if origins.has_namesake(&file.walk, it) {
+                at.wrong(&[TWICE]);
+                at.is_wrong = false;
             }
             if self.holds_itself(alloc, &mut at, it.name) {
                 at.refuse(it.name, HOLDS_ITSELF);

@@ -54,6 +54,17 @@ impl<'a> Origins<'a> {
         NO_NAME
     }
 
+    /// Whether a `use` brings in a name from what isn't a module in this file.
+    pub fn has_of_others(&self, name: Name) -> bool {
+        for (known, from) in &self.origins {
+            let is_own = word_of(*from) == Word::Own || word_of(self.origin(*from)) == Word::Own;
+            if *known == name && !is_own {
+                return true;
+            }
+        }
+        false
+    }
+
     /// Whether the file may have something else by the name of a crate, or of one of serde's derives; of a `*`, whether it brings in
     /// all of a module of the crate, which this file may not have. What `super` has is mostly in this file.
     pub fn hides(&self, wanted: &str) -> bool {
