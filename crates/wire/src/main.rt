@@ -5,7 +5,7 @@
 //! `wire_lib` does the work.
 #![tactic(auto)]
 
-ghost use Rattle.std.specs.Prelude.{◌≡◌, ◌≤◌, IfOk, OnErr, if◌then◌else◌};
+ghost use Rattle.std.specs.Prelude.{◌≡◌, ◌≤◌, ◌+◌, ◌↔◌, min, true, false, Some, Ok, codes, IfOk, OnErr, if◌then◌else◌};
 
 mod about;
 mod devices;
@@ -92,7 +92,12 @@ fn of_messages(
     schema: &mut Schema,
     place: usize,
     options: Options<'_>,
-) -> Result<(usize, u32), AllocError> {
+) -> Result<(usize, u32), AllocError>
+    ensures plain { options.entry.summed ≡ false
+        → (result ≡ Ok (place, options.entry.depth)) × (schema.new ≡ schema.old) }
+    ensures depth { options.entry.summed ≡ true
+        → IfOk result (λ it. it.1 ≡ min (options.entry.depth + 1) 4294967295) }
+{
     if !options.summed {
         return Ok((place, options.depth));
     }
@@ -143,7 +148,11 @@ fn work(rt: &HostRuntime, mode: Action, files: &str, name: &str, words: &[String
 }
 
 /// The mode with this name.
-fn mode_of(name: &str) -> Option<Action> {
+fn mode_of(name: &str) -> Option<Action>
+    ensures read { result ≡ Some Action.Read ↔ name.now ≡ codes "read" }
+    ensures write { result ≡ Some Action.Write ↔ name.now ≡ codes "write" }
+    ensures watch { result ≡ Some Action.Watch ↔ name.now ≡ codes "watch" }
+{
     match name {
         "read" => Some(Action::Read),
         "write" => Some(Action::Write),

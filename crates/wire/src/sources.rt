@@ -1,4 +1,7 @@
 //! The files of declarations that FILES names: one, several separated by commas, and all in folders.
+ghost use Rattle.std.specs.Prelude.{◌≡◌};
+ghost use Rattle.std.specs.IoError.{error_kind};
+
 use crate::failure::{Failure, no_file};
 use declarations::Source;
 use std::alloc::AllocError;
@@ -109,7 +112,9 @@ fn why_not(error: &io::Error) -> &'static str {
 }
 
 /// The failure for a file that can't be read, or that memory doesn't hold.
-fn unread(rt: &HostRuntime, file: &str, error: &io::Error) -> Failure {
+fn unread(rt: &HostRuntime, file: &str, error: &io::Error) -> Failure
+    ensures { error_kind error.now ≡ ErrorKind.OutOfMemory → result ≡ Failure.NoMemory }
+{
     match error.kind() {
         ErrorKind::OutOfMemory => Failure::NoMemory,
         _ => no_file(rt, file, why_not(error)),

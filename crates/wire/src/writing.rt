@@ -1,4 +1,6 @@
 //! The mode `write`: lines as frames or messages.
+ghost use Rattle.std.specs.Prelude.{◌≡◌, ◌⊎◌, ◌∷◌, ◌++◌, [], ℕ, List};
+
 use crate::devices::{ROOM, read_some, read_whole, say, say_wrongs};
 use crate::failure::{Failure, of_read, wrong};
 use std::io::{BufRead, BufReader};
@@ -85,7 +87,10 @@ fn write_message(
 }
 
 /// A line without the line feed that ends it.
-fn without_feed(line: &[u8]) -> &[u8] {
+fn without_feed(line: &[u8]) -> &[u8]
+    ensures ended { (front : List ℕ) → line.now ≡ front ++ 10 ∷ [] → result.now ≡ front }
+    ensures is { (line.now ≡ result.now ++ 10 ∷ []) ⊎ (result.now ≡ line.now) }
+{
     match line {
         [front @ .., b'\n'] => front,
         _ => line,
@@ -93,7 +98,10 @@ fn without_feed(line: &[u8]) -> &[u8] {
 }
 
 /// A line without the carriage return that ends it.
-fn without_return(line: &[u8]) -> &[u8] {
+fn without_return(line: &[u8]) -> &[u8]
+    ensures ended { (front : List ℕ) → line.now ≡ front ++ 13 ∷ [] → result.now ≡ front }
+    ensures is { (line.now ≡ result.now ++ 13 ∷ []) ⊎ (result.now ≡ line.now) }
+{
     match line {
         [front @ .., b'\r'] => front,
         _ => line,
