@@ -251,7 +251,9 @@ impl Builder<'_> {
     /// What a type of the language has under a name, if that is the same on all devices.
     fn of_language(&self, at: Context, path: &Path, last: Name) -> Option<Number> {
         let of = path.before();
-        let is_plain = path.count == 1 || is_listed(self.tokens.text(path.root()), "core std");
+        let is_plain = path.count == 1
+            || is_listed(self.tokens.text(path.root()), "core std")
+                && matches!(self.found(at, path, last, Space::Types), Found::Known(_));
         if !is_plain || self.given(at, of, false).is_some() {
             return None;
         }

@@ -101,6 +101,7 @@ impl<'a> Scopes<'a> {
     {
         let before = self.way(scope, path, name);
         match (before, self.next(before, name, space)) {
+            _ if self.is_veiled(scope, path) => Found::Wrong(BY_STAR),
             (Meaning::Module(_), Meaning::Nothing) => Found::Wrong(
                 "` isn't declared in the module that its path names: name the file of its declaration too",
             ),
@@ -109,6 +110,16 @@ impl<'a> Scopes<'a> {
             (Meaning::Doubtful, _) => Found::Two,
             _ => Found::Outside,
         }
+    }
+
+    /// Whether a path may begin with a module that a `*` brings in from elsewhere, and not with the crate of its name. In a `use`
+    /// Rust refuses that.
+    fn is_veiled(&self, scope: usize, path: &Path) -> bool {
+        let (root, module) = (path.root(), self.module_of(scope));
+        !path.is_absolute
+            && !is_start(root)
+            && matches!(self.crate_of(module, root), Meaning::Module(_))
+            && self.reached(module, root, Space::Modules).0 == Meaning::Open
     }
 
     /// Whether a module and those round it have the names of a path.
@@ -158,24 +169,12 @@ impl<'a> Scopes<'a> {
         Found::Not
     }
 
-    /// Whether another module of the same name has something of this name too.
-    fn has_twin(&self, item: &Item) -> bool {
-        let module = self.scope(item.scope).name;
-        for it in &self.items {
-            if it.name == item.name
-                && it.scope != item.scope
-                && is_within(&self.scopes, Step::Module(module), it.scope)
-            {
-                return true;
-            }
-        }
-        false
-    }
-
-    /// The name of the module round that of an item, if it tells it from others.
+    /// The name of the module round that of a type, if it tells it from others.
     fn outer_name(&self, item: &Item) -> Name {
-        match self.around_module(item.scope) {
-            Meaning::Module(outer) if self.has_twin(item) => self.scope(outer).name,
+        let step = Step::Module(self.scope(item.scope).name);
+        let only = self.only(step, item.name, Space::Types);
+        match (only, self.around_module(item.scope)) {
+            (Only::Two, Meaning::Module(outer)) => self.scope(outer).name,
             _ => NO_NAME,
         }
     }

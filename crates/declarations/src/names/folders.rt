@@ -28,12 +28,6 @@ fn module_at(file: &str) -> (&str, &str) {
     }
 }
 
-/// The folder in which one of this name is, if that is its last name.
-fn without_last<'f>(folder: &'f str, name: &str) -> Option<&'f str> {
-    let (before, last) = split_last(folder);
-    if last == name { Some(before) } else { None }
-}
-
 /// The path to the last `src` in the path of a file, and the path from there; no `src` if there is none.
 fn parts_at_src(file: &str) -> (&str, &str) {
     match file.rsplit_once("/src/") {
@@ -85,13 +79,14 @@ impl<'a> Scopes<'a> {
                 let (own, stem) = parts_of(self.tokens.name_of_file(it.file));
                 let has_own = stem == "mod" || self.is_root(it.file);
                 // one that a `#[path]` names has them beside it
-                let is_named = without_last(left, stem) == Some(own) && !self.is_elsewhere(it.file);
+                let (before, last) = split_last(left);
+                let is_named = before == own && last == stem && !self.is_elsewhere(it.file);
                 return left == own && has_own || is_named;
             }
-            match without_last(left, self.tokens.text(it.name)) {
+            match split_last(left) {
                 _ if it.kind != Kind::Module => {}
-                Some(before) => left = before,
-                None => return false,
+                (before, last) if last == self.tokens.text(it.name) => left = before,
+                _ => return false,
             }
             it = self.scope(it.outer);
         }
@@ -102,16 +97,18 @@ impl<'a> Scopes<'a> {
     fn is_file_in(&self, module: usize, file: usize) -> bool {
         let file = self.tokens.name_of_file(file);
         let (folder, name) = module_at(file);
-        !is_listed(parts_of(file).1, ROOTS)
-            && !name.contains('-')
-            && self.is_folder_of(module, folder)
+        !name.contains('-') && self.is_folder_of(module, folder)
     }
 
     /// The only file of these that a module has for a module of this name.
     pub(super) fn file_in(&self, module: usize, name: Name) -> Meaning {
         let mut found = Meaning::Nothing;
         for file in 0..self.tokens.files.len() {
-            if self.scope(file).name == name && self.is_file_in(module, file) {
+            let (_, stem) = parts_of(self.tokens.name_of_file(file));
+            if self.scope(file).name == name
+                && !is_listed(stem, ROOTS)
+                && self.is_file_in(module, file)
+            {
                 found = found.both(Meaning::Module(file));
             }
         }
@@ -197,7 +194,7 @@ impl<'a> Scopes<'a> {
         let (_, name) = module_at(self.tokens.name_of_file(file));
         for it in &self.scopes {
             let path = self.tokens.text(it.name).trim_matches('"');
-            if it.kind == Kind::Elsewhere && module_at(path).1 == name {
+            if it.kind == Kind::Elsewhere && (module_at(path).1 == name || path.contains('\\')) {
                 return true;
             }
         }
@@ -206,13 +203,18 @@ impl<'a> Scopes<'a> {
 
     /// The module that has a file: doubtful if another may have it too, none if none may.
     fn parent_of(&self, file: usize) -> Meaning {
-        let mut found = if self.is_elsewhere(file) {
-            Meaning::Doubtful
-        } else {
-            Meaning::Nothing
+        let mut found = match self.is_elsewhere(file) {
+            true => Meaning::Doubtful,
+            false => Meaning::Nothing,
+        };
+        let (_, stem) = parts_of(self.tokens.name_of_file(file));
+        // `mod lib;` makes the root of a crate a module of another too
+        let name = match is_listed(stem, ROOTS) {
+            true => self.tokens.found_name(stem),
+            false => self.scope(file).name,
         };
         for (place, it) in self.scopes.iter().enumerate() {
-            let is_named = it.kind == Kind::Outline && it.name == self.scope(file).name;
+            let is_named = it.kind == Kind::Outline && it.name == name;
             if is_named && self.is_file_in(it.outer, file) {
                 found = found.both(Meaning::Module(place));
             }

@@ -12,7 +12,7 @@ const MISNAMED: &str =
     "` is in a module with `#[path]`, which isn't searched: write its declaration into a module without one, or the type that is on the wire";
 
 pub(super) const BY_STAR: &str =
-    "` may be what a `use` with `*` or a macro brings in: write its whole path, or name the file of its declaration too";
+    "` may be what a `use` with `*` or a macro brings in: write its whole path (`::` before a crate), or name the file of its declaration too";
 
 const AT_TIMES: &str =
     "` stands under a condition, without which it is another: call it otherwise, or leave that one out";
@@ -115,20 +115,12 @@ impl Places {
 
     /// The one after so many others.
     fn nth(&self, index: usize) -> Option<usize> {
-        match self.all.get(index) {
-            Some(place) if index < self.count => Some(*place),
-            _ => None,
-        }
+        self.all.get(..self.count)?.get(index).copied()
     }
 
     /// Whether a scope is one of them, or may be.
     pub(super) fn has(&self, place: usize) -> bool {
-        for index in 0..self.count {
-            if self.nth(index) == Some(place) {
-                return true;
-            }
-        }
-        self.is_cut
+        self.is_cut || self.all.get(..self.count).unwrap_or(&[]).contains(&place)
     }
 
     fn add(&mut self, place: usize) {
@@ -271,18 +263,15 @@ impl<'a> Scopes<'a> {
     /// What a `use` brings in under a name, unless a module says it, which is added to the places.
     fn brought(&self, places: &mut Places, it: &Import, name: Name, space: Space) -> Meaning {
         let is_star = it.name == NO_NAME;
-        // the first name of a path is that of a crate or of what is round
-        if let Meaning::Module(module) = it.before
-            && !is_star
-            && it.path.count > 0
-        {
-            let first = places.nth(0).unwrap_or(it.scope);
-            let is_seen = self.sees(it.scope, module, it.last, space)
-                && self.sees(first, module, it.last, space);
-            places.is_hidden = places.is_hidden || !is_seen;
+        let first = places.nth(0).unwrap_or(it.scope);
+        if self.is_kept_from(first, it) {
+            return Meaning::Nothing;
         }
+        places.is_hidden = places.is_hidden || self.hides(places, it, name, space);
         match it.before {
             Meaning::Nothing | Meaning::Wrong(_) => it.before,
+            // the item may be one of another name
+            Meaning::Item(_) if it.path.count == 0 && !space.is_way() => Meaning::Wrong(RENAMED),
             before if it.path.count == 0 && !is_star => before,
             Meaning::Module(next)
                 if is_star && space == Space::Roots && !self.is_seen(places, it, next, name) =>
@@ -295,9 +284,9 @@ impl<'a> Scopes<'a> {
                 places.is_by_name = places.is_by_name || !is_star;
                 Meaning::Nothing
             }
-            Meaning::Module(next) if space.is_way() => match self.declared(next, it.last, space).0 {
-                Meaning::Nothing => Meaning::Doubtful,
-                found => found,
+            Meaning::Module(next) if space.is_way() => match self.declared(next, it.last, space) {
+                (Meaning::Nothing, _) | (_, true) => Meaning::Doubtful,
+                (found, _) => found,
             },
             Meaning::Module(_) => Meaning::Wrong(RENAMED),
             Meaning::Known(_) if is_star => self.of_known_crate(name, space),
@@ -306,6 +295,29 @@ impl<'a> Scopes<'a> {
             _ if is_star => Meaning::Open,
             _ => Meaning::Outside,
         }
+    }
+
+    /// Whether a `use` surely brings nothing into another scope: it isn't `pub`, and that isn't in its module.
+    fn is_kept_from(&self, scope: usize, it: &Import) -> bool {
+        scope != it.scope
+            && matches!(it.shown, Word::Other | Word::Own)
+            && matches!(self.root_of(scope), Meaning::Module(_))
+            && !self.is_inside(scope, it.scope)
+    }
+
+    /// Whether a `use` by a name, or a `*` after one, leads to what the first scope or its own doesn't see. The first name of a path
+    /// is that of a crate or of what is round.
+    fn hides(&self, places: &Places, it: &Import, name: Name, space: Space) -> bool {
+        let is_star = it.name == NO_NAME;
+        let last = if is_star { name } else { it.last };
+        let Meaning::Module(module) = it.before else {
+            return false;
+        };
+        let has_it = !self.declared(module, last, space).0.is_nothing();
+        let first = places.nth(0).unwrap_or(it.scope);
+        it.path.count > 0
+            && (!is_star || places.is_by_name && has_it)
+            && !(self.sees(it.scope, module, last, space) && self.sees(first, module, last, space))
     }
 
     /// Whether a scope sees what a module has under a name, by itself or by a `*`.

@@ -83,8 +83,8 @@ impl<'a> Scopes<'a> {
                 return self.read_made(scope, is_conditional, item.inside, false);
             }
             ItemKind::Call if !is_in_impl => return self.read_call(item),
-            // as `#![cfg(..)]`
-            ItemKind::Hidden if tokens.front(item.inside) == Word::Condition => {
+            // as `#![cfg(..)]`, also in a `cfg_attr`
+            ItemKind::Hidden if tokens.has_word(item.inside, Word::Condition) => {
                 self.failed = self.at_times.insert(scope).is_err() || self.failed;
                 return;
             }
@@ -188,23 +188,25 @@ impl<'a> Scopes<'a> {
 
     /// Reads which files `include!` may bring in, also by another macro: such a file has any of the names round the call.
     fn read_include(&mut self, item: &items::Item) {
-        let is_sure = self.tokens.first_text(item.words) == "include";
         for file in 0..self.tokens.files.len() {
-            if (is_sure || !self.is_inner(item.scope)) && self.has_file_name(item.inside, file) {
+            if self.has_file_name(item, file) {
                 self.add_include(file);
             }
         }
     }
 
-    /// Whether one of these words is a path with the last name of a file, or its end as in `concat!("types", ".rs")`.
-    fn has_file_name(&self, words: Words, file: usize) -> bool {
+    /// Whether a word of a call is a path with the last name of a file, or its end as in `concat!("types", ".rs")`, or for
+    /// `include!` one with a `\`.
+    fn has_file_name(&self, item: &items::Item, file: usize) -> bool {
+        let is_sure = self.tokens.first_text(item.words) == "include";
         let (_, name) = split_last(self.tokens.name_of_file(file));
-        for place in words.from..words.to {
+        for place in item.inside.from..item.inside.to {
             let text = self.tokens.text(self.tokens.at(place).name);
             let (_, last) = split_last(text.trim_matches('"'));
             let may_be_end = last.ends_with(".rs") && name.ends_with(last);
-            if !name.is_empty() && (may_be_end || last == name) {
-                return true;
+            let may_be_any = is_sure && text.contains('\\');
+            if !name.is_empty() && (may_be_end || may_be_any || last == name) {
+                return is_sure || !self.is_inner(item.scope);
             }
         }
         false
