@@ -305,8 +305,8 @@ impl<'a> Scopes<'a> {
             && !self.is_inside(scope, it.scope)
     }
 
-    /// Whether a `use` by a name, or a `*` after one, leads to what the first scope or its own doesn't see. The first name of a path
-    /// is that of a crate or of what is round.
+    /// Whether a `use` by a name, or a `*` after one, leads to what the first scope or its own doesn't see. The first name of a
+    /// path is that of a crate or of what is round.
     fn hides(&self, places: &Places, it: &Import, name: Name, space: Space) -> bool {
         let is_star = it.name == NO_NAME;
         let last = if is_star { name } else { it.last };
