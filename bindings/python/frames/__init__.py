@@ -228,10 +228,10 @@ def _byte(sentinel: int) -> int:
     return index(sentinel)
 
 
-def _is_plain(plain: bool) -> bool:
-    if not isinstance(plain, bool):  # such as "no" of a file of settings, which is true
-        raise TypeError(f"plain is True or False, not {plain!r}")
-    return plain
+def _flag(name: str, value: bool) -> bool:
+    if not isinstance(value, bool):  # such as "no" of a file of settings, which is true
+        raise TypeError(f"{name} is True or False, not {value!r}")
+    return value
 
 
 class _Turn:
@@ -284,7 +284,7 @@ class Sender(_Single):
 
     def __init__(self, sentinel: int = 0, plain: bool = False) -> None:
         self._state, self._turn = library().frames_c_sender(_byte(sentinel)), _Turn(self)
-        self._send = library().frames_c_send_plain if _is_plain(plain) else library().frames_c_send
+        self._send = library().frames_c_send_plain if _flag("plain", plain) else library().frames_c_send
 
     def send(self, message: _Given) -> bytes:
         """The bytes to write: a sentinel, if the last send didn't go out whole, the frame, and a sentinel.
@@ -357,7 +357,7 @@ class Receiver(_Single):
         self._limit = index(limit)
         self._state, self._buffer = library().frames_c_receiver(_byte(sentinel)), _Room(self._limit)
         self._turn = _Turn(self)
-        self._push = library().frames_c_push_plain if _is_plain(plain) else library().frames_c_push
+        self._push = library().frames_c_push_plain if _flag("plain", plain) else library().frames_c_push
 
     def push(self, piece: _Given) -> List[Event]:
         """The events of these bytes, in order: messages as `bytes`, `Damaged`, `TooLong`.
@@ -542,7 +542,7 @@ def listen(source: Any, limit: Union[int, Receiver], sentinel: int = 0, plain: b
     hasn't ended. A `Receiver` in place of the limit keeps a frame that has begun, for the next call.
     """
     _refuse_no_source(source)
-    return _listened(source, _receiver_of(limit, sentinel, plain), ends)
+    return _listened(source, _receiver_of(limit, sentinel, plain), _flag("ends", ends))
 
 
 def _listened(source: Any, receiver: Receiver, ends: bool) -> Generator[Event, None, None]:

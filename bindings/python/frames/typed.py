@@ -20,9 +20,11 @@ import sys
 import tempfile
 import threading
 from ctypes import POINTER, Structure, byref, c_char_p, c_size_t, c_uint8, c_void_p
-from typing import IO, Any, Dict, Generator, Iterable, List, Mapping, NoReturn, Optional, Tuple, Union
+from dataclasses import is_dataclass
+from enum import Enum
+from typing import IO, Any, Callable, Dict, Generator, Iterable, List, Mapping, NoReturn, Optional, Tuple, Union
 
-from . import _Given, _byte, _of, _pieces, _refuse_no_source, _Room, _Single, _Turn
+from . import _Given, _byte, _flag, _of, _pieces, _refuse_no_source, _Room, _Single, _Turn
 
 _Path = Union[str, "os.PathLike[str]"]
 _DONE, _NO_ROOM, _WRONG, _REFUSED, _NO_MEMORY = range(5)
@@ -142,7 +144,7 @@ class _Stream(_Single):
     """A stream of frames of a type, as it comes."""
 
     def __init__(self, of: _Type, calls: ctypes.CDLL, sentinel: int, strict: bool) -> None:
-        self._of, self._calls, self._terms = of, calls, _Terms(sentinel=sentinel, strict=bool(strict))
+        self._of, self._calls, self._terms = of, calls, _Terms(sentinel=sentinel, strict=strict)
         self._left, self._before, self._is_closed = b"", 0, False
         self._turn, self._listens = _Turn(self), object()  # the latter: the last listen that has begun
         self.push(b"")  # what the declarations are refused for
@@ -269,6 +271,8 @@ def write(declarations: _Path, type_name: str, values: Iterable[Any], sentinel: 
     """
     if isinstance(values, (str, Mapping, Pairs, bytes, bytearray, memoryview)):  # whose letters, keys, pairs and bytes would be taken for values
         raise TypeError("a list of values is needed, not a value alone")
+    if not hasattr(values, "__iter__") and not hasattr(values, "__getitem__"):
+        raise TypeError(f"a list of values is needed, not {'None' if values is None else f'a {type(values).__name__}'}")
     values = list(values)
     by_itself = {k: value for k, value in enumerate(values, 1) if _holds_value_alone(value)}
     _refuse_both(os.fsdecode(declarations), type_name, by_itself, wire)
@@ -293,7 +297,7 @@ def _refuse_both(declarations: str, type_name: str, values: Dict[int, Any], wire
             except ValueError as error:  # some are no values by themselves, as usual
                 refused = {int(line) for line in re.findall(r"(?m)^(?:wire: )?line (\d+): ", str(error))}
                 values = {k: value for line, (k, value) in enumerate(values.items(), 1) if refused and line not in refused}
-    except OSError:  # said by the write itself
+    except (OSError, TypeError):  # said by the write itself
         return
     if values:
         told = _written(declarations, type_name, values.values(), 0, wire)
@@ -308,8 +312,20 @@ def _told(said: bytes) -> str:
 
 
 def _no_json(value: Any) -> NoReturn:
-    hint = ": write its `hex()`" if isinstance(value, (bytes, bytearray, memoryview)) else ""
+    hint = next((f": write {hint}" for is_one, hint in _HINTS if is_one(value)), "")
     raise TypeError(f"JSON has no {type(value).__name__}{hint}")
+
+
+# what to write in place of a value that JSON doesn't have: the first that fits
+_HINTS: List[Tuple[Callable[[Any], bool], str]] = [
+    (lambda it: isinstance(it, (bytes, bytearray, memoryview)), "its `hex()`"),
+    (lambda it: isinstance(it, Enum), "its `name`, or its `value`"),
+    (lambda it: is_dataclass(it) and not isinstance(it, type), "`dataclasses.asdict(..)` of it"),
+    (lambda it: isinstance(it, Mapping), "`dict(..)` of it"),
+    (lambda it: isinstance(it, Iterable), "`list(..)` of it"),
+    (lambda it: hasattr(it, "__index__"), "`int(..)` of it"),
+    (lambda it: hasattr(it, "__float__") and not isinstance(it, complex), "`float(..)` or `int(..)` of it"),
+]
 
 
 def _line(value: Any) -> bytes:
@@ -332,8 +348,16 @@ def _line(value: Any) -> bytes:
         raise ValueError('a float that is no number is a text: write "NaN", "Infinity" or "-Infinity"') from None
 
 
+def _numbered(k: int, value: Any) -> bytes:
+    """The line of a value, or which one has none."""
+    try:
+        return _line(value)
+    except (TypeError, ValueError) as error:
+        raise (TypeError if isinstance(error, TypeError) else ValueError)(f"value {k}: {error}") from None
+
+
 def _written(declarations: str, type_name: str, values: Iterable[Any], sentinel: int, wire: Optional[str]) -> bytes:
-    lines = list(map(_line, values))
+    lines = [_numbered(k, value) for k, value in enumerate(values, 1)]
     by_library = _of_library(declarations, type_name, wire)
     if by_library is not None:
         return by_library[0].write(b"".join(lines), sentinel)
@@ -493,7 +517,7 @@ class TypedReceiver(_Single):
     """
 
     def __init__(self, declarations: _Path, type_name: str, sentinel: int = 0, strict: bool = False, wire: Optional[str] = None) -> None:
-        declarations = os.fsdecode(declarations)
+        declarations, strict = os.fsdecode(declarations), _flag("strict", strict)
         by_library = _of_library(declarations, type_name, wire)
         self._is_closed = False
         self._by: Union[_Stream, _Process]
@@ -515,7 +539,7 @@ class TypedReceiver(_Single):
         Raises what reading the source raises, after the results of what was read.
         """
         _refuse_no_source(source)
-        return self._opened().listen(source, ends)
+        return self._opened().listen(source, _flag("ends", ends))
 
     def answers(self, stream: _Given) -> List[Dict[str, Any]]:
         """The results of a whole stream, with places from its first byte. The program reads one stream: another is a `ValueError`."""

@@ -7,6 +7,9 @@ import asyncio
 import collections
 import copy
 import ctypes.util
+import dataclasses
+import decimal
+import enum
 import fcntl
 import functools
 import gc
@@ -115,6 +118,7 @@ def test_misuse():
     for plain in ("no", "false", "", 10, 1, 0, None):  # whose messages would lose what counted ones have, or who meant a sentinel
         for call in (lambda: frames.Sender(0, plain), lambda: frames.Receiver(8, 0, plain), lambda: frames.listen(io.BytesIO(), 8, plain=plain)):
             assert "plain is True or False" in told_of(TypeError, call), plain
+        assert "ends is True or False" in told_of(TypeError, lambda: frames.listen(io.BytesIO(), 8, ends=plain)), plain
     sender, receiver = frames.Sender(), frames.Receiver(8)
     for call in (sender.send, receiver.push, frames.encode, frames.encoded_length, frames.decode, frames.seal, frames.unseal, frames.crc32):
         assert all(refuses(TypeError, call, message) for message in (3, True, "hi", None, [1, 2], 1.5)), call
@@ -862,6 +866,13 @@ def near_the_end(left, call, *arguments):
     return True
 
 
+class Counted:
+    """A number of another package: it is an index, and no `int`."""
+
+    def __index__(self):
+        return 7
+
+
 def test_value_field(folder, wire):
     """Of a type with a field `value` no value is taken for another one: what to write is said."""
     path = os.path.join(folder, "node.rs")
@@ -921,6 +932,15 @@ def test_value_field(folder, wire):
             raise AssertionError("not refused")
         assert written("Vec<u8>", it.hex()) == written("Vec<u8>", [1, 2])
     assert refuses(TypeError, written, "Vec<u8>", {1, 2}) and refuses(TypeError, written, "BTreeMap<Vec<u8>, u8>", {b"a": 3})
+    # which value it is, and what to write in place of what JSON hasn't
+    spelled = dataclasses.make_dataclass("Spelled", ["value"])(7)
+    for it, hint in (({1, 2}, "list(..)"), (range(2), "list(..)"), (array.array("B", b"a"), "list(..)"), (types.MappingProxyType({"a": 1}), "dict(..)"), (spelled, "dataclasses.asdict(..)"),
+                     (enum.Enum("Light", "Dark").Dark, "its `name`"), (decimal.Decimal(3), "`float(..)`"), (Counted(), "`int(..)`")):  # fmt: skip
+        for values in ((7, it), (7, {"value": it}), (7, {"value": [{"a": it}]})):
+            told = told_of(TypeError, written, "u8", *values)
+            assert told.startswith(f"value 2: JSON has no {type(it).__name__}: write ") and hint in told, told
+    assert told_of(TypeError, written, "u8", 7, 1j) == "value 2: JSON has no complex" and told_of(ValueError, written, "f32", 7, float("inf")).startswith("value 2: ")
+    assert all("a list of values is needed, not" in told_of(TypeError, typed.write, path, "u8", it, 0, wire) for it in (None, 7, spelled))
     # a key that is no text isn't made one: `None` the text "null"
     assert all(refuses(ValueError, written, "BTreeMap<String, u8>", {key: 3}) for key in (None, 1, True, 1.5, (1,)))
     assert all(refuses(ValueError, written, "BTreeMap<u8, u8>", it) for it in ({True: 3}, {1.0: 3}, {1: 2, "1": 3}))
@@ -968,7 +988,10 @@ def test_typed(folder, wire):
     receiver.close(), receiver.close()
     list(heard)  # ends, and raises nothing
     assert refuses(ValueError, receiver.answers, stream) and refuses(ValueError, receiver.listen, io.BytesIO(stream))
-    receiver = typed.TypedReceiver(path.encode(), "Reading", strict=256, wire=wire)  # what is true is strict
+    for it in ("no", "", 256, 0, None):  # "no" is true, and would make damage of values that may be taken
+        assert "strict is True or False" in told_of(TypeError, typed.TypedReceiver, path, "Reading", 0, it, wire), it
+    receiver = typed.TypedReceiver(path.encode(), "Reading", strict=True, wire=wire)
+    assert "ends is True or False" in told_of(TypeError, receiver.listen, io.BytesIO(stream), "no")
     assert refuses(TypeError, receiver.answers, 5) and refuses(TypeError, receiver.answers, "ab")  # which takes nothing
     assert receiver.answers(b"\x02\x81\x01\x01\0") == [{"damaged": {"from": 0, "to": 4}}], "an encoding that is too long"
     if wire:
