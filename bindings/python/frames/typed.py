@@ -319,6 +319,7 @@ def _no_json(value: Any) -> NoReturn:
 # what to write in place of a value that JSON doesn't have: the first that fits
 _HINTS: List[Tuple[Callable[[Any], bool], str]] = [
     (lambda it: isinstance(it, (bytes, bytearray, memoryview)), "its `hex()`"),
+    (lambda it: hasattr(it, "tolist"), "its `tolist()`"),  # of an array, or a number of NumPy
     (lambda it: isinstance(it, Enum), "its `name`, or its `value`"),
     (lambda it: is_dataclass(it) and not isinstance(it, type), "`dataclasses.asdict(..)` of it"),
     (lambda it: isinstance(it, Mapping), "`dict(..)` of it"),

@@ -934,7 +934,7 @@ def test_value_field(folder, wire):
     assert refuses(TypeError, written, "Vec<u8>", {1, 2}) and refuses(TypeError, written, "BTreeMap<Vec<u8>, u8>", {b"a": 3})
     # which value it is, and what to write in place of what JSON hasn't
     spelled = dataclasses.make_dataclass("Spelled", ["value"])(7)
-    for it, hint in (({1, 2}, "list(..)"), (range(2), "list(..)"), (array.array("B", b"a"), "list(..)"), (types.MappingProxyType({"a": 1}), "dict(..)"), (spelled, "dataclasses.asdict(..)"),
+    for it, hint in (({1, 2}, "list(..)"), (range(2), "list(..)"), (array.array("B", b"a"), "its `tolist()`"), (types.MappingProxyType({"a": 1}), "dict(..)"), (spelled, "dataclasses.asdict(..)"),
                      (enum.Enum("Light", "Dark").Dark, "its `name`"), (decimal.Decimal(3), "`float(..)`"), (Counted(), "`int(..)`")):  # fmt: skip
         for values in ((7, it), (7, {"value": it}), (7, {"value": [{"a": it}]})):
             told = told_of(TypeError, written, "u8", *values)
